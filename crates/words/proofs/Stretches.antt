@@ -1,0 +1,98 @@
+-- Laws of stretches that are copied, cleared and compared word by word. Assumes nothing.
+use mathlib.Core.Path.{_≡_, refl, sym, ap, _∙_}
+use mathlib.Core.List.{List, [], _∷_, _++_, append-nil}
+use mathlib.Core.Bool.{Bool, true, false}
+use Prim.Native.Nat.{ℕ, suc, _+_, _-_, _≤_, _<_}
+use native.Mathlib.Numerals.{add-one}
+use native.Mathlib.Nat.{zero-add}
+use native.Mathlib.Omega.{arith}
+use lib.ListN.{length, drop, take, getD, set, replicate, length-replicate, length-drop, getD-replicate, drop-of-length-le, List·getD-append}
+use lib.Seq.{paste, paste-suc, drop-paste, take-paste, getD-drop, getD-take, drop-length, take-length, drop-cons, take-all, length-take-le}
+use lib.Dec.{eqb}
+use borrow.Author.Tests.{eq-eqb, ne-eqb}
+use Rattle.words.specs.Reader.{and}
+use Rattle.words.specs.Views.{equalWords}
+
+-- a part to the end
+pub part-rest : (i : ℕ) (ws : List ℕ) → take (length ws - i) (drop i ws) ≡ drop i ws
+part-rest i ws = take-all (length ws - i) (drop i ws) (simp length-drop (omega arith))
+
+-- COPIES INSIDE ONE LIST
+
+-- what stands at or past the end of a copy is what stood there
+paste-above : (d s : List ℕ) (at n j : ℕ) → at ≤ length d → n ≤ length s → at + n ≤ j → getD (paste d at s n) j 0 ≡ getD d j 0
+paste-above d s at n j hd hs h =
+    let k : ℕ = j - (at + n) in
+    let e : j ≡ at + n + k = omega arith in
+    rw e (sym (getD-drop (at + n) (paste d at s n) k 0) ∙ ap (λ (l : List ℕ). getD l k 0) (drop-paste d at s n hd hs) ∙ getD-drop (at + n) d k 0)
+
+-- what stands before a copy is what stood there
+paste-below : (d s : List ℕ) (at n j : ℕ) → at ≤ length d → n ≤ length s → j < at → getD (paste d at s n) j 0 ≡ getD d j 0
+paste-below d s at n j hd hs h =
+    sym (getD-take (at + n) (paste d at s n) j 0 (omega arith)) ∙ ap (λ (l : List ℕ). getD l j 0) (take-paste d at s n hd hs)
+    ∙ List·getD-append (take at d) (take n s) 0 j (omega (arith, length-take-le at d hd)) ∙ getD-take at d j 0 h
+
+-- a turn of a copy: the word at from + i is still what it was
+copy-turn : (d : List ℕ) (from to i : ℕ) → getD (paste d to (drop from d) i) (from + i) 0 ≡ getD d (from + i) 0 → from + i < length d → to + i < length d
+    → set (paste d to (drop from d) i) (to + i) (getD (paste d to (drop from d) i) (from + i) 0) ≡ paste d to (drop from d) (i + 1)
+copy-turn d from to i same hf ht =
+    let l : length (drop from d) ≡ length d - from = length-drop from d in
+    rw (same, ← getD-drop from d i 0, add-one i) (paste-suc d to (drop from d) i 0 ht (omega arith))
+
+pub down-turn : (d : List ℕ) (from to n i : ℕ) → to ≤ from → from + n ≤ length d → i < n
+    → set (paste d to (drop from d) i) (to + i) (getD (paste d to (drop from d) i) (from + i) 0) ≡ paste d to (drop from d) (i + 1)
+down-turn d from to n i h hn hi =
+    copy-turn d from to i (paste-above d (drop from d) to i (from + i) (omega arith) (omega (arith, length-drop from d)) (omega arith)) (omega arith) (omega arith)
+
+pub up-turn : (d : List ℕ) (from to n i : ℕ) → from + n ≤ to → to + n ≤ length d → i < n
+    → set (paste d to (drop from d) i) (to + i) (getD (paste d to (drop from d) i) (from + i) 0) ≡ paste d to (drop from d) (i + 1)
+up-turn d from to n i h hn hi =
+    copy-turn d from to i (paste-below d (drop from d) to i (from + i) (omega arith) (omega (arith, length-drop from d)) (omega arith)) (omega arith) (omega arith)
+
+-- CLEARING
+
+abbrev pub zeros : ℕ → List ℕ
+zeros n = replicate n 0
+
+pub zero-turn : (d : List ℕ) (i : ℕ) → i < length d → set (paste d 0 (zeros (length d)) i) i 0 ≡ paste d 0 (zeros (length d)) (i + 1)
+zero-turn d i h =
+    let l : length (zeros (length d)) ≡ length d = length-replicate (length d) 0 in
+    let z : 0 + i ≡ i = zero-add i in
+    let g : getD (zeros (length d)) i 0 ≡ 0 = getD-replicate (length d) i 0 0 h in
+    let p : set (paste d 0 (zeros (length d)) i) (0 + i) (getD (zeros (length d)) i 0) ≡ paste d 0 (zeros (length d)) (suc i) = paste-suc d 0 (zeros (length d)) i 0 (omega arith) (omega arith) in
+    rw (add-one i)
+    (ap (λ (k : ℕ). set (paste d 0 (zeros (length d)) i) k 0) (sym z) ∙ ap (λ (v : ℕ). set (paste d 0 (zeros (length d)) i) (0 + i) v) (sym g) ∙ p)
+
+pub zero-all : (d : List ℕ) (i : ℕ) → i ≡ length d → paste d 0 (zeros (length d)) i ≡ zeros (length d)
+zero-all d i e =
+    let l : length (zeros (length d)) ≡ length d = length-replicate (length d) 0 in
+    let t : take (length d) (zeros (length d)) ≡ zeros (length d) = rw l at (take-length (zeros (length d))) in
+    rw (e, zero-add, t, drop-length, append-nil)
+
+-- COMPARING
+
+and-false : (a b : Bool) → b ≡ false → and a b ≡ false
+and-false true b h = h
+and-false false b h = refl
+
+pub equal-lengths : (a b : List ℕ) → (length a ≡ length b → ⊥) → equalWords a b ≡ false
+unfolding equalWords
+equal-lengths [] [] h = absurd (h refl)
+equal-lengths [] (w ∷ ws) h = refl
+equal-lengths (t ∷ ts) [] h = refl
+equal-lengths (t ∷ ts) (w ∷ ws) h = and-false (eqb t w) (equalWords ts ws) (equal-lengths ts ws (λ e. h (ap suc e)))
+
+module _ (a b : List ℕ) (i : ℕ) (inv : equalWords a b ≡ equalWords (drop i a) (drop i b)) (len : length a ≡ length b) where
+  here : i < length a → equalWords a b ≡ and (eqb (getD a i 0) (getD b i 0)) (equalWords (drop (i + 1) a) (drop (i + 1) b))
+  unfolding equalWords
+  here h = inv ∙ rw (drop-cons a i 0 h, drop-cons b i 0 (omega arith), add-one)
+
+  pub equal-differs : i < length a → (getD a i 0 ≡ getD b i 0 → ⊥) → false ≡ equalWords a b
+  equal-differs h d = sym (here h ∙ rw (ne-eqb (getD a i 0) (getD b i 0) d))
+
+  pub equal-more : i < length a → getD a i 0 ≡ getD b i 0 → equalWords a b ≡ equalWords (drop (i + 1) a) (drop (i + 1) b)
+  equal-more h e = here h ∙ rw (eq-eqb (getD a i 0) (getD b i 0) e)
+
+  pub equal-end : length a ≤ i → true ≡ equalWords a b
+  unfolding equalWords
+  equal-end h = sym (inv ∙ rw (drop-of-length-le a {i = i} h, drop-of-length-le b {i = i} (omega arith)))

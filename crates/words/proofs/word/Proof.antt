@@ -1,0 +1,29 @@
+use lib.ListN.{List·getD-eq-default}
+use lib.ListN.{length, getD, take, drop, length-set}
+use native.Mathlib.Omega.{arith}
+use Prim.Native.Nat.{ℕ, _+_, _*_, _-_, _≤_, _<_}
+use mathlib.Core.Path.{_≡_, refl, sym, ap, _∙_}
+use borrow.Author.Needs.{needs}
+use Rattle.words.proofs.word.Statement.{statement}
+use Rattle.words.proofs.word.Tie as tie
+use Rattle.words.proofs.word.Reads as reads
+use Rattle.words.proofs.word.Lts as lts
+
+-- src/lib.rt:31:23
+mul-result : tie.Need-mul-result
+mul-result c = search needs
+
+-- src/lib.rt:31:23
+shared-slice-read-result : tie.Need-shared-slice-read-result
+shared-slice-read-result c = search needs
+
+-- src/lib.rt:28:1
+returns : tie.Need-returns
+returns c = search needs
+
+-- src/lib.rt:28:1
+returns-2 : tie.Need-returns-2
+returns-2 c = sym (List·getD-eq-default (c .before .args .ws .now) 0 {n = c .before .args .i} (c .if1 .left))
+
+pub word-spec : {M : Type 1} → statement M
+word-spec = tie.close (tie.spec mul-result shared-slice-read-result returns returns-2)
