@@ -7,7 +7,7 @@ use native.Mathlib.Omega.{arith}
 use lib.ListN.{length, getD}
 use lib.Dec.{ltb, leb}
 use borrow.Author.Tests.{lt-ltb, le-ltb, le-leb, lt-leb, ltb-true, leb-true}
-use Rattle.words.specs.Reader.{Words, pick, and, or, between, Read, value, refused, Reader, andThen, _>>=_, return, word, wordIn, many, end}
+use Rattle.words.specs.Reader.{Words, pick, and, or, between, Read, value, refused, Reader, andThen, _>>=_, return, word, wordIn, many, end, accepted}
 use Rattle.words.specs.declared.Check.{Check}
 use Rattle.words.specs.declared.Check.the-variants.{Passed, Refused}
 use Rattle.words.specs.declared.Got.{Got}
@@ -31,6 +31,63 @@ answer-passed (refused n q) c d e = let z : _≡_ {A = ℕ} 0 1 = cc in absurd (
 pub answer-refused : {A : Type 0} (r : Read A) (c : Check) → c ≡ answer r → {n p : ℕ} → c ≡ Refused n p → r ≡ refused n p
 answer-refused (value a q) c d e = let z : _≡_ {A = ℕ} 0 1 = cc in absurd (omega arith)
 answer-refused (refused n q) c d e = cc
+
+pub answer-then : {A B : Type 0} (q : Read A) (b : B) → answer q ≡ answer (andThen q (λ a. return b))
+answer-then (value a m) b = refl
+answer-then (refused n p) b = refl
+
+-- WHAT A READING THAT GAVE A VALUE WENT THROUGH
+
+pub then-value : {A B : Type 0} (q : Read A) (f : A → Reader B) {b : B} {next : ℕ} → andThen q f ≡ value b next → (a : A) × (p : ℕ) × (q ≡ value a p) × (f a p ≡ value b next)
+then-value (value a p) f e = (a, p, refl, e)
+then-value (refused n p) f e = let z : _≡_ {A = ℕ} 0 1 = cc in absurd (omega arith)
+
+pub pick-value : {A : Type 0} (t : Bool) (a b : A) (p n q next : ℕ) → pick t (value a p) (refused n q) ≡ value b next → (t ≡ true) × (a ≡ b) × (p ≡ next)
+pick-value true a b p n q next e = (refl, cc, cc)
+pick-value false a b p n q next e = let z : _≡_ {A = ℕ} 0 1 = cc in absurd (omega arith)
+
+pub accepted-value : {A : Type 0} (q : Read A) → accepted q ≡ true → (a : A) × (next : ℕ) × (q ≡ value a next)
+accepted-value (value a next) e = (a, next, refl)
+accepted-value (refused n p) e = let z : _≡_ {A = ℕ} 0 1 = cc in absurd (omega arith)
+
+pub and-both : (a b : Bool) → and a b ≡ true → (a ≡ true) × (b ≡ true)
+and-both true b e = (refl, e)
+and-both false b e = let z : _≡_ {A = ℕ} 0 1 = cc in absurd (omega arith)
+
+pub and-true : (a : Bool) → a ≡ and a true
+and-true true = refl
+and-true false = refl
+
+pub and-assoc : (a b c : Bool) → and a (and b c) ≡ and (and a b) c
+and-assoc true b c = refl
+and-assoc false b c = refl
+
+pub or-false : (a : Bool) → a ≡ or a false
+or-false true = refl
+or-false false = refl
+
+pub or-true : (a : Bool) → or a true ≡ true
+or-true true = refl
+or-true false = refl
+
+pub or-assoc : (a b c : Bool) → or a (or b c) ≡ or (or a b) c
+or-assoc true b c = refl
+or-assoc false b c = refl
+
+pub word-value : (ends : ℕ) (ws : Words) (at : ℕ) {w next : ℕ} → word ends ws at ≡ value w next → (at < length ws) × (w ≡ getD ws at 0) × (next ≡ at + 1)
+unfolding word
+word-value ends ws at {w} {next} e =
+    let t = pick-value (ltb at (length ws)) (getD ws at 0) w (at + 1) ends (length ws) next e in
+    (ltb-true at (length ws) (t .0), sym (t .1), sym (t .2))
+
+pub in-value : (ends fault : ℕ) (ws : Words) (low high at : ℕ) {w next : ℕ} → wordIn ends fault ws low high at ≡ value w next → (w ≡ getD ws at 0) × (next ≡ at + 1) × (low ≤ w) × (w ≤ high) × (at < length ws)
+unfolding wordIn
+in-value ends fault ws low high at {w} {next} e =
+    let u = then-value (word ends ws at) (λ x p. pick (between low high x) (value x p) (refused fault at)) e in
+    let t = word-value ends ws at (u .2) in
+    let v = pick-value (between low high (u .0)) (u .0) w (u .1) fault at next (u .3) in
+    let b = and-both (leb low (u .0)) (leb (u .0) high) (v .0) in
+    (sym (v .1) ∙ t .1, sym (v .2) ∙ t .2, rw (v .1) at (leb-true low (u .0) (b .0)), rw (v .1) at (leb-true (u .0) high (b .1)), t .0)
 
 -- ONE WORD
 
@@ -80,3 +137,16 @@ module _ {A : Type 0} (r : Reader A) where
     where
       the-rest : suc k - 1 ≡ k
       the-rest = omega arith
+
+  -- what k readings give: the first, then the others
+  pub many-suc : (k at : ℕ) {xs : List A} {next : ℕ} → many (suc k) r at ≡ value xs next → (a : A) × (p : ℕ) × (more : List A) × (r at ≡ value a p) × (many k r p ≡ value more next) × (xs ≡ a ∷ more)
+  unfolding many
+  many-suc k at {xs} e =
+      let u = then-value (r at) (λ a. _>>=_ (many k r) (λ more. return (a ∷ more))) e in
+      let v = then-value (many k r (u .1)) (λ more. return (u .0 ∷ more)) (u .3) in
+      (u .0, u .1, v .0, u .2, cc (v .2, v .3), cc (v .3))
+
+  pub many-length : (k at : ℕ) (xs : List A) (next : ℕ) → many k r at ≡ value xs next → length xs ≡ k
+  unfolding many
+  many-length zero at xs next e = let z : [] ≡ xs = cc in rw (← z)
+  many-length (suc k) at xs next e = let u = many-suc k at e in rw (u .5) (ap suc (many-length k (u .1) (u .2) next (u .4)))

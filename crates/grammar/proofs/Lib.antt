@@ -1,0 +1,6 @@
+pub mod Laws
+pub mod FiniteTrees
+pub mod Lookups
+pub mod Records
+pub mod Filling
+pub mod Shown

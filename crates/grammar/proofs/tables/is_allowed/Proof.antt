@@ -1,0 +1,18 @@
+use Rattle.grammar.proofs.Lookups.{allowed-by}
+use borrow.Author.Needs.{needs}
+use Rattle.grammar.proofs.tables.is_allowed.Statement.{statement}
+use Rattle.grammar.proofs.tables.is_allowed.Tie as tie
+use Rattle.grammar.proofs.tables.is_allowed.Reads as reads
+use Rattle.grammar.proofs.tables.is_allowed.Lts as lts
+use Rattle.grammar.proofs.tables.values.Reads as values-reads
+
+-- src/tables.rt:59:9
+values-requires : tie.Need-values-requires
+values-requires c κs = search needs
+
+-- src/tables.rt:56:1
+returns : tie.Need-returns
+returns c = λ g hs. allowed-by g (c .before .args .t) (c .before .args .v) _ (c .values .ensures g hs)
+
+pub is-allowed-spec : {M : Type 1} → statement M
+is-allowed-spec = tie.close (tie.spec values-requires returns)

@@ -1,0 +1,18 @@
+use Rattle.grammar.proofs.Lookups.{sequence-by}
+use borrow.Author.Needs.{needs}
+use Rattle.grammar.proofs.tables.is_sequence.Statement.{statement}
+use Rattle.grammar.proofs.tables.is_sequence.Tie as tie
+use Rattle.grammar.proofs.tables.is_sequence.Reads as reads
+use Rattle.grammar.proofs.tables.is_sequence.Lts as lts
+use Rattle.grammar.proofs.tables.map_of.Reads as map-of-reads
+
+-- src/tables.rt:67:9
+map-of-requires : tie.Need-map-of-requires
+map-of-requires c κs = search needs
+
+-- src/tables.rt:64:1
+returns : tie.Need-returns
+returns c = λ g hs. sequence-by g (c .before .args .t) _ (c .map-of .ensures g hs)
+
+pub is-sequence-spec : {M : Type 1} → statement M
+is-sequence-spec = tie.close (tie.spec map-of-requires returns)

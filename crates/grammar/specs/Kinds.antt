@@ -1,0 +1,56 @@
+-- What a type's kind says of a node: the values it may have, and the types of its children. Assumes nothing: these are definitions.
+use Prim.Native.Nat.{ℕ}
+use mathlib.Core.List.{List, [], _∷_}
+use mathlib.Core.Bool.{Bool, true, false}
+use lib.ListN.{length, getD}
+use lib.Dec.{ltb, leb, eqb}
+use Rattle.words.specs.Reader.{pick}
+use Rattle.grammar.specs.Limits.{greatestName, greatestNumber}
+use Rattle.grammar.specs.Grammar.{Kind, token, opt, sequence, forms, Grammar}
+
+-- the kind of a type; a type that is not there has no form, so no tree
+unfoldable pub kindOf : Grammar → ℕ → Kind
+kindOf g t = getD g t (forms [])
+
+-- "A token's value is 0 to 65,535 for a name or string (0 is the empty token), 0 to 999,999,999 hundredths for a number."
+-- "An opt has value 0 and one tree of its element, or 1 and none." A sequence likewise. "Other types have a form's number"
+unfoldable pub allows : Kind → ℕ → Bool
+allows (token c) v = leb v (pick (eqb c 2) greatestNumber greatestName)
+allows (opt e) v = leb v 1
+allows (sequence e) v = leb v 1
+allows (forms fs) v = ltb v (length fs)
+
+-- may a node of the type have the value?
+unfoldable pub allowed : Grammar → ℕ → ℕ → Bool
+allowed g t v = allows (kindOf g t) v
+
+-- the types of the children of a node of the kind, which is the type t's, with the value v: "one tree of its element", "a tree of its element and a tree
+-- of its own type (the rest)", "one tree for each type in that form, in order"
+unfoldable pub childrenOf : Kind → ℕ → ℕ → List ℕ
+childrenOf (token c) t v = []
+childrenOf (opt e) t v = pick (eqb v 0) (e ∷ []) []
+childrenOf (sequence e) t v = pick (eqb v 0) (e ∷ t ∷ []) []
+childrenOf (forms fs) t v = getD fs v []
+
+unfoldable pub children : Grammar → ℕ → ℕ → List ℕ
+children g t v = childrenOf (kindOf g t) t v
+
+-- is the kind a sequence, whose second child is "the rest"?
+unfoldable pub isSequenceKind : Kind → Bool
+isSequenceKind (token c) = false
+isSequenceKind (opt e) = false
+isSequenceKind (sequence e) = true
+isSequenceKind (forms fs) = false
+
+unfoldable pub isSequence : Grammar → ℕ → Bool
+isSequence g t = isSequenceKind (kindOf g t)
+
+-- is the kind a number token?
+unfoldable pub isNumberKind : Kind → Bool
+isNumberKind (token c) = eqb c 2
+isNumberKind (opt e) = false
+isNumberKind (sequence e) = false
+isNumberKind (forms fs) = false
+
+unfoldable pub isNumber : Grammar → ℕ → Bool
+isNumber g t = isNumberKind (kindOf g t)

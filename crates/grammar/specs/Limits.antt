@@ -1,0 +1,33 @@
+-- The limits of a grammar and of the values of its tokens, each named once. Assumes nothing: these are definitions.
+use Prim.Native.Nat.{ℕ}
+
+-- "A grammar has at most 4,096 words"
+abbrev pub mostGrammarWords : ℕ
+mostGrammarWords = 4096
+
+-- "the number of types, 1 to 64"
+abbrev pub mostTypes : ℕ
+mostTypes = 64
+
+-- forms: "their count, 1 to 16"
+abbrev pub mostForms : ℕ
+mostForms = 16
+
+-- "a count of elements, 0 to 8"
+abbrev pub mostElements : ℕ
+mostElements = 8
+
+-- "65,536 to 131,071 for a literal"
+abbrev pub firstLiteral : ℕ
+firstLiteral = 65536
+
+abbrev pub lastLiteral : ℕ
+lastLiteral = 131071
+
+-- "0 to 65,535 for a name or string"
+abbrev pub greatestName : ℕ
+greatestName = 65535
+
+-- "0 to 999,999,999 hundredths for a number"
+abbrev pub greatestNumber : ℕ
+greatestNumber = 999999999

@@ -1,0 +1,23 @@
+// The limits of a grammar and of the values of its tokens, each named once.
+
+// Words of a grammar.
+pub const MOST_WORDS: usize = 4096;
+
+pub const MOST_TYPES: u32 = 64;
+
+pub const MOST_FORMS: u32 = 16;
+
+pub const MOST_ELEMENTS: u32 = 8;
+
+pub const FIRST_LITERAL: u32 = 65536;
+
+pub const LAST_LITERAL: u32 = 131071;
+
+pub const GREATEST_NAME: u32 = 65535;
+
+pub const GREATEST_NUMBER: u32 = 999999999;
+
+// The entries of the tables: two words a type, and a row of nine for each type and each of 16 values.
+pub const HEADS: usize = 64 * 2;
+
+pub const ROWS: usize = 64 * 16 * 9;
