@@ -15,7 +15,7 @@ use Rattle.words.specs.declared.Check.the-variants.{Passed, Refused}
 use Rattle.words.specs.declared.Got.{Got}
 use Rattle.words.specs.declared.Got.the-variants.{Word, Bad}
 use Rattle.words.specs.Views.{answer, got}
-use Rattle.words.proofs.Laws.{read-word, read-bad, answer-passed, answer-refused, answer-then, in-value, many-none, many-bad, many-more, many-length, and-true, and-assoc, or-false, or-assoc}
+use Rattle.words.proofs.Laws.{read-word, read-bad, answer-passed, answer-refused, answer-then, in-value, many-none, many-bad, many-more, many-length, and-true, and-assoc, or-false, or-assoc, loop-refused, loop-more}
 use Rattle.grammar.specs.Limits.{mostTypes, mostForms, mostElements, firstLiteral, lastLiteral}
 use Rattle.grammar.specs.Grammar.{Kind, token, opt, sequence, forms, Grammar, isLiteral, typesOf, field, element, form, kind, all, any, finishes, round, rounds, finite, finiteRecords, grammar, readGrammar, grammarFits, checkGrammar}
 use Rattle.grammar.specs.declared.Seen.{Seen}
@@ -191,10 +191,6 @@ module _ (ws : Words) (known : List Bool) (n at : ℕ) (m : Got) (e : m ≡ got 
 
 -- THE RECORDS
 
-kinds-cons : (k : Kind) (q : Read Grammar) → answer (andThen q (λ more. return (k ∷ more))) ≡ answer q
-kinds-cons k (value g next) = refl
-kinds-cons k (refused n p) = refl
-
 pub seen-kind : (known : List Bool) (r : Read Kind) (s : Seen) → s ≡ seenKind known r → {next : ℕ} {b : Bool} → s ≡ Whole next b → (k : Kind) × (r ≡ value k next) × (b ≡ finishes known k)
 seen-kind known (value k m) s d e = (k, cc, cc)
 seen-kind known (refused n p) s d e = let z : _≡_ {A = ℕ} 0 1 = cc in absurd (omega arith)
@@ -203,18 +199,12 @@ pub fault-kind : (known : List Bool) (r : Read Kind) (s : Seen) → s ≡ seenKi
 fault-kind known (value e m) s d f = let z : _≡_ {A = ℕ} 0 1 = cc in absurd (omega arith)
 fault-kind known (refused n p) s d f = cc
 
-module _ (ws : Words) (known : List Bool) (n left at : ℕ) (whole : Check) (inv : whole ≡ answer (many left (kind ws n) at)) where
-  pub kinds-end : left ≤ 0 → Passed at ≡ whole
-  kinds-end h = sym (inv ∙ rw (many-none (kind ws n) left at h))
+module _ (ws : Words) (known : List Bool) (n left at : ℕ) (whole : Check) (inv : whole ≡ answer (many left (kind ws n) at)) (some-left : 0 < left) (s : Seen) (e : s ≡ seenKind known (kind ws n at)) where
+  pub kinds-fault : {no′ p : ℕ} → s ≡ Fault no′ p → Refused no′ p ≡ whole
+  kinds-fault f = loop-refused (kind ws n) left at whole inv some-left (fault-kind known (kind ws n at) s e f)
 
-  module _ (some-left : 0 < left) (s : Seen) (e : s ≡ seenKind known (kind ws n at)) where
-    pub kinds-fault : {no′ p : ℕ} → s ≡ Fault no′ p → Refused no′ p ≡ whole
-    kinds-fault f = sym (inv ∙ rw (many-bad (kind ws n) left at some-left (fault-kind known (kind ws n at) s e f)))
-
-    pub kinds-more : {next : ℕ} {b : Bool} → s ≡ Whole next b → whole ≡ answer (many (left - 1) (kind ws n) next)
-    kinds-more {next} f =
-        let t = seen-kind known (kind ws n at) s e f in
-        inv ∙ rw (many-more (kind ws n) left at some-left (t .1)) (kinds-cons (t .0) (many (left - 1) (kind ws n) next))
+  pub kinds-more : {next : ℕ} {b : Bool} → s ≡ Whole next b → whole ≡ answer (many (left - 1) (kind ws n) next)
+  kinds-more f = loop-more (kind ws n) left at whole inv some-left (seen-kind known (kind ws n at) s e f .1)
 
 -- A ROUND
 

@@ -32,9 +32,13 @@ pub answer-refused : {A : Type 0} (r : Read A) (c : Check) → c ≡ answer r �
 answer-refused (value a q) c d e = let z : _≡_ {A = ℕ} 0 1 = cc in absurd (omega arith)
 answer-refused (refused n q) c d e = cc
 
+-- what is made of the value does not change the answer
+pub answer-map : {A B : Type 0} (q : Read A) (f : A → B) → answer q ≡ answer (andThen q (λ a. return (f a)))
+answer-map (value a m) f = refl
+answer-map (refused n p) f = refl
+
 pub answer-then : {A B : Type 0} (q : Read A) (b : B) → answer q ≡ answer (andThen q (λ a. return b))
-answer-then (value a m) b = refl
-answer-then (refused n p) b = refl
+answer-then q b = answer-map q (λ a. b)
 
 -- WHAT A READING THAT GAVE A VALUE WENT THROUGH
 
@@ -150,3 +154,15 @@ module _ {A : Type 0} (r : Reader A) where
   unfolding many
   many-length zero at xs next e = let z : [] ≡ xs = cc in rw (← z)
   many-length (suc k) at xs next e = let u = many-suc k at e in rw (u .5) (ap suc (many-length k (u .1) (u .2) next (u .4)))
+
+-- A LOOP THAT CHECKS MANY READINGS: left of them are still due, from `at` on
+
+module _ {A : Type 0} (r : Reader A) (left at : ℕ) (whole : Check) (inv : whole ≡ answer (many left r at)) where
+  pub loop-end : left ≤ 0 → Passed at ≡ whole
+  loop-end h = sym (inv ∙ rw (many-none r left at h))
+
+  pub loop-refused : 0 < left → {n p : ℕ} → r at ≡ refused n p → Refused n p ≡ whole
+  loop-refused h e = sym (inv ∙ rw (many-bad r left at h e))
+
+  pub loop-more : 0 < left → {a : A} {next : ℕ} → r at ≡ value a next → whole ≡ answer (many (left - 1) r next)
+  loop-more h {a} {next} e = inv ∙ rw (many-more r left at h e) (sym (answer-map (many (left - 1) r next) (λ more. a ∷ more)))

@@ -3,7 +3,8 @@ use Rattle.words.specs.Views.{answer}
 use Rattle.grammar.specs.Grammar.{kind}
 use Rattle.words.specs.Reader.{many}
 use mathlib.Core.Path.{_≡_, refl}
-use Rattle.grammar.proofs.Laws.{kinds-end, kinds-fault, kinds-more}
+use Rattle.words.proofs.Laws.{loop-end}
+use Rattle.grammar.proofs.Laws.{kinds-fault, kinds-more}
 use Rattle.grammar.proofs.kinds.Statement.{statement}
 use Rattle.grammar.proofs.kinds.Tie as tie
 use Rattle.grammar.proofs.kinds.Reads as reads
@@ -50,7 +51,7 @@ loop-again c = kinds-more (c .before .before .before .before .before .before .be
 
 -- src/lib.rt:212:1
 returns-2 : tie.Need-returns-2 Inv-loop μ-loop
-returns-2 c = kinds-end (c .before .before .before .before .args .ws .now) (c .before .before .before .before .args .known .now) (c .before .before .before .before .args .n) (c .before .loop .left) (c .before .loop .at) _ (c .before .loop .inv) (c .loop-test .left)
+returns-2 c = loop-end (kind (c .before .before .before .before .args .ws .now) (c .before .before .before .before .args .n)) (c .before .loop .left) (c .before .loop .at) _ (c .before .loop .inv) (c .loop-test .left)
 
 pub kinds-spec : {M : Type 1} → statement M
 kinds-spec =

@@ -1,0 +1,5 @@
+pub mod Limits
+pub mod Rules
+pub mod Layout
+pub mod Views
+pub mod CasesLayout

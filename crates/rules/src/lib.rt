@@ -1,0 +1,462 @@
+// The rule book: its layout (20, 21, each with its position), and the readers of a rule's head and of a part.
+use words::Check;
+use words::Got;
+ghost use mathlib.Core.Path.{_≡_};
+ghost use mathlib.Core.Bool.{false};
+ghost use Prim.Native.Nat.{_≤_};
+ghost use Rattle.words.specs.Reader as Reader;
+ghost use Rattle.words.specs.Views.{answer, got};
+ghost use Rattle.rules.specs.Layout as Layout;
+ghost use Rattle.rules.specs.Views.{partRead, searchedType, headRead, counted, strategyAs};
+
+const MOST_RULES: u32 = 64;
+
+const MOST_PARAMETERS: u32 = 4;
+
+const MOST_PARTS: u32 = 8;
+
+const MOST_PAIRS: u32 = 128;
+
+// Which nodes a rule tries.
+pub enum Strategy {
+    RootOnly,
+    FirstMatch,
+    Exhaustive,
+}
+
+// A rule's fields before its pattern: its map, its target type, which nodes it tries, how many parameters it has and where their types stand, and where the
+// pattern's count stands.
+pub struct Head {
+    pub map: u32,
+    pub target: u32,
+    pub strategy: Strategy,
+    pub count: u32,
+    pub parameters: usize,
+    pub pattern: usize,
+}
+
+// A rule's head, or a refusal.
+pub enum HeadRead {
+    Header(Head),
+    NoHead(u32, usize),
+}
+
+// Whether it searches and for a node of which type, where the variable's number stands, and where the pattern's count stands.
+pub struct Deconstruct {
+    pub searches: bool,
+    pub searched: u32,
+    pub variable: usize,
+    pub pattern: usize,
+}
+
+// The type that it builds, and where the replacement's count stands.
+pub struct Construct {
+    pub built: u32,
+    pub replacement: usize,
+}
+
+// Whether it holds if no application succeeds, and where the chain's count of pairs stands.
+pub struct Condition {
+    pub negated: bool,
+    pub chain: usize,
+}
+
+// "A part is one of three kinds, each with its own fields after its bit map": positions and types, a struct for each kind.
+pub enum Part {
+    Deconstruct(Deconstruct),
+    Construct(Construct),
+    Condition(Condition),
+}
+
+// A part, and the position after it.
+pub struct FoundPart {
+    pub part: Part,
+    pub next: usize,
+}
+
+// A part, or a refusal.
+pub enum PartRead {
+    Found(FoundPart),
+    NoPart(u32, usize),
+}
+
+// A count, a map, a reach or a type, from low to high.
+fn field(ws: &[u32], low: u32, high: u32, at: usize) -> Got
+    ensures { λ r. ⌜ r ≡ got (Layout.field (now (ws .entry)) low high at) ⌝ }
+{
+    words::read_in(20, 21, ws, low, high, at)
+}
+
+// A type outside pairs.
+fn type_field(types: u32, ws: &[u32], at: usize) -> Got
+    requires { ⌜ 1 ≤ types ⌝ }
+    ensures { λ r. ⌜ r ≡ got (Layout.typeField types (now (ws .entry)) at) ⌝ }
+{
+    field(ws, 0, types - 1, at)
+}
+
+// Passes over a count of pairs and the pairs.
+fn pairs(ws: &[u32], at: usize) -> Check
+    ensures { λ r. ⌜ r ≡ answer (Layout.pairs (now (ws .entry)) at) ⌝ }
+{
+    let g = field(ws, 1, MOST_PAIRS, at);
+    match g {
+        Got::Bad(no, p) => Check::Refused(no, p),
+        Got::Word(k, next) => {
+            let n = 2 * words::wide(k);
+            if ws.len() - next < n {
+                return Check::Refused(20, ws.len());
+            }
+            Check::Passed(next + n)
+        }
+    }
+}
+
+// The fields of a part that takes a variable apart, after the searched type if there is one.
+fn deconstruct_fields(ws: &[u32], searches: bool, searched: u32, at: usize) -> PartRead
+    requires { ⌜ (searches ≡ false → searched ≡ 0) ⌝ }
+    ensures { λ r. ⌜ r ≡ partRead (Layout.deconstructFields (now (ws .entry)) (searchedType searches searched) at) ⌝ }
+{
+    let g = words::read_word(20, ws, at);
+    match g {
+        Got::Bad(no, p) => PartRead::NoPart(no, p),
+        Got::Word(v, pattern) => {
+            let c = pairs(ws, pattern);
+            match c {
+                Check::Refused(no, p) => PartRead::NoPart(no, p),
+                Check::Passed(next) => {
+                    let d = Deconstruct {
+                        searches,
+                        searched,
+                        variable: at,
+                        pattern,
+                    };
+                    let part = Part::Deconstruct(d);
+                    PartRead::Found(FoundPart { part, next })
+                }
+            }
+        }
+    }
+}
+
+// The same with a search: a type comes before the variable's number.
+fn search_fields(types: u32, ws: &[u32], at: usize) -> PartRead
+    requires { ⌜ 1 ≤ types ⌝ }
+    ensures { λ r. ⌜ r ≡ partRead (Layout.searchFields types (now (ws .entry)) at) ⌝ }
+{
+    let t = type_field(types, ws, at);
+    match t {
+        Got::Bad(no, p) => PartRead::NoPart(no, p),
+        Got::Word(searched, next) => deconstruct_fields(ws, true, searched, next),
+    }
+}
+
+// The fields of a part that builds.
+fn construct_fields(types: u32, ws: &[u32], at: usize) -> PartRead
+    requires { ⌜ 1 ≤ types ⌝ }
+    ensures { λ r. ⌜ r ≡ partRead (Layout.constructFields types (now (ws .entry)) at) ⌝ }
+{
+    let t = type_field(types, ws, at);
+    match t {
+        Got::Bad(no, p) => PartRead::NoPart(no, p),
+        Got::Word(built, replacement) => {
+            let c = pairs(ws, replacement);
+            match c {
+                Check::Refused(no, p) => PartRead::NoPart(no, p),
+                Check::Passed(next) => {
+                    let part = Part::Construct(Construct { built, replacement });
+                    PartRead::Found(FoundPart { part, next })
+                }
+            }
+        }
+    }
+}
+
+// The fields of a part that tests.
+fn condition_fields(ws: &[u32], negated: bool, at: usize) -> PartRead
+    ensures { λ r. ⌜ r ≡ partRead (Layout.conditionFields (now (ws .entry)) negated at) ⌝ }
+{
+    let c = pairs(ws, at);
+    match c {
+        Check::Refused(no, p) => PartRead::NoPart(no, p),
+        Check::Passed(next) => {
+            let part = Part::Condition(Condition { negated, chain: at });
+            PartRead::Found(FoundPart { part, next })
+        }
+    }
+}
+
+// The part whose map stands at a position.
+pub fn read_part(types: u32, ws: &[u32], at: usize) -> PartRead
+    requires { ⌜ 1 ≤ types ⌝ }
+    ensures { λ r. ⌜ r ≡ partRead (Layout.partAt types (now (ws .entry)) at) ⌝ }
+{
+    let g = words::read_word(20, ws, at);
+    match g {
+        Got::Bad(no, p) => PartRead::NoPart(no, p),
+        Got::Word(m, next) => {
+            if m == 1 {
+                return deconstruct_fields(ws, false, 0, next);
+            }
+            if m == 3 {
+                return search_fields(types, ws, next);
+            }
+            if m == 4 {
+                return construct_fields(types, ws, next);
+            }
+            if m == 8 {
+                return condition_fields(ws, false, next);
+            }
+            if m == 24 {
+                return condition_fields(ws, true, next);
+            }
+            PartRead::NoPart(21, at)
+        }
+    }
+}
+
+// k parts, one after the other.
+fn some_parts(types: u32, ws: &[u32], k: u32, start: usize) -> Check
+    requires { ⌜ 1 ≤ types ⌝ }
+    ensures { λ r. ⌜ r ≡ answer (Reader.many k (Layout.part types (now (ws .entry))) start) ⌝ }
+{
+    let mut left = k;
+    let mut at = start;
+    while 0 < left {
+        let r = read_part(types, ws, at);
+        match r {
+            PartRead::NoPart(no, p) => {
+                return Check::Refused(no, p);
+            }
+            PartRead::Found(f) => {
+                at = f.next;
+                left = left - 1;
+            }
+        }
+    }
+    Check::Passed(at)
+}
+
+// The parts, where the map announces them.
+fn read_parts(types: u32, ws: &[u32], map: u32, at: usize) -> Check
+    requires { ⌜ 1 ≤ types ⌝ }
+    ensures { λ r. ⌜ r ≡ answer (Layout.parts types (now (ws .entry)) map at) ⌝ }
+{
+    if map / 4 % 2 != 1 {
+        return Check::Passed(at);
+    }
+    let g = field(ws, 1, MOST_PARTS, at);
+    match g {
+        Got::Bad(no, p) => Check::Refused(no, p),
+        Got::Word(k, next) => some_parts(types, ws, k, next),
+    }
+}
+
+// The replacement, where the map announces it.
+fn read_replacement(ws: &[u32], map: u32, at: usize) -> Check
+    ensures { λ r. ⌜ r ≡ answer (Layout.replacement (now (ws .entry)) map at) ⌝ }
+{
+    if map / 8 % 2 != 1 {
+        return Check::Passed(at);
+    }
+    pairs(ws, at)
+}
+
+// The reach, and 0 where the map announces none.
+fn reach(ws: &[u32], map: u32, at: usize) -> Got
+    ensures { λ r. ⌜ r ≡ got (Layout.reach (now (ws .entry)) map at) ⌝ }
+{
+    if map % 2 != 1 {
+        return Got::Word(0, at);
+    }
+    field(ws, 1, 2, at)
+}
+
+// What a reach says; 0 stands for none.
+fn strategy_of(r: u32) -> Strategy
+    ensures { λ s. ⌜ s ≡ strategyAs (Layout.strategyOf r) ⌝ }
+{
+    if r == 0 {
+        return Strategy::RootOnly;
+    }
+    if r == 1 {
+        return Strategy::FirstMatch;
+    }
+    Strategy::Exhaustive
+}
+
+// k types, one after the other.
+fn some_types(types: u32, ws: &[u32], k: u32, start: usize) -> Check
+    requires { ⌜ 1 ≤ types ⌝ }
+    ensures { λ r. ⌜ r ≡ answer (Reader.many k (Layout.typeField types (now (ws .entry))) start) ⌝ }
+{
+    let mut left = k;
+    let mut at = start;
+    while 0 < left {
+        let g = type_field(types, ws, at);
+        match g {
+            Got::Bad(no, p) => {
+                return Check::Refused(no, p);
+            }
+            Got::Word(t, next) => {
+                at = next;
+                left = left - 1;
+            }
+        }
+    }
+    Check::Passed(at)
+}
+
+// How many parameters there are, and the position after their types.
+fn read_parameters(types: u32, ws: &[u32], map: u32, at: usize) -> Got
+    requires { ⌜ 1 ≤ types ⌝ }
+    ensures { λ r. ⌜ r ≡ counted (Layout.parameters types (now (ws .entry)) map at) ⌝ }
+{
+    if map / 2 % 2 != 1 {
+        return Got::Word(0, at);
+    }
+    let g = field(ws, 1, MOST_PARAMETERS, at);
+    match g {
+        Got::Bad(no, p) => Got::Bad(no, p),
+        Got::Word(k, next) => {
+            let c = some_types(types, ws, k, next);
+            match c {
+                Check::Refused(no, p) => Got::Bad(no, p),
+                Check::Passed(e) => Got::Word(k, e),
+            }
+        }
+    }
+}
+
+// What follows a rule's map and target up to its pattern.
+fn head_fields(types: u32, ws: &[u32], map: u32, target: u32, at: usize) -> HeadRead
+    requires { ⌜ 1 ≤ types ⌝ }
+    ensures { λ r. ⌜ r ≡ headRead (Layout.headFields types (now (ws .entry)) map target at) ⌝ }
+{
+    let f = reach(ws, map, at);
+    match f {
+        Got::Bad(no, p) => HeadRead::NoHead(no, p),
+        Got::Word(r, next) => {
+            let g = read_parameters(types, ws, map, next);
+            match g {
+                Got::Bad(no, p) => HeadRead::NoHead(no, p),
+                Got::Word(count, pattern) => {
+                    let strategy = strategy_of(r);
+                    let parameters = pattern - words::wide(count);
+                    HeadRead::Header(Head {
+                        map,
+                        target,
+                        strategy,
+                        count,
+                        parameters,
+                        pattern,
+                    })
+                }
+            }
+        }
+    }
+}
+
+// The head of the rule whose map stands at a position.
+pub fn read_head(types: u32, ws: &[u32], at: usize) -> HeadRead
+    requires { ⌜ 1 ≤ types ⌝ }
+    ensures { λ r. ⌜ r ≡ headRead (Layout.head types (now (ws .entry)) at) ⌝ }
+{
+    let f = field(ws, 0, 15, at);
+    match f {
+        Got::Bad(no, p) => HeadRead::NoHead(no, p),
+        Got::Word(map, t) => {
+            let g = type_field(types, ws, t);
+            match g {
+                Got::Bad(no, p) => HeadRead::NoHead(no, p),
+                Got::Word(target, r) => head_fields(types, ws, map, target, r),
+            }
+        }
+    }
+}
+
+// A rule: its head, pattern, parts and replacement.
+fn read_rule(types: u32, ws: &[u32], at: usize) -> Check
+    requires { ⌜ 1 ≤ types ⌝ }
+    ensures { λ r. ⌜ r ≡ answer (Layout.rule types (now (ws .entry)) at) ⌝ }
+{
+    let h = read_head(types, ws, at);
+    match h {
+        HeadRead::NoHead(no, p) => Check::Refused(no, p),
+        HeadRead::Header(head) => {
+            let c = pairs(ws, head.pattern);
+            match c {
+                Check::Refused(no, p) => Check::Refused(no, p),
+                Check::Passed(e) => {
+                    let d = read_parts(types, ws, head.map, e);
+                    match d {
+                        Check::Refused(no, p) => Check::Refused(no, p),
+                        Check::Passed(next) => read_replacement(ws, head.map, next),
+                    }
+                }
+            }
+        }
+    }
+}
+
+// n rules, one after the other.
+fn some_rules(types: u32, ws: &[u32], n: u32, start: usize) -> Check
+    requires { ⌜ 1 ≤ types ⌝ }
+    ensures { λ r. ⌜ r ≡ answer (Reader.many n (Layout.rule types (now (ws .entry))) start) ⌝ }
+{
+    let mut left = n;
+    let mut at = start;
+    while 0 < left {
+        let c = read_rule(types, ws, at);
+        match c {
+            Check::Refused(no, p) => {
+                return Check::Refused(no, p);
+            }
+            Check::Passed(next) => {
+                at = next;
+                left = left - 1;
+            }
+        }
+    }
+    Check::Passed(at)
+}
+
+// Are rule 0's bits in order? Where there is no map, there is nothing to refuse here.
+fn main_bits(ws: &[u32], at: usize) -> bool
+    ensures { λ r. ⌜ r ≡ Layout.mainFits (now (ws .entry)) at ⌝ }
+{
+    if ws.len() <= at {
+        return true;
+    }
+    let m = words::word(ws, at);
+    if m / 8 % 2 != 1 {
+        return false;
+    }
+    m / 2 % 2 != 1
+}
+
+// The layout of the whole book, over a grammar of so many types.
+pub fn read_layout(types: u32, ws: &[u32]) -> Check
+    requires { ⌜ 1 ≤ types ⌝ }
+    ensures { λ r. ⌜ r ≡ answer (Layout.readLayout types (now (ws .entry))) ⌝ }
+{
+    let g = field(ws, 1, MOST_RULES, 0);
+    match g {
+        Got::Bad(no, p) => Check::Refused(no, p),
+        Got::Word(n, at) => {
+            if !main_bits(ws, at) {
+                return Check::Refused(21, at);
+            }
+            let c = some_rules(types, ws, n, at);
+            match c {
+                Check::Refused(no, p) => Check::Refused(no, p),
+                Check::Passed(e) => {
+                    if e < ws.len() {
+                        return Check::Refused(20, e);
+                    }
+                    Check::Passed(e)
+                }
+            }
+        }
+    }
+}
