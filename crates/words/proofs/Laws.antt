@@ -7,7 +7,7 @@ use native.Mathlib.Omega.{arith}
 use lib.ListN.{length, getD}
 use lib.Dec.{ltb, leb}
 use borrow.Author.Tests.{lt-ltb, le-ltb, le-leb, lt-leb, ltb-true, leb-true}
-use Rattle.words.specs.Reader.{Words, pick, and, or, between, Read, value, refused, Reader, andThen, _>>=_, return, word, wordIn, many, end, accepted}
+use Rattle.words.specs.Reader.{Words, pick, and, or, between, Read, value, refused, Reader, andThen, _>>=_, return, require, word, wordIn, many, end, accepted}
 use Rattle.words.specs.declared.Check.{Check}
 use Rattle.words.specs.declared.Check.the-variants.{Passed, Refused}
 use Rattle.words.specs.declared.Got.{Got}
@@ -45,6 +45,10 @@ answer-then q b = answer-map q (λ a. b)
 pub then-value : {A B : Type 0} (q : Read A) (f : A → Reader B) {b : B} {next : ℕ} → andThen q f ≡ value b next → (a : A) × (p : ℕ) × (q ≡ value a p) × (f a p ≡ value b next)
 then-value (value a p) f e = (a, p, refl, e)
 then-value (refused n p) f e = let z : _≡_ {A = ℕ} 0 1 = cc in absurd (omega arith)
+
+pub require-value : {A : Type 0} (b : Bool) (n k at : ℕ) (f : Unit {0} → Reader A) {a : A} {next : ℕ} → andThen (require b n k at) f ≡ value a next → (b ≡ true) × (f tt at ≡ value a next)
+require-value true n k at f e = (refl, e)
+require-value false n k at f e = let z : _≡_ {A = ℕ} 0 1 = cc in absurd (omega arith)
 
 pub pick-value : {A : Type 0} (t : Bool) (a b : A) (p n q next : ℕ) → pick t (value a p) (refused n q) ≡ value b next → (t ≡ true) × (a ≡ b) × (p ≡ next)
 pick-value true a b p n q next e = (refl, cc, cc)

@@ -3,7 +3,7 @@ use mathlib.Core.Path.{_≡_, refl, sym, ap, _∙_}
 use mathlib.Core.List.{List, [], _∷_, _++_, append-nil}
 use mathlib.Core.Bool.{Bool, true, false}
 use Prim.Native.Nat.{ℕ, suc, _+_, _-_, _≤_, _<_}
-use native.Mathlib.Numerals.{add-one}
+use native.Mathlib.Numerals.{add-one, add-two}
 use native.Mathlib.Nat.{zero-add}
 use native.Mathlib.Omega.{arith}
 use lib.ListN.{length, drop, take, getD, set, replicate, length-replicate, length-drop, getD-replicate, drop-of-length-le, List·getD-append}
@@ -16,6 +16,10 @@ use Rattle.words.specs.Views.{equalWords}
 -- a part to the end
 pub part-rest : (i : ℕ) (ws : List ℕ) → take (length ws - i) (drop i ws) ≡ drop i ws
 part-rest i ws = take-all (length ws - i) (drop i ws) (simp length-drop (omega arith))
+
+-- the pair at i
+pub drop-pair : (ws : List ℕ) (i : ℕ) → i + 2 ≤ length ws → drop i ws ≡ getD ws i 0 ∷ getD ws (i + 1) 0 ∷ drop (i + 2) ws
+drop-pair ws i h = drop-cons ws i 0 (omega arith) ∙ ap (λ l. getD ws i 0 ∷ l) (drop-cons ws (suc i) 0 (omega arith) ∙ rw (add-one, add-two))
 
 -- COPIES INSIDE ONE LIST
 
