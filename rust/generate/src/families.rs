@@ -1,0 +1,525 @@
+//! Families of runs that reach one of the stops 41 to 45, or just miss it,
+//! and of searches and tests that random rules seldom make.
+
+use reference::bench::Input;
+use reference::limits;
+
+use crate::random::Random;
+use crate::rulebooks::{write_rules, Pair, PartText, RuleText};
+
+/// A program of a sequence of numbers.
+const LIST: &[u32] = &[3, 8, 1, 1, 1, 4, 2, 1, 2];
+
+/// Root 0 is `form 0: [0]`, `form 1: [sequence]`, `form 2: [0, 0]` or
+/// `form 3: [number]`, over a sequence of numbers.
+const DEEP: &[u32] = &[3, 8, 4, 1, 0, 1, 1, 2, 0, 0, 1, 2, 4, 2, 1, 2];
+
+/// The nodes of a sequence of numbers without the root 0.
+fn sequence(random: &mut Random, numbers: usize) -> Vec<u32> {
+    let mut words = Vec::new();
+    for _ in 0..numbers {
+        words.extend([1, 0, 2, random.below(4) as u32 * 100]);
+    }
+    words.extend([1, 1]);
+    words
+}
+
+/// A tree of `LIST`: 2 x numbers + 2 nodes.
+fn list(random: &mut Random, numbers: usize) -> Vec<u32> {
+    [vec![0, 0], sequence(random, numbers)].concat()
+}
+
+/// A tree of `DEEP`: form 0 so many times, then a sequence. It has
+/// levels + 2 x numbers + 2 nodes.
+fn deep(random: &mut Random, levels: usize, numbers: usize) -> Vec<u32> {
+    [[0, 0].repeat(levels), vec![0, 1], sequence(random, numbers)].concat()
+}
+
+/// A rule on the whole tree that binds it to variable 0.
+fn whole(replacement: &[Pair]) -> RuleText {
+    RuleText {
+        pattern: vec![(64, 0)],
+        replacement: Some(replacement.to_vec()),
+        ..RuleText::default()
+    }
+}
+
+fn construct(ty: u32, replacement: &[Pair]) -> PartText {
+    PartText::Construct {
+        ty,
+        replacement: replacement.to_vec(),
+    }
+}
+
+fn input(grammar: &[u32], rules: &[RuleText], tree: Vec<u32>, budget: usize) -> Input {
+    Input {
+        grammar: grammar.to_vec(),
+        rules: write_rules(rules),
+        tree,
+        budget: budget as u32,
+    }
+}
+
+/// Nested calls, near 32 (stop 41).
+pub fn calls_near_limit(seed: u64) -> Input {
+    let random = &mut Random::new(seed);
+    let budget = random.pick(&[31, 32, 33, 100]);
+    let numbers = random.between(28, 34);
+    let head_and_rest = RuleText {
+        target: 1,
+        reach: random.pick(&[1, 1, 2]),
+        pattern: vec![(1, 0), (64, 2), (64, 1)],
+        ..RuleText::default()
+    };
+    match random.below(4) {
+        // Rule 0 calls itself on the rest.
+        0 => {
+            let rule = RuleText {
+                replacement: Some(vec![(1, 0), (2, 7), (66, 1), (1, 0), (0, 0)]),
+                reach: 1,
+                ..head_and_rest
+            };
+            let tree = list(random, numbers);
+            input(LIST, &[rule], tree, budget)
+        }
+        // A condition tests itself on the rest.
+        1 => {
+            let negated = random.chance(50);
+            let test = |rule| PartText::Condition {
+                negated,
+                chain: vec![(66, 1), (1, 0), (rule, 0)],
+            };
+            let main = RuleText {
+                parts: vec![test(1)],
+                replacement: Some(vec![(1, 1)]),
+                ..head_and_rest.clone()
+            };
+            let condition = RuleText {
+                reach: 0,
+                parts: vec![test(1)],
+                ..head_and_rest
+            };
+            let tree = list(random, numbers);
+            input(LIST, &[main, condition], tree, budget)
+        }
+        // Endless calls on the whole tree, where copies near 6,144 / 65 nodes
+        // bring 44 at about the same time.
+        2 => {
+            let tree = list(random, numbers + 15);
+            let rule = whole(&[(66, 0), (1, 0), (0, 0)]);
+            input(LIST, &[rule], tree, budget)
+        }
+        // The same with an argument: 97 trees are live.
+        _ => {
+            let main = whole(&[(66, 0), (1, 0), (1, 1), (65, 0)]);
+            let mut called = whole(&[(66, 1), (1, 0), (1, 1), (65, 0)]);
+            called.parameters = vec![0];
+            let tree = list(random, numbers);
+            input(LIST, &[main, called], tree, budget)
+        }
+    }
+}
+
+/// Trees that grow to about 2,048 nodes (stop 42).
+pub fn nodes_near_limit(seed: u64) -> Input {
+    let random = &mut Random::new(seed);
+    let budget = random.between(1, 12);
+    match random.below(5) {
+        // A sequence that gets some numbers more each time.
+        0 => {
+            let more = random.between(1, 3);
+            let mut replacement = [(1, 0), (2, 5)].repeat(more);
+            replacement.push((65, 0));
+            let rule = RuleText {
+                target: 1,
+                reach: random.pick(&[1, 2]),
+                pattern: vec![(64, 1)],
+                replacement: Some(replacement),
+                ..RuleText::default()
+            };
+            let numbers = 1_023 - random.below(8);
+            let tree = list(random, numbers);
+            input(LIST, &[rule], tree, budget)
+        }
+        // The whole tree twice.
+        1 => {
+            let mut rule = whole(&[(0, 2), (65, 0), (65, 0)]);
+            rule.reach = random.pick(&[0, 2]);
+            let numbers = random.pick(&[510, 511, 255, 254, 600]);
+            let tree = deep(random, 0, numbers);
+            input(DEEP, &[rule], tree, budget)
+        }
+        // A chain moved to a tree of two copies, having grown or shrunk.
+        2 => {
+            let mut main = whole(&[(0, 2), (65, 0), (0, 2), (65, 0), (66, 0), (1, 0), (1, 0)]);
+            let growing = whole(&[(0, 0), (65, 0)]);
+            let shrinking = whole(&[(0, 1), (1, 1)]);
+            let called = random.pick(&[growing, shrinking]);
+            if random.chance(40) {
+                // As a construct, which is not put in place.
+                let built = main.replacement.replace(vec![(65, 0)]);
+                main.parts = vec![construct(0, &built.unwrap_or_default())];
+            }
+            let numbers = random.pick(&[338, 339, 340, 341, 450, 510, 511]);
+            let tree = deep(random, 0, numbers);
+            input(DEEP, &[main, called], tree, budget)
+        }
+        // A part of the tree that grows in place.
+        3 => {
+            let main = RuleText {
+                reach: 1,
+                pattern: vec![(0, 1), (64, 1)],
+                replacement: Some(vec![(0, 2), (0, 1), (65, 0), (0, 1), (1, 1)]),
+                ..RuleText::default()
+            };
+            let numbers = 1_023 - random.below(4);
+            let tree = deep(random, 0, numbers);
+            input(DEEP, &[main], tree, budget)
+        }
+        // Written nodes that pass 2,048 in the tree and 6,144 live ones at
+        // about the same time.
+        _ => {
+            let mut main = whole(&[(0, 2), (65, 0), (0, 2), (0, 3), (2, 1), (0, 3), (2, 1)]);
+            main.parts = vec![construct(2, &[(2, 5)]); random.below(9)];
+            let numbers = 1_023 - random.below(5);
+            let tree = deep(random, 0, numbers);
+            input(DEEP, &[main], tree, budget)
+        }
+    }
+}
+
+/// Trees that grow to a nesting of about 64 (stop 43).
+pub fn nesting_near_limit(seed: u64) -> Input {
+    let random = &mut Random::new(seed);
+    let budget = random.between(1, 12);
+    let more = random.between(1, 3);
+    let mut deeper = vec![(0, 0); more];
+    deeper.push((65, 0));
+    let levels = random.between(56, 61);
+    let numbers = random.pick(&[0, 1, 30, 950]);
+    match random.below(6) {
+        // Deeper at the root.
+        0 => {
+            let mut rule = whole(&deeper);
+            rule.reach = random.pick(&[0, 1, 2]);
+            let tree = deep(random, levels, numbers);
+            input(DEEP, &[rule], tree, budget)
+        }
+        // A construct that may never be used, with much live at its end.
+        1 => {
+            let mut rule = whole(&[(65, 0)]);
+            rule.parts = vec![construct(0, &deeper)];
+            let mut numbers = numbers;
+            if random.chance(60) {
+                rule.parts.insert(0, construct(0, &[(65, 0)]));
+                numbers = 950;
+            }
+            let tree = deep(random, levels, numbers);
+            input(DEEP, &[rule], tree, budget)
+        }
+        // One of two trees gets deeper in place, near 2,048 nodes.
+        2 | 3 => {
+            let rule = RuleText {
+                reach: random.pick(&[1, 2]),
+                pattern: vec![(0, 0), (64, 0)],
+                replacement: Some([vec![(0, 0)], deeper].concat()),
+                ..RuleText::default()
+            };
+            // The most numbers that 2,048 nodes leave room for, or a few less.
+            let most = (limits::NODES - 5 - levels) / 2;
+            let long = random.pick(&[0, most, most, most, most - 1]);
+            let mut tree = vec![0, 2];
+            tree.extend(deep(random, levels, 0));
+            tree.extend(deep(random, 0, long));
+            input(DEEP, &[rule], tree, budget)
+        }
+        // Deeper in a call, and back again before it is moved.
+        4 => {
+            let main_levels = random.between(50, 63);
+            let mut replacement = vec![(0, 0); main_levels];
+            replacement.extend([(66, 0), (2, 0), (1, 0), (2, 0)]);
+            let back = RuleText {
+                pattern: vec![(0, 0), (64, 0)],
+                replacement: Some(vec![(65, 0)]),
+                ..RuleText::default()
+            };
+            let tree = deep(random, 0, 1);
+            input(
+                DEEP,
+                &[whole(&replacement), whole(&deeper), back],
+                tree,
+                budget,
+            )
+        }
+        // Too deep at first, but a later pair has its own stop.
+        _ => {
+            let mut rule = whole(&[
+                (0, 2),
+                (65, 0),
+                (0, 3),
+                (66, 1),
+                (1, 0),
+                (1_002, 1),
+                (65, 2),
+            ]);
+            let divisor = random.pick(&[0, 100]);
+            rule.parts = vec![construct(2, &[(2, 500)]), construct(2, &[(2, divisor)])];
+            let levels = random.between(58, 61);
+            let tree = deep(random, levels, 1);
+            input(DEEP, &[rule], tree, budget)
+        }
+    }
+}
+
+/// Live nodes near 6,144 (stop 44).
+pub fn live_nodes_near_limit(seed: u64) -> Input {
+    let random = &mut Random::new(seed);
+    if random.chance(25) {
+        return operations_among_live_nodes(random);
+    }
+    let constructs = random.below(4);
+    let arguments = random.below(5);
+    let tested = random.chance(40);
+    // Scope, variable, copy, constructs and arguments are trees of one size.
+    let trees = 3 + constructs + arguments;
+    let size = (limits::LIVE_NODES / trees).min(limits::NODES) - 4 + random.below(9);
+    let numbers = (size / 2 - 1).min(1_023);
+    let tree = list(random, numbers);
+    let mut chain = vec![(66, 0), (1, 0), (1, arguments as u32)];
+    chain.extend(vec![(65, 0); arguments]);
+    let mut main = whole(&chain);
+    main.parts = vec![construct(0, &[(65, 0)]); constructs];
+    if tested {
+        main.replacement = random.pick(&[Some(vec![(0, 0), (1, 1)]), Some(vec![(65, 0)])]);
+        let condition = PartText::Condition {
+            negated: random.chance(50),
+            chain,
+        };
+        // A second test of the same kind has room only if the first let go.
+        let conditions = random.between(1, 2);
+        main.parts.extend(vec![condition; conditions]);
+    }
+    // A few nodes more, one by one.
+    for _ in 0..random.below(4) {
+        let place = random.below(main.parts.len() + 1);
+        // Constructs that the chain names by number keep their places.
+        if place >= constructs && main.parts.len() < limits::PARTS as usize {
+            main.parts.insert(constructs, construct(2, &[(2, 5)]));
+        }
+    }
+    let called = RuleText {
+        parameters: vec![0; arguments],
+        pattern: random.pick(&[
+            vec![(0, 0), (1, 1)],
+            vec![(64, 0)],
+            vec![(0, 0), (1, 0), (64, 2), (64, 1)],
+        ]),
+        replacement: Some(vec![(0, 0), (1, 1)]),
+        ..RuleText::default()
+    };
+    input(LIST, &[main, called], tree, random.pick(&[1, 2, 3, 50]))
+}
+
+/// Searches, in parts and by rules, for patterns that bind something before
+/// they fail on most nodes.
+pub fn searches(seed: u64) -> Input {
+    let random = &mut Random::new(seed);
+    let value = random.below(4) as u32 * 100;
+    // Variables from `first` on: a number and, but for the second pattern,
+    // the rest.
+    let late_failing = |random: &mut Random, first: u32| match random.below(3) {
+        0 => vec![(1, 0), (64, 2), (1, 0), (2, value), (64, 1)],
+        1 => vec![(1, 0), (64, 2), (1, 1)],
+        _ => vec![(1, 0), (64, 2), (1, 0), (65, first), (64, 1)],
+    };
+    let search = |variable, pattern| PartText::Deconstruct {
+        searched: Some(1),
+        variable,
+        pattern,
+    };
+    let numbers = random.between(1, 7);
+    let tree = list(random, numbers);
+    if random.chance(40) {
+        // A rule that searches; its first variable is the number.
+        let pattern = late_failing(random, 0);
+        let replacement = if pattern.len() == 3 {
+            vec![(1, 0), (65, 0), (1, 0), (65, 0), (1, 1)]
+        } else {
+            vec![(1, 0), (65, 0), (65, 1)]
+        };
+        let rule = RuleText {
+            target: 1,
+            reach: random.pick(&[1, 2]),
+            pattern,
+            replacement: Some(replacement),
+            ..RuleText::default()
+        };
+        return input(LIST, &[rule], tree, 30);
+    }
+    // Variable 0 is the whole list, variable 1 the number found, variable 2
+    // the rest if there is one, in which a second search may follow.
+    let pattern = late_failing(random, 1);
+    let with_rest = pattern.len() > 3;
+    let mut main = whole(&[(0, 0), (1, 0), (65, 1), (1, 1)]);
+    main.parts.push(search(0, pattern));
+    if with_rest {
+        main.replacement = Some(vec![(0, 0), (1, 0), (65, 1), (65, 2)]);
+        if random.chance(50) {
+            main.parts.push(search(2, late_failing(random, 3)));
+            main.replacement = Some(vec![(0, 0), (1, 0), (65, 1), (1, 0), (65, 3), (65, 2)]);
+        }
+    }
+    input(LIST, &[main], tree, 5)
+}
+
+/// Tests with several applications, of conditions and of rules with a
+/// replacement, which must not be worked there.
+pub fn conditions(seed: u64) -> Input {
+    let random = &mut Random::new(seed);
+    const RULES: u32 = 5;
+    let test = |random: &mut Random, least: u32| {
+        let length = random.between(1, 3) as u32;
+        let mut chain = vec![(66, 0), (length, 0)];
+        for _ in 0..length {
+            chain.push((random.between(least as usize, RULES as usize - 1) as u32, 0));
+        }
+        PartText::Condition {
+            negated: random.chance(40),
+            chain,
+        }
+    };
+    let mut rules = vec![whole(&[(0, 0), (1, 1)])];
+    for _ in 0..random.between(1, 3) {
+        let part = test(random, 1);
+        rules[0].parts.push(part);
+    }
+    // The later rules take any scope; each may test or apply those behind it.
+    for number in 1..RULES {
+        let value = random.below(4) as u32 * 100;
+        let pattern = random.pick(&[(2, value), (64, 2)]);
+        let bound = pattern.0 == 64;
+        let behind = number + 1;
+        let mut parts = Vec::new();
+        if bound && behind < RULES && random.chance(60) {
+            parts.push(test(random, behind));
+        }
+        if bound && random.chance(20) {
+            parts.push(construct(2, &[(66, 0), (1, 0), (1_003, 1), (65, 0)]));
+        }
+        let replacement = match random.below(4) {
+            0 => None,
+            1 if bound && behind < RULES => Some(vec![(66, 0), (1, 0), (RULES - 1, 0)]),
+            2 if bound => Some(vec![(66, 0), (1, 0), (1_002, 1), (65, 0)]),
+            _ => Some(vec![(2, value)]),
+        };
+        rules.push(RuleText {
+            target: 2,
+            reach: random.pick(&[1, 1, 2]),
+            pattern: vec![pattern],
+            parts,
+            replacement,
+            ..RuleText::default()
+        });
+    }
+    // The last rule is applied by replacements, so it must have one.
+    rules[RULES as usize - 1].replacement = Some(vec![(2, 300)]);
+    let numbers = random.between(0, 5);
+    let tree = list(random, numbers);
+    input(LIST, &rules, tree, 60)
+}
+
+/// Operations and comparisons when about 6,144 nodes are live.
+fn operations_among_live_nodes(random: &mut Random) -> Input {
+    let number = random.pick(&[250, 999_999_950]);
+    let mut parts = vec![construct(2, &[(2, number)]); random.between(1, 4)];
+    // The sequence is variable 0, the first number variable 1.
+    parts.push(construct(1, &[(65, 0)]));
+    for _ in 0..random.between(1, 2) {
+        parts.push(if random.chance(50) {
+            construct(2, &[(66, 1), (1, 0), (random.pick(&[1_004, 1_005]), 0)])
+        } else {
+            PartText::Condition {
+                negated: random.chance(20),
+                chain: vec![(66, 1), (1, 0), (1_008, 1), (65, 1)],
+            }
+        });
+    }
+    // A part that fails lets the run end without a replacement.
+    parts.push(PartText::Deconstruct {
+        searched: None,
+        variable: 1,
+        pattern: vec![(2, random.pick(&[number, 0]))],
+    });
+    let rule = RuleText {
+        pattern: vec![(0, 0), (64, 1)],
+        parts,
+        replacement: Some(vec![(0, 0), (1, 1)]),
+        ..RuleText::default()
+    };
+    let numbers = 1_023 - random.below(2);
+    let tree = list(random, numbers);
+    input(LIST, &[rule], tree, 5)
+}
+
+/// Operations with numbers at the ends of their range (stop 45).
+pub fn operations_near_limit(seed: u64) -> Input {
+    let random = &mut Random::new(seed);
+    const SMALL: [u32; 8] = [0, 1, 2, 3, 50, 99, 100, 120];
+    const GREAT: [u32; 7] = [
+        9_999_999,
+        10_000_000,
+        500_000_000,
+        500_000_050,
+        999_999_949,
+        999_999_950,
+        999_999_999,
+    ];
+    let mut tree = vec![0, 0];
+    let great_by_small = random.chance(30);
+    for place in 0..random.between(2, 4) {
+        let number = match random.below(5) {
+            _ if great_by_small && place == 0 => random.pick(&GREAT),
+            _ if great_by_small && place == 1 => random.pick(&SMALL),
+            0 | 1 => random.pick(&SMALL),
+            2 => random.pick(&GREAT),
+            // Near a half.
+            3 => (random.below(9) * 100 + random.between(48, 51)) as u32,
+            _ => random.below(limits::NUMBER_VALUE as usize + 1) as u32,
+        };
+        tree.extend([1, 0, 2, number]);
+    }
+    tree.extend([1, 1]);
+    let length = random.pick(&[1, 1, 1, 2, 3, 4]);
+    let mut chain = vec![(66, 0), (length, 0)];
+    for _ in 0..length {
+        let operation = random.between(1_000, 1_005) as u32;
+        let arguments = usize::from(operation < 1_004);
+        chain.push((operation, arguments as u32));
+        chain.extend(vec![(65, random.pick(&[0, 1, 1, 1])); arguments]);
+    }
+    let mut replacement = vec![(1, 0)];
+    replacement.extend(chain);
+    replacement.push((65, 2));
+    let parts = if random.chance(50) {
+        vec![]
+    } else {
+        vec![PartText::Condition {
+            negated: random.chance(50),
+            chain: vec![
+                (66, random.below(2) as u32),
+                (1, 0),
+                (random.pick(&[1_008, 1_009]), 1),
+                (65, random.below(2) as u32),
+            ],
+        }]
+    };
+    let rule = RuleText {
+        target: 1,
+        reach: random.pick(&[1, 2, 2]),
+        pattern: vec![(1, 0), (64, 2), (1, 0), (64, 2), (64, 1)],
+        parts,
+        replacement: Some(replacement),
+        ..RuleText::default()
+    };
+    input(LIST, &[rule], tree, 40)
+}

@@ -1,0 +1,147 @@
+//! Whole inputs: for the checks, with faults in any place, and for runs.
+
+use reference::bench::Input;
+use reference::grammar::Grammar;
+use reference::limits;
+use reference::tree::Tree;
+use reference::{run, Outcome};
+
+use crate::families;
+use crate::grammars::{any_grammar, damaged_grammar, grammar, long_grammar};
+use crate::random::Random;
+use crate::rulebooks::{damaged_rules, rules};
+use crate::trees::{damaged_tree, random_tree, tree_at_limits, Shapes};
+
+/// The greatest budget of generated runs, so that each is short.
+const MOST_ATTEMPTS: u32 = 2_000;
+
+/// An input whose grammar, rules and tree pass their checks, but for rules
+/// that sometimes do not.
+pub fn typed_input(seed: u64) -> Input {
+    let mut random = Random::new(seed);
+    loop {
+        let words = grammar(u64::from(random.word()));
+        let grammar = Grammar::read(&words).expect("a valid grammar");
+        let shapes = Shapes::new(&grammar);
+        if !shapes.has_tree() {
+            continue;
+        }
+        let tree_words = random_tree(&mut random, &shapes);
+        let Ok(tree) = Tree::read(&grammar, &tree_words) else {
+            continue;
+        };
+        // Many grammars have only tiny trees; some of those are enough.
+        if tree.size() < 5 && random.chance(70) {
+            continue;
+        }
+        return Input {
+            rules: rules(u64::from(random.word()), &grammar, &tree),
+            grammar: words,
+            tree: tree_words,
+            budget: random.between(1, MOST_ATTEMPTS as usize) as u32,
+        };
+    }
+}
+
+/// An input for the checks: mostly with one fault in its grammar, its rules or
+/// its tree.
+pub fn check_input(seed: u64) -> Input {
+    let mut random = Random::new(seed);
+    let mut input = typed_input(u64::from(random.word()));
+    let seed = u64::from(random.word());
+    let decoded = Grammar::read(&input.grammar).expect("a valid grammar");
+    match random.below(100) {
+        0..=19 => input.grammar = damaged_grammar(seed),
+        20..=22 => input.grammar = long_grammar(seed),
+        23..=25 => input.grammar = any_grammar(seed),
+        26..=63 => {
+            if let Ok(tree) = Tree::read(&decoded, &input.tree) {
+                input.rules = damaged_rules(seed, &decoded, &tree);
+            }
+        }
+        64..=85 => input.tree = damaged_tree(seed, &decoded),
+        86..=89 => input.tree = tree_at_limits(seed, &decoded),
+        90 => input.budget = random.pick(&[0, 1, limits::BUDGET, limits::BUDGET + 1, u32::MAX]),
+        91..=95 => input = damaged_family(&mut random, seed),
+        _ => {}
+    }
+    input
+}
+
+/// An input of a family that is rich in chains, with one word of its rules
+/// changed.
+fn damaged_family(random: &mut Random, seed: u64) -> Input {
+    let mut input = match random.below(4) {
+        0 => families::conditions(seed),
+        1 => families::calls_near_limit(seed),
+        _ => families::operations_near_limit(seed),
+    };
+    let position = random.below(input.rules.len());
+    input.rules[position] = match random.below(4) {
+        0 | 1 => random.below(5) as u32,
+        2 => random.between(64, 67) as u32,
+        _ => random.between(999, 1_010) as u32,
+    };
+    input
+}
+
+/// An input for runs: typed rules on a tree they are made for, or one of the
+/// families that reach a stop or just miss it. The budget is often the one
+/// that the run needs, or one off.
+pub fn run_input(seed: u64) -> Input {
+    let mut random = Random::new(seed);
+    let seed = u64::from(random.word());
+    let input = match random.below(20) {
+        0 | 1 => families::calls_near_limit(seed),
+        2 => families::nodes_near_limit(seed),
+        3 | 4 => families::nesting_near_limit(seed),
+        5 | 6 => families::live_nodes_near_limit(seed),
+        7 => families::operations_near_limit(seed),
+        8 => families::conditions(seed),
+        9 => families::searches(seed),
+        _ => typed_input(seed),
+    };
+    if random.chance(50) {
+        with_budget_near_need(seed, input)
+    } else {
+        input
+    }
+}
+
+/// Gives an input the budget that its run needs, or one more or less.
+pub fn with_budget_near_need(seed: u64, mut input: Input) -> Input {
+    let mut random = Random::new(seed);
+    let needed = match run_with(&input, MOST_ATTEMPTS) {
+        Outcome::Ended {
+            stop: None | Some(41..),
+            attempts,
+            ..
+        } => attempts,
+        _ => return input,
+    };
+    let budget = match random.below(4) {
+        0 => needed.saturating_sub(1),
+        1 => needed,
+        2 => needed + 1,
+        _ => random.between(0, needed as usize) as u32,
+    };
+    input.budget = budget.max(1);
+    input
+}
+
+/// Runs an input on the reference with another budget.
+fn run_with(input: &Input, budget: u32) -> Outcome {
+    run(
+        &input.grammar,
+        &input.rules,
+        &input.tree,
+        budget,
+        limits::RESULT_WORDS,
+        limits::WORK_WORDS,
+    )
+}
+
+/// The outcome of an input on the reference.
+pub fn reference_outcome(input: &Input) -> Outcome {
+    run_with(input, input.budget)
+}

@@ -1,0 +1,29 @@
+//! Seeded generators of inputs for comparing two implementations of the
+//! rewriting core. Each is a function of a seed: the same seed gives the same
+//! input.
+
+mod families;
+mod grammars;
+mod inputs;
+mod labeled;
+mod random;
+mod rulebooks;
+mod shrink;
+mod trees;
+
+pub use families::{
+    calls_near_limit, conditions, live_nodes_near_limit, nesting_near_limit, nodes_near_limit,
+    operations_near_limit, searches,
+};
+pub use grammars::{any_grammar, damaged_grammar, grammar, long_grammar};
+pub use inputs::{check_input, reference_outcome, run_input, typed_input, with_budget_near_need};
+pub use random::Random;
+pub use reference::bench::Input;
+pub use rulebooks::{damaged_rules, rules};
+pub use shrink::shrink;
+pub use trees::{damaged_tree, tree, tree_at_limits};
+
+/// An input in the bench format, on one line.
+pub fn to_bench(input: &Input) -> String {
+    reference::bench::write(input)
+}

@@ -1,0 +1,173 @@
+//! The generators must reach every refusal and every stop often.
+
+use std::collections::BTreeMap;
+
+use generate::{check_input, reference_outcome, run_input, shrink, to_bench, typed_input, Input};
+use reference::bench;
+use reference::grammar::Grammar;
+use reference::tree::Tree;
+use reference::{check_grammar, check_rules, check_tree, Outcome};
+
+const INPUTS: u64 = 20_000;
+const LEAST: u32 = 50;
+
+#[test]
+fn every_refusal_of_the_checks_is_given_often() {
+    let mut counts: BTreeMap<u32, u32> = BTreeMap::new();
+    let mut passed = 0;
+    for seed in 0..INPUTS {
+        let input = check_input(seed);
+        let results = match check_grammar(&input.grammar) {
+            Err(refusal) => vec![Err(refusal)],
+            Ok(()) => vec![
+                check_rules(&input.grammar, &input.rules),
+                check_tree(&input.grammar, &input.tree),
+            ],
+        };
+        passed += u32::from(results.iter().all(Result::is_ok));
+        for refusal in results.into_iter().filter_map(Result::err) {
+            *counts.entry(refusal.number).or_default() += 1;
+        }
+    }
+    println!("of {INPUTS} inputs for the checks {passed} pass; refusals: {counts:?}");
+    for number in [4, 5, 10, 11, 12, 20, 21, 22, 23, 24, 30, 31, 32, 33] {
+        let count = counts.get(&number).copied().unwrap_or(0);
+        assert!(count >= LEAST, "refusal {number} is given {count} times");
+    }
+}
+
+#[test]
+fn every_stop_of_runs_is_reached_often() {
+    let mut stops: BTreeMap<u32, u32> = BTreeMap::new();
+    let mut refusals: BTreeMap<u32, u32> = BTreeMap::new();
+    let (mut done, mut replaced, mut more_than_one) = (0, 0, 0);
+    for seed in 0..INPUTS {
+        match reference_outcome(&run_input(seed)) {
+            Outcome::Refused(refusal) => *refusals.entry(refusal.number).or_default() += 1,
+            Outcome::Ended {
+                stop, replacements, ..
+            } => {
+                match stop {
+                    Some(number) => *stops.entry(number).or_default() += 1,
+                    None => done += 1,
+                }
+                replaced += u32::from(replacements > 0);
+                more_than_one += u32::from(replacements > 1);
+            }
+        }
+    }
+    println!("of {INPUTS} runs {done} are done; stops: {stops:?}; refusals: {refusals:?}");
+    println!("{replaced} runs replace something, {more_than_one} more than once");
+    for number in 40..=45 {
+        let count = stops.get(&number).copied().unwrap_or(0);
+        assert!(count >= LEAST, "stop {number} is reached {count} times");
+    }
+    assert!(replaced > INPUTS as u32 / 4);
+}
+
+#[test]
+fn typed_rules_usually_pass_and_often_match() {
+    let (mut passed, mut replaced, mut kinds) = (0, 0, [0; 4]);
+    for seed in 0..2_000 {
+        let input = typed_input(seed);
+        assert_eq!(check_grammar(&input.grammar), Ok(()));
+        assert_eq!(check_tree(&input.grammar, &input.tree), Ok(()));
+        if let Outcome::Ended { replacements, .. } = reference_outcome(&input) {
+            passed += 1;
+            replaced += u32::from(replacements > 0);
+        }
+        for (kind, map) in [1, 2, 4, 8].iter().enumerate() {
+            kinds[kind] += u32::from(input.grammar[1] == *map);
+        }
+    }
+    println!("of 2000 typed inputs {passed} pass and {replaced} replace something");
+    println!("roots that are token, optional, sequence, forms: {kinds:?}");
+    assert!(passed > 1_800 && replaced > 600);
+    assert!(kinds.iter().all(|&count| count > 0));
+}
+
+#[test]
+fn trees_reach_every_size_and_depth() {
+    let mut sizes = [0; 4];
+    let mut depths = [0; 4];
+    let (mut largest, mut deepest) = (0, 0);
+    for seed in 0..4_000 {
+        let input = typed_input(seed);
+        let grammar = Grammar::read(&input.grammar).expect("a valid grammar");
+        let tree = Tree::read(&grammar, &input.tree).expect("a valid tree");
+        sizes[[0, 10, 100, 1_000].partition_point(|&least| least <= tree.size()) - 1] += 1;
+        depths[[0, 5, 20, 60].partition_point(|&least| least <= tree.height()) - 1] += 1;
+        largest += u32::from(tree.size() >= 2_047);
+        deepest += u32::from(tree.height() == 64);
+    }
+    println!(
+        "of 4000 trees with nodes from 0, 10, 100, 1000: {sizes:?}, {largest} with 2047 or more"
+    );
+    println!("with nesting from 0, 5, 20, 60: {depths:?}, {deepest} with 64");
+    assert!(sizes.iter().chain(&depths).all(|&count| count >= 100));
+    assert!(largest >= 50 && deepest >= 50);
+}
+
+#[test]
+fn results_are_trees_and_budgets_only_cut_runs_off() {
+    for seed in 0..3_000 {
+        let mut input = run_input(seed);
+        let outcome = reference_outcome(&input);
+        let Outcome::Ended {
+            stop,
+            attempts,
+            ref words,
+            ..
+        } = outcome
+        else {
+            continue;
+        };
+        assert_eq!(check_tree(&input.grammar, words), Ok(()), "seed {seed}");
+        if stop == Some(40) || attempts < 2 {
+            continue;
+        }
+        input.budget = attempts;
+        assert!(reference_outcome(&input) == outcome, "seed {seed}");
+        input.budget = attempts - 1;
+        assert!(
+            matches!(
+                reference_outcome(&input),
+                Outcome::Ended { stop: Some(40), attempts: cut, .. } if cut == attempts - 1
+            ),
+            "seed {seed}"
+        );
+    }
+}
+
+#[test]
+fn the_same_seed_gives_the_same_input_and_its_text_is_read_again() {
+    for seed in 0..300 {
+        assert!(check_input(seed) == check_input(seed), "seed {seed}");
+        let input = run_input(seed);
+        assert!(input == run_input(seed), "seed {seed}");
+        let read = bench::parse(to_bench(&input).as_bytes());
+        assert!(read == Some(input), "seed {seed}");
+    }
+}
+
+#[test]
+fn shrinking_keeps_the_failure_and_makes_it_small() {
+    let stops_45 = |input: &Input| {
+        matches!(
+            reference_outcome(input),
+            Outcome::Ended { stop: Some(45), .. }
+        )
+    };
+    let found = (0..INPUTS).map(run_input).find(stops_45);
+    let input = found.expect("some run stops with 45");
+    let small = shrink(input.clone(), stops_45);
+    assert!(stops_45(&small));
+    let words = |input: &Input| input.grammar.len() + input.rules.len() + input.tree.len();
+    println!(
+        "{} words shrink to {}: {}",
+        words(&input),
+        words(&small),
+        to_bench(&small)
+    );
+    assert!(words(&small) <= words(&input) && words(&small) < 60);
+}

@@ -1,0 +1,147 @@
+//! A plain implementation of the rewriting core of document 01 ("The
+//! rewriting core of the counter pad"), written from that paper alone with
+//! real trees, to compare another core with.
+//!
+//! Names are the field's usual ones. The paper's own words stand at each
+//! definition: a "slip" is a tree, a "rule book" the rules, a "trial" an
+//! attempt, a "group" an application chain, "held nodes" live nodes, a
+//! "repeat" a sequence, and "take apart", "build" and "test" are deconstruct,
+//! construct and condition.
+
+pub mod bench;
+pub mod grammar;
+pub mod limits;
+pub mod rules;
+pub mod run;
+pub mod tree;
+pub mod typing;
+mod words;
+
+use grammar::Grammar;
+use tree::Tree;
+use typing::Program;
+
+/// A refusal: nothing was run.
+#[derive(Clone, Copy, Debug, PartialEq, Eq)]
+pub struct Refusal {
+    /// The paper's number.
+    pub number: u32,
+    /// The word at fault, counted in what is refused.
+    pub position: usize,
+}
+
+impl Refusal {
+    /// A refusal with this number at this word.
+    pub fn new(number: u32, position: usize) -> Refusal {
+        Refusal { number, position }
+    }
+}
+
+/// The outcome of a call of the core.
+#[derive(Clone, Debug, PartialEq, Eq)]
+pub enum Outcome {
+    Refused(Refusal),
+    Ended {
+        /// The number of the stop, or `None` if the run was done.
+        stop: Option<u32>,
+        /// The attempts that were started, the paper's "trials".
+        attempts: u32,
+        /// The replacements that the first call put in place.
+        replacements: u32,
+        /// The filled words of the result.
+        words: Vec<u32>,
+    },
+}
+
+/// Checks a grammar alone (refusals 4, 10 to 12).
+pub fn check_grammar(grammar: &[u32]) -> Result<(), Refusal> {
+    check_length(grammar, limits::GRAMMAR_WORDS, 4)?;
+    Grammar::read(grammar).map(|_| ())
+}
+
+/// Checks rules against a grammar (refusals 4, 5, 10 to 12, 20 to 24).
+pub fn check_rules(grammar: &[u32], rules: &[u32]) -> Result<(), Refusal> {
+    check_length(grammar, limits::GRAMMAR_WORDS, 4)?;
+    check_length(rules, limits::RULES_WORDS, 5)?;
+    let grammar = Grammar::read(grammar)?;
+    read_rules(&grammar, rules).map(|_| ())
+}
+
+/// Checks a tree against a grammar (refusals 4, 10 to 12, 30 to 33).
+pub fn check_tree(grammar: &[u32], tree: &[u32]) -> Result<(), Refusal> {
+    check_length(grammar, limits::GRAMMAR_WORDS, 4)?;
+    let grammar = Grammar::read(grammar)?;
+    Tree::read(&grammar, tree).map(|_| ())
+}
+
+/// Checks everything and runs the main rule on the tree.
+///
+/// `result_len` and `work_len` are the lengths of the two memories that the
+/// call lends; this implementation uses neither.
+pub fn run(
+    grammar: &[u32],
+    rules: &[u32],
+    tree: &[u32],
+    budget: u32,
+    result_len: usize,
+    work_len: usize,
+) -> Outcome {
+    let checked = check_call(grammar, rules, budget, result_len, work_len)
+        .and_then(|()| check_inputs(grammar, rules, tree));
+    let (grammar, program, tree) = match checked {
+        Ok(checked) => checked,
+        Err(refusal) => return Outcome::Refused(refusal),
+    };
+    let ending = run::run(&grammar, &program, tree, budget);
+    Outcome::Ended {
+        stop: ending.stop.map(run::Stop::number),
+        attempts: ending.attempts,
+        replacements: ending.replacements,
+        words: ending.tree.words(),
+    }
+}
+
+/// The refusals of the call itself, all at word 0.
+fn check_call(
+    grammar: &[u32],
+    rules: &[u32],
+    budget: u32,
+    result_len: usize,
+    work_len: usize,
+) -> Result<(), Refusal> {
+    if result_len < limits::RESULT_WORDS {
+        return Err(Refusal::new(1, 0));
+    }
+    if work_len < limits::WORK_WORDS {
+        return Err(Refusal::new(2, 0));
+    }
+    if !(1..=limits::BUDGET).contains(&budget) {
+        return Err(Refusal::new(3, 0));
+    }
+    check_length(grammar, limits::GRAMMAR_WORDS, 4)?;
+    check_length(rules, limits::RULES_WORDS, 5)
+}
+
+fn check_inputs(
+    grammar: &[u32],
+    rules: &[u32],
+    tree: &[u32],
+) -> Result<(Grammar, Program, Tree), Refusal> {
+    let grammar = Grammar::read(grammar)?;
+    let program = read_rules(&grammar, rules)?;
+    let tree = Tree::read(&grammar, tree)?;
+    Ok((grammar, program, tree))
+}
+
+fn read_rules(grammar: &Grammar, words: &[u32]) -> Result<Program, Refusal> {
+    let layout = rules::read_layout(grammar, words)?;
+    typing::check(grammar, &layout)
+}
+
+fn check_length(words: &[u32], limit: usize, number: u32) -> Result<(), Refusal> {
+    if words.len() > limit {
+        Err(Refusal::new(number, 0))
+    } else {
+        Ok(())
+    }
+}

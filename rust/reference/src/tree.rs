@@ -1,0 +1,253 @@
+//! Trees, the paper's "slips" and their parts: reading them (refusals 30 to
+//! 33), writing them, and what the run needs to know of them.
+//!
+//! A tree is a counted reference to its root node, so that a copy of it costs
+//! nothing; a change clones only those nodes on its way that are shared. The
+//! run counts copied nodes as the paper does, whatever is shared here.
+
+use std::rc::Rc;
+
+use crate::grammar::{Grammar, Kind, OpenPlaces, TypeNumber};
+use crate::limits;
+use crate::Refusal;
+
+/// A whole tree.
+#[derive(Clone, Debug)]
+pub struct Tree(Rc<Node>);
+
+/// The root node of a tree, with its children.
+#[derive(Clone, Debug)]
+struct Node {
+    ty: TypeNumber,
+    value: u32,
+    children: Vec<Tree>,
+    /// Whether the second child is the rest of a sequence.
+    sequence: bool,
+    /// The number of nodes of the tree.
+    size: usize,
+    /// The greatest nesting in the tree, its root having nesting 1.
+    height: usize,
+}
+
+/// A stretch of a tree in prefix order: one node, whose children follow, or a
+/// whole tree.
+#[derive(Clone, Debug)]
+pub enum Piece {
+    Node { ty: TypeNumber, value: u32 },
+    Whole(Tree),
+}
+
+impl Tree {
+    /// Reads a tree of type 0, the root of every tree that is given.
+    pub fn read(grammar: &Grammar, words: &[u32]) -> Result<Tree, Refusal> {
+        if words.is_empty() || words.len() % 2 == 1 || words.len() > limits::TREE_WORDS {
+            return Err(Refusal::new(30, 0));
+        }
+        let mut pieces = Vec::with_capacity(words.len() / 2);
+        let mut places = OpenPlaces::new(grammar, 0);
+        while let Some(place) = places.next_place() {
+            let position = 2 * pieces.len();
+            if position == words.len() {
+                return Err(Refusal::new(31, position));
+            }
+            let (ty, value) = (words[position], words[position + 1]);
+            if ty != place.ty {
+                return Err(Refusal::new(32, position));
+            }
+            if place.nesting > limits::NESTING {
+                return Err(Refusal::new(33, position));
+            }
+            if !places.fill_with_node(place, value) {
+                return Err(Refusal::new(32, position + 1));
+            }
+            pieces.push(Piece::Node { ty, value });
+        }
+        let end = 2 * pieces.len();
+        if end < words.len() {
+            return Err(Refusal::new(31, end));
+        }
+        Ok(Tree::assemble(grammar, pieces))
+    }
+
+    /// Puts the pieces of one tree together. They must be complete and fit
+    /// the grammar.
+    pub fn assemble(grammar: &Grammar, pieces: Vec<Piece>) -> Tree {
+        // Read from the end, the children of a node are the last trees made,
+        // the first child on top.
+        let mut made: Vec<Tree> = Vec::new();
+        for piece in pieces.into_iter().rev() {
+            let tree = match piece {
+                Piece::Whole(tree) => tree,
+                Piece::Node { ty, value } => {
+                    let children = grammar.child_types(ty, value).map_or(0, <[_]>::len);
+                    let children = made.drain(made.len() - children..).rev().collect();
+                    Tree::node(grammar, ty, value, children)
+                }
+            };
+            made.push(tree);
+        }
+        let tree = made.pop().expect("a tree has at least one piece");
+        debug_assert!(made.is_empty());
+        tree
+    }
+
+    fn node(grammar: &Grammar, ty: TypeNumber, value: u32, children: Vec<Tree>) -> Tree {
+        let mut node = Node {
+            ty,
+            value,
+            children,
+            sequence: grammar.kind(ty) == Kind::Sequence,
+            size: 0,
+            height: 0,
+        };
+        node.measure();
+        Tree(Rc::new(node))
+    }
+
+    /// The type of the root.
+    pub fn ty(&self) -> TypeNumber {
+        self.0.ty
+    }
+
+    /// The value of the root.
+    pub fn value(&self) -> u32 {
+        self.0.value
+    }
+
+    /// The trees below the root.
+    pub fn children(&self) -> &[Tree] {
+        &self.0.children
+    }
+
+    /// The number of nodes.
+    pub fn size(&self) -> usize {
+        self.0.size
+    }
+
+    /// The greatest nesting, the root having nesting 1.
+    pub fn height(&self) -> usize {
+        self.0.height
+    }
+
+    /// The trees of all nodes, parent first and left to right. The place of a
+    /// tree in this order is its position in `find` and `replace_at`.
+    pub fn preorder(&self) -> Preorder<'_> {
+        Preorder {
+            to_come: vec![self],
+        }
+    }
+
+    /// The words of the tree, two a node.
+    pub fn words(&self) -> Vec<u32> {
+        self.preorder()
+            .flat_map(|tree| [tree.ty(), tree.value()])
+            .collect()
+    }
+
+    /// The tree at a position, and the nesting of its root in this tree.
+    pub fn find(&self, mut position: usize) -> (&Tree, usize) {
+        let mut tree = self;
+        let mut nesting = 1;
+        while position > 0 {
+            let (index, below) = tree.0.child_at(position);
+            nesting += tree.0.levels_to(index);
+            tree = &tree.0.children[index];
+            position = below;
+        }
+        (tree, nesting)
+    }
+
+    /// Puts another tree in the place of the tree at a position.
+    pub fn replace_at(&mut self, position: usize, replacement: Tree) {
+        if position == 0 {
+            *self = replacement;
+            return;
+        }
+        // This calls itself once a level, at most 2,047 times.
+        let node = Rc::make_mut(&mut self.0);
+        let (index, below) = node.child_at(position);
+        node.children[index].replace_at(below, replacement);
+        node.measure();
+    }
+
+    /// Gives the root another value, for which it has the same children.
+    pub fn set_value(&mut self, value: u32) {
+        Rc::make_mut(&mut self.0).value = value;
+    }
+}
+
+impl Node {
+    /// Sets the size and the height from those of the children.
+    fn measure(&mut self) {
+        self.size = 1;
+        self.height = 1;
+        for (index, child) in self.children.iter().enumerate() {
+            self.size += child.size();
+            self.height = self.height.max(child.height() + self.levels_to(index));
+        }
+    }
+
+    /// How much deeper than this node a child is nested.
+    fn levels_to(&self, index: usize) -> usize {
+        usize::from(!(self.sequence && index == 1))
+    }
+
+    /// The child that holds the node at a position of this tree, and the
+    /// position of that node in the child.
+    fn child_at(&self, position: usize) -> (usize, usize) {
+        let mut below = position - 1;
+        for (index, child) in self.children.iter().enumerate() {
+            if below < child.size() {
+                return (index, below);
+            }
+            below -= child.size();
+        }
+        panic!("position {position} lies outside a tree of {}", self.size)
+    }
+}
+
+impl Drop for Node {
+    /// Drops the children in a loop, as a sequence is as deep as it is long.
+    fn drop(&mut self) {
+        let mut dropped = std::mem::take(&mut self.children);
+        while let Some(tree) = dropped.pop() {
+            if let Ok(mut node) = Rc::try_unwrap(tree.0) {
+                dropped.append(&mut node.children);
+            }
+        }
+    }
+}
+
+impl PartialEq for Tree {
+    /// Trees are the same if their types and values are, wherever they stand.
+    fn eq(&self, other: &Tree) -> bool {
+        let mut to_compare = vec![(self, other)];
+        while let Some((one, two)) = to_compare.pop() {
+            if Rc::ptr_eq(&one.0, &two.0) {
+                continue;
+            }
+            if one.size() != two.size() || one.ty() != two.ty() || one.value() != two.value() {
+                return false;
+            }
+            to_compare.extend(one.children().iter().zip(two.children()));
+        }
+        true
+    }
+}
+
+impl Eq for Tree {}
+
+/// The trees of all nodes of a tree, parent first and left to right.
+pub struct Preorder<'a> {
+    to_come: Vec<&'a Tree>,
+}
+
+impl<'a> Iterator for Preorder<'a> {
+    type Item = &'a Tree;
+
+    fn next(&mut self) -> Option<&'a Tree> {
+        let tree = self.to_come.pop()?;
+        self.to_come.extend(tree.children().iter().rev());
+        Some(tree)
+    }
+}

@@ -1,0 +1,156 @@
+//! Every bullet of the paper's chapter "The two-to-forty-two bench".
+
+mod common;
+
+use common::*;
+
+const REWRITTEN: &str = "0 0 1 0 2 4200 1 0 2 500 1 1";
+
+/// Rules that apply an operation without argument to the first number.
+fn unary(operation: u32) -> Vec<u32> {
+    rules(&[RuleText {
+        target: 2,
+        reach: 1,
+        pattern: &[(64, 2)],
+        replacement: &[(66, 0), (1, 0), (operation, 0)],
+        ..NONE
+    }
+    .words()])
+}
+
+/// Rules that put first operation second in the place of two numbers.
+fn binary(operation: u32) -> Vec<u32> {
+    rules(&[RuleText {
+        target: 1,
+        reach: 1,
+        pattern: &[(1, 0), (64, 2), (1, 0), (64, 2), (64, 1)],
+        replacement: &[(1, 0), (66, 0), (1, 0), (operation, 1), (65, 1), (65, 2)],
+        ..NONE
+    }
+    .words()])
+}
+
+#[test]
+fn the_example_as_printed_in_the_paper() {
+    let input = "3 9 3 8 1 1 1 4 2 1 2 10 1 9 2 2 1 2 200 1 2 4200 \
+                 12 0 0 1 0 2 200 1 0 2 500 1 1";
+    assert_eq!(
+        reference::bench::answer(input.as_bytes()),
+        "done 3 1 12\n0 0 1 0 2 4200 1 0 2 500 1 1\n"
+    );
+}
+
+#[test]
+fn budget_3_2_and_1() {
+    let with = |budget| bench(budget, GRAMMAR, RULES, TREE);
+    assert_eq!(with(3), format!("done 3 1 12\n{REWRITTEN}"));
+    assert_eq!(with(2), format!("stopped 40 2 1 12\n{REWRITTEN}"));
+    assert_eq!(with(1), format!("stopped 40 1 1 12\n{REWRITTEN}"));
+}
+
+#[test]
+fn reach_1_and_an_empty_sequence() {
+    let reach_1 = [1, 9, 2, 1, 1, 2, 200, 1, 2, 4200];
+    assert_eq!(
+        bench(3, GRAMMAR, &reach_1, TREE),
+        format!("done 1 1 12\n{REWRITTEN}")
+    );
+    assert_eq!(
+        bench(3, GRAMMAR, RULES, &[0, 0, 1, 1]),
+        "done 0 0 4\n0 0 1 1"
+    );
+}
+
+#[test]
+fn a_replacement_equal_to_its_match_spends_the_budget() {
+    let same = [1, 9, 2, 2, 1, 2, 200, 1, 2, 200];
+    assert_eq!(
+        bench(7, GRAMMAR, &same, TREE),
+        "stopped 40 7 7 12\n0 0 1 0 2 200 1 0 2 500 1 1"
+    );
+}
+
+#[test]
+fn a_replacement_of_another_type_and_an_endless_type() {
+    let wrong = [1, 9, 2, 2, 1, 2, 200, 1, 1, 1];
+    assert_eq!(bench(3, GRAMMAR, &wrong, TREE), "refused 23 8");
+    assert_eq!(bench(3, &[1, 8, 1, 1, 0], RULES, TREE), "refused 12 1");
+}
+
+#[test]
+fn trees_short_over_and_with_great_numbers() {
+    assert_eq!(bench(3, GRAMMAR, RULES, &[0, 0]), "refused 31 2");
+    let over = [TREE, &[1, 1]].concat();
+    assert_eq!(bench(3, GRAMMAR, RULES, &over), "refused 31 12");
+    assert_eq!(
+        bench(3, GRAMMAR, RULES, &list(&[999_999_999, 500])),
+        "done 2 0 12\n0 0 1 0 2 999999999 1 0 2 500 1 1"
+    );
+    assert_eq!(
+        bench(3, GRAMMAR, RULES, &list(&[1_000_000_000, 500])),
+        "refused 32 5"
+    );
+}
+
+#[test]
+fn round_and_quotient() {
+    for (number, rounded) in [(125, 100), (150, 200), (49, 0)] {
+        assert_eq!(
+            bench(3, GRAMMAR, &unary(1_004), &list(&[number])),
+            format!("done 1 1 8\n0 0 1 0 2 {rounded} 1 1")
+        );
+    }
+    assert_eq!(
+        bench(3, GRAMMAR, &unary(1_004), &list(&[999_999_950])),
+        "stopped 45 1 0 8\n0 0 1 0 2 999999950 1 1"
+    );
+    assert_eq!(
+        bench(3, GRAMMAR, &binary(1_002), &list(&[1000, 300])),
+        "done 1 1 8\n0 0 1 0 2 300 1 1"
+    );
+}
+
+#[test]
+fn where_readers_go_astray() {
+    // Searching on past the replaced node would take 2 attempts, not 3, and
+    // skipping the rest of a sequence would take fewer: see budget 3 above.
+    // The rest of a sequence is a node that can be the target.
+    let rest = rules(&[RuleText {
+        target: 1,
+        reach: 1,
+        pattern: &[(1, 0), (2, 500), (64, 1)],
+        replacement: &[(65, 0)],
+        ..NONE
+    }
+    .words()]);
+    assert_eq!(
+        bench(9, GRAMMAR, &rest, TREE),
+        "done 2 1 8\n0 0 1 0 2 200 1 1"
+    );
+    // A failed attempt's bindings: variable 0 must be the second attempt's.
+    let last = rules(&[RuleText {
+        target: 1,
+        reach: 1,
+        pattern: &[(1, 0), (64, 2), (1, 1)],
+        replacement: &[(1, 0), (65, 0), (1, 0), (65, 0), (1, 1)],
+        ..NONE
+    }
+    .words()]);
+    assert_eq!(
+        bench(9, GRAMMAR, &last, TREE),
+        "done 2 1 16\n0 0 1 0 2 200 1 0 2 500 1 0 2 500 1 1"
+    );
+    // A sequence does not stand for its element: pattern 2 200 for type 1.
+    let element = [1, 9, 1, 2, 1, 2, 200, 1, 1, 1];
+    assert_eq!(bench(3, GRAMMAR, &element, TREE), "refused 23 5");
+    // No stop 40 after the last attempt with none due.
+    let once = [1, 9, 2, 1, 1, 2, 200, 1, 2, 4200];
+    assert_eq!(
+        bench(1, GRAMMAR, &once, TREE),
+        format!("done 1 1 12\n{REWRITTEN}")
+    );
+    assert_eq!(
+        bench(1, GRAMMAR, RULES, &list(&[7])),
+        "done 1 0 8\n0 0 1 0 2 7 1 1"
+    );
+}

@@ -1,0 +1,135 @@
+//! Helpers of the tests: the paper's bench example and short ways to write
+//! other inputs.
+#![allow(dead_code)]
+
+use reference::bench::{self, Input};
+
+/// The paper's grammar: a program of a sequence of numbers.
+pub const GRAMMAR: &[u32] = &[3, 8, 1, 1, 1, 4, 2, 1, 2];
+/// The paper's rules: every 2.00 becomes 42.00.
+pub const RULES: &[u32] = &[1, 9, 2, 2, 1, 2, 200, 1, 2, 4200];
+/// The paper's tree: 2.00, 5.00.
+pub const TREE: &[u32] = &[0, 0, 1, 0, 2, 200, 1, 0, 2, 500, 1, 1];
+
+/// What the bench prints for an input, without the last line end.
+pub fn bench(budget: u32, grammar: &[u32], rules: &[u32], tree: &[u32]) -> String {
+    let input = Input {
+        budget,
+        grammar: grammar.to_vec(),
+        rules: rules.to_vec(),
+        tree: tree.to_vec(),
+    };
+    let text = bench::answer(bench::write(&input).as_bytes());
+    text.strip_suffix('\n').expect("a line end").to_string()
+}
+
+/// The first line of what the bench prints.
+pub fn first_line(budget: u32, grammar: &[u32], rules: &[u32], tree: &[u32]) -> String {
+    let text = bench(budget, grammar, rules, tree);
+    text.lines().next().unwrap_or_default().to_string()
+}
+
+/// A tree of the paper's grammar with these numbers: 2 x numbers + 2 nodes.
+pub fn list(numbers: &[u32]) -> Vec<u32> {
+    [vec![0, 0], sequence(numbers)].concat()
+}
+
+/// The words of a sequence (type 1) of numbers (type 2).
+pub fn sequence(numbers: &[u32]) -> Vec<u32> {
+    let mut words: Vec<u32> = numbers.iter().flat_map(|&n| [1, 0, 2, n]).collect();
+    words.extend([1, 1]);
+    words
+}
+
+/// A list of that many nodes (an even number), all numbers 5.
+pub fn list_of_nodes(nodes: usize) -> Vec<u32> {
+    assert_eq!(nodes % 2, 0);
+    let list = list(&vec![5; nodes / 2 - 1]);
+    assert_eq!(list.len(), 2 * nodes);
+    list
+}
+
+/// A pattern or replacement: the count of pairs, and the pairs.
+pub fn pairs(pairs: &[(u32, u32)]) -> Vec<u32> {
+    let mut words = vec![pairs.len() as u32];
+    words.extend(pairs.iter().flat_map(|&(first, second)| [first, second]));
+    words
+}
+
+/// Rules from the words of each.
+pub fn rules(rules: &[Vec<u32>]) -> Vec<u32> {
+    [vec![rules.len() as u32], rules.concat()].concat()
+}
+
+/// One rule; its bit map is made from what is given.
+pub struct RuleText<'a> {
+    pub target: u32,
+    /// 0 for none.
+    pub reach: u32,
+    pub parameters: &'a [u32],
+    pub pattern: &'a [(u32, u32)],
+    pub parts: &'a [Vec<u32>],
+    /// Empty for none.
+    pub replacement: &'a [(u32, u32)],
+}
+
+/// The fields that a rule may lack.
+pub const NONE: RuleText = RuleText {
+    target: 0,
+    reach: 0,
+    parameters: &[],
+    pattern: &[],
+    parts: &[],
+    replacement: &[],
+};
+
+impl RuleText<'_> {
+    pub fn words(&self) -> Vec<u32> {
+        let mut words = vec![0, self.target];
+        if self.reach > 0 {
+            words[0] |= 1;
+            words.push(self.reach);
+        }
+        if !self.parameters.is_empty() {
+            words[0] |= 2;
+            words.push(self.parameters.len() as u32);
+            words.extend(self.parameters);
+        }
+        words.extend(pairs(self.pattern));
+        if !self.parts.is_empty() {
+            words[0] |= 4;
+            words.push(self.parts.len() as u32);
+            words.extend(self.parts.concat());
+        }
+        if !self.replacement.is_empty() {
+            words[0] |= 8;
+            words.extend(pairs(self.replacement));
+        }
+        words
+    }
+}
+
+/// A part that takes a variable apart.
+pub fn deconstruct(variable: u32, pattern: &[(u32, u32)]) -> Vec<u32> {
+    [vec![1, variable], pairs(pattern)].concat()
+}
+
+/// A part that searches a variable for nodes of a type.
+pub fn search(ty: u32, variable: u32, pattern: &[(u32, u32)]) -> Vec<u32> {
+    [vec![3, ty, variable], pairs(pattern)].concat()
+}
+
+/// A part that builds a new variable.
+pub fn construct(ty: u32, replacement: &[(u32, u32)]) -> Vec<u32> {
+    [vec![4, ty], pairs(replacement)].concat()
+}
+
+/// A part that tests.
+pub fn condition(chain: &[(u32, u32)]) -> Vec<u32> {
+    [vec![8], pairs(chain)].concat()
+}
+
+/// A part that holds if no application succeeds.
+pub fn not_condition(chain: &[(u32, u32)]) -> Vec<u32> {
+    [vec![24], pairs(chain)].concat()
+}

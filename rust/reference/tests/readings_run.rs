@@ -1,0 +1,839 @@
+//! The readings M (meaning), H (live nodes and limits), O (operations) and A
+//! (answer), one test each. All numbers are worked out by hand.
+
+mod common;
+
+use common::*;
+
+/// A rule on the whole tree that binds it to variable 0.
+const WHOLE: RuleText = RuleText {
+    pattern: &[(64, 0)],
+    ..NONE
+};
+
+/// A rule on the whole tree of the paper's grammar that fits only the empty
+/// list, and binds nothing.
+const ON_EMPTY: RuleText = RuleText {
+    pattern: &[(0, 0), (1, 1)],
+    ..NONE
+};
+
+/// Root 0 is `form 0: [0]`, `form 1: [sequence]` or `form 2: [0, 0]`, over the
+/// paper's sequence of numbers.
+const DEEP: &[u32] = &[3, 8, 3, 1, 0, 1, 1, 2, 0, 0, 4, 2, 1, 2];
+
+/// A tree of `DEEP`: that many levels of form 0, then a sequence. It has
+/// levels + 2 x numbers + 2 nodes, and nesting levels + 3 (+ 2 if empty).
+fn deep(levels: usize, numbers: usize) -> Vec<u32> {
+    let mut words = [0, 0].repeat(levels);
+    words.extend([0, 1]);
+    words.extend(sequence(&vec![5; numbers]));
+    words
+}
+
+fn on_list(budget: u32, texts: &[RuleText], tree: &[u32]) -> String {
+    on(GRAMMAR, budget, texts, tree)
+}
+
+fn on(grammar: &[u32], budget: u32, texts: &[RuleText], tree: &[u32]) -> String {
+    let words: Vec<Vec<u32>> = texts.iter().map(RuleText::words).collect();
+    bench(budget, grammar, &rules(&words), tree)
+}
+
+/// Only the first line, for great trees.
+fn line(grammar: &[u32], budget: u32, texts: &[RuleText], tree: &[u32]) -> String {
+    let text = on(grammar, budget, texts, tree);
+    text.lines().next().unwrap_or_default().to_string()
+}
+
+#[test]
+fn m1_40_only_when_an_attempt_is_due() {
+    assert_eq!(first_line(3, GRAMMAR, RULES, TREE), "done 3 1 12");
+    assert_eq!(first_line(1, GRAMMAR, RULES, &[0, 0, 1, 1]), "done 0 0 4");
+    assert_eq!(first_line(1, GRAMMAR, RULES, &list(&[5])), "done 1 0 8");
+}
+
+#[test]
+fn m2_opening_a_call_comes_before_its_first_attempt() {
+    let texts = [
+        RuleText {
+            replacement: &[(66, 0), (1, 0), (1, 1), (65, 0)],
+            ..WHOLE
+        },
+        RuleText {
+            parameters: &[0],
+            replacement: &[(65, 1)],
+            ..WHOLE
+        },
+    ];
+    // Scope, variable and copy are 6,144; the argument is too much.
+    let great = list_of_nodes(2_048);
+    assert_eq!(line(GRAMMAR, 1, &texts, &great), "stopped 44 1 0 4096");
+    assert_eq!(line(GRAMMAR, 1, &texts, TREE), "stopped 40 1 0 12");
+    // The 33rd call comes before the 33rd attempt.
+    let endless = RuleText {
+        replacement: &[(66, 0), (1, 0), (0, 0)],
+        ..WHOLE
+    };
+    assert_eq!(line(GRAMMAR, 32, &[endless], TREE), "stopped 41 32 0 12");
+}
+
+#[test]
+fn m3_a_variable_is_bound_at_its_pair() {
+    // Type 0 is a sequence and a number: 2 x numbers + 3 nodes.
+    let grammar = [3, 8, 1, 2, 1, 2, 4, 2, 1, 2];
+    let tree = |numbers: usize| [vec![0, 0], sequence(&vec![5; numbers]), vec![2, 5]].concat();
+    // Rule 1 binds the sequence and then fails at the number.
+    let texts = [
+        RuleText {
+            replacement: &[(66, 0), (1, 0), (1, 1), (65, 0)],
+            ..WHOLE
+        },
+        RuleText {
+            parameters: &[0],
+            pattern: &[(0, 0), (64, 1), (2, 777)],
+            replacement: &[(65, 0)],
+            ..NONE
+        },
+    ];
+    assert_eq!(line(&grammar, 9, &texts, &tree(400)), "done 2 1 1606");
+    // 4 x 1,535 = 6,140 are live, and 1,533 are bound.
+    assert_eq!(line(&grammar, 9, &texts, &tree(766)), "stopped 44 2 0 3070");
+}
+
+#[test]
+fn m4_a_searching_part_does_not_go_back() {
+    let texts = [RuleText {
+        parts: &[search(2, 0, &[(64, 2)]), deconstruct(1, &[(2, 500)])],
+        replacement: &[(0, 0), (1, 1)],
+        ..WHOLE
+    }];
+    assert_eq!(line(GRAMMAR, 9, &texts, TREE), "done 1 0 12");
+}
+
+#[test]
+fn m5_a_searching_part_tries_the_root_and_drops_failed_bindings() {
+    let last = [RuleText {
+        parts: &[search(1, 0, &[(1, 0), (64, 2), (1, 1)])],
+        replacement: &[(0, 0), (1, 0), (65, 1), (1, 1)],
+        ..WHOLE
+    }];
+    assert_eq!(on_list(9, &last, TREE), "done 1 1 8\n0 0 1 0 2 500 1 1");
+    let root = [RuleText {
+        parts: &[search(0, 0, &[(0, 0), (1, 0), (64, 2), (64, 1)])],
+        replacement: &[(0, 0), (65, 2)],
+        ..WHOLE
+    }];
+    assert_eq!(on_list(9, &root, TREE), "done 1 1 8\n0 0 1 0 2 500 1 1");
+}
+
+#[test]
+fn m6_applications_of_a_test_up_to_the_first_success() {
+    let both = [(66, 0), (2, 0), (1, 0), (1, 0)];
+    let second = [(66, 0), (2, 0), (2, 0), (1, 0)];
+    let with = |part: Vec<u32>| {
+        let texts = [
+            RuleText {
+                parts: &[part],
+                replacement: &[(0, 0), (1, 1)],
+                ..WHOLE
+            },
+            WHOLE,
+            ON_EMPTY,
+        ];
+        line(GRAMMAR, 9, &texts, TREE)
+    };
+    assert_eq!(with(condition(&both)), "done 2 1 4");
+    assert_eq!(with(condition(&second)), "done 3 1 4");
+    assert_eq!(with(not_condition(&both)), "done 2 0 12");
+    assert_eq!(with(not_condition(&second)), "done 3 0 12");
+}
+
+#[test]
+fn m7_a_replacement_is_not_worked_in_a_test() {
+    let divide = [(66, 0), (1, 0), (1_002, 1), (65, 0)];
+    let main = RuleText {
+        target: 2,
+        reach: 1,
+        pattern: &[(64, 2)],
+        parts: &[condition(&[(66, 0), (1, 0), (1, 0)])],
+        replacement: &[(2, 9)],
+        ..NONE
+    };
+    let replacing = RuleText {
+        target: 2,
+        pattern: &[(64, 2)],
+        replacement: &divide,
+        ..NONE
+    };
+    let texts = [RuleText { ..main }, replacing];
+    assert_eq!(
+        on_list(9, &texts, &list(&[0])),
+        "done 2 1 8\n0 0 1 0 2 9 1 1"
+    );
+    // A part of it is worked.
+    let constructing = RuleText {
+        target: 2,
+        pattern: &[(64, 2)],
+        parts: &[construct(2, &divide)],
+        replacement: &[(65, 1)],
+        ..NONE
+    };
+    assert_eq!(
+        on_list(9, &[main, constructing], &list(&[0])),
+        "stopped 45 2 0 8\n0 0 1 0 2 0 1 1"
+    );
+}
+
+/// Rule 0 puts 7 for the head of a sequence and calls itself on the rest.
+const RECURSIVE: RuleText = RuleText {
+    target: 1,
+    reach: 1,
+    pattern: &[(1, 0), (64, 2), (64, 1)],
+    replacement: &[(1, 0), (2, 7), (66, 1), (1, 0), (0, 0)],
+    ..NONE
+};
+
+#[test]
+fn m8_only_the_first_call_counts_replacements() {
+    assert_eq!(
+        on_list(9, &[RECURSIVE], TREE),
+        "done 3 1 12\n0 0 1 0 2 7 1 0 2 7 1 1"
+    );
+}
+
+#[test]
+fn m9_the_search_begins_again_at_the_root() {
+    // Numbers under 4 fall by 1 down to 1. The search goes three times over
+    // three numbers: 5 5 3, 5 5 2, 5 5 1.
+    let texts = [RuleText {
+        target: 2,
+        reach: 2,
+        pattern: &[(64, 2)],
+        parts: &[
+            construct(2, &[(2, 4)]),
+            condition(&[(66, 1), (1, 0), (1_009, 1), (65, 0)]),
+            construct(2, &[(2, 1)]),
+            not_condition(&[(66, 0), (1, 0), (1_008, 1), (65, 2)]),
+        ],
+        replacement: &[(66, 0), (1, 0), (1_001, 1), (65, 2)],
+        ..NONE
+    }];
+    assert_eq!(
+        on_list(99, &texts, &list(&[5, 5, 3])),
+        "done 9 2 16\n0 0 1 0 2 5 1 0 2 5 1 0 2 1 1 1"
+    );
+}
+
+#[test]
+fn m10_the_same_tree_is_equal_wherever_it_stands() {
+    let texts = [RuleText {
+        target: 1,
+        reach: 1,
+        pattern: &[(1, 0), (64, 2), (1, 0), (65, 0), (64, 1)],
+        replacement: &[(65, 1)],
+        ..NONE
+    }];
+    assert_eq!(
+        on_list(9, &texts, &list(&[4, 5, 5, 6])),
+        "done 2 1 12\n0 0 1 0 2 4 1 0 2 6 1 1"
+    );
+}
+
+#[test]
+fn m11_an_application_without_match_leaves_the_copy() {
+    let on_number = |from: &'static [(u32, u32)], to: &'static [(u32, u32)]| RuleText {
+        target: 2,
+        pattern: from,
+        replacement: to,
+        ..NONE
+    };
+    let texts = [
+        RuleText {
+            target: 2,
+            reach: 1,
+            pattern: &[(64, 2)],
+            replacement: &[(66, 0), (2, 0), (1, 0), (2, 0)],
+            ..NONE
+        },
+        on_number(&[(2, 1)], &[(2, 2)]),
+        on_number(&[(2, 5)], &[(2, 6)]),
+    ];
+    assert_eq!(
+        on_list(9, &texts, &list(&[5])),
+        "done 3 1 8\n0 0 1 0 2 6 1 1"
+    );
+}
+
+#[test]
+fn m12_a_condition_ends_at_its_first_match() {
+    let main = RuleText {
+        parts: &[condition(&[(66, 0), (1, 0), (1, 0)])],
+        replacement: &[(0, 0), (1, 1)],
+        ..WHOLE
+    };
+    let condition_rule = RuleText {
+        target: 2,
+        reach: 2,
+        pattern: &[(2, 5)],
+        ..NONE
+    };
+    let rewriting = RuleText {
+        replacement: &[(2, 5)],
+        ..condition_rule
+    };
+    let tree = list(&[4, 5, 5]);
+    assert_eq!(
+        line(GRAMMAR, 9, &[RuleText { ..main }, condition_rule], &tree),
+        "done 3 1 4"
+    );
+    assert_eq!(line(GRAMMAR, 9, &[main, rewriting], &tree), "done 3 1 4");
+}
+
+#[test]
+fn m13_operations_and_searching_parts_are_no_attempts() {
+    let texts = [RuleText {
+        parts: &[
+            search(2, 0, &[(2, 500)]),
+            construct(2, &[(2, 3)]),
+            condition(&[(66, 1), (1, 0), (1_008, 1), (65, 1)]),
+        ],
+        replacement: &[(0, 0), (1, 0), (66, 1), (1, 0), (1_004, 0), (1, 1)],
+        ..WHOLE
+    }];
+    assert_eq!(on_list(1, &texts, TREE), "done 1 1 8\n0 0 1 0 2 0 1 1");
+}
+
+#[test]
+fn h1_putting_in_place_never_raises_live_nodes() {
+    let texts = [RuleText {
+        replacement: &[(65, 0)],
+        ..WHOLE
+    }];
+    let great = list_of_nodes(2_048);
+    assert_eq!(line(GRAMMAR, 9, &texts, &great), "done 1 1 4096");
+}
+
+#[test]
+fn h2_a_parameter_counts_once() {
+    let texts = [
+        RuleText {
+            replacement: &[(66, 0), (1, 0), (1, 1), (65, 0)],
+            ..WHOLE
+        },
+        RuleText {
+            parameters: &[0],
+            replacement: &[(65, 0)],
+            ..ON_EMPTY
+        },
+    ];
+    // Scope, variable, copy and argument: 4 x 1,536 = 6,144.
+    let with = |nodes| line(GRAMMAR, 9, &texts, &list_of_nodes(nodes));
+    assert_eq!(with(1_536), "done 2 1 3072");
+    assert_eq!(with(1_538), "stopped 44 1 0 3076");
+}
+
+#[test]
+fn h3_the_copy_comes_before_the_call() {
+    let endless = RuleText {
+        replacement: &[(66, 0), (1, 0), (0, 0)],
+        ..WHOLE
+    };
+    // The 32nd call has 64 trees live when bound, and then copies one more.
+    let with = |nodes| {
+        let texts = [RuleText { ..endless }];
+        line(GRAMMAR, 99, &texts, &list_of_nodes(nodes))
+    };
+    assert_eq!(with(96), "stopped 44 32 0 192");
+    assert_eq!(with(94), "stopped 41 32 0 188");
+}
+
+#[test]
+fn h4_42_for_a_chain_is_judged_at_the_move() {
+    let main = RuleText {
+        replacement: &[(0, 2), (65, 0), (0, 2), (65, 0), (66, 0), (1, 0), (1, 0)],
+        ..WHOLE
+    };
+    let shrinking = RuleText {
+        replacement: &[(0, 1), (1, 1)],
+        ..WHOLE
+    };
+    let idle = RuleText {
+        pattern: &[(0, 0), (64, 0)],
+        replacement: &[(65, 0)],
+        ..NONE
+    };
+    // 1 + 900 + 1 + 900 nodes are under way when 900 are copied.
+    let tree = deep(0, 449);
+    assert_eq!(
+        line(DEEP, 9, &[RuleText { ..main }, shrinking], &tree),
+        "done 2 1 3608"
+    );
+    assert_eq!(line(DEEP, 9, &[main, idle], &tree), "stopped 42 2 0 1800");
+}
+
+#[test]
+fn h5_the_copy_of_a_test_is_live_till_the_test_ends() {
+    let test = not_condition(&[(66, 0), (1, 0), (1, 0)]);
+    let twice = [
+        RuleText {
+            parts: &[test.clone(), test],
+            replacement: &[(65, 0)],
+            ..WHOLE
+        },
+        ON_EMPTY,
+    ];
+    let great = list_of_nodes(2_048);
+    assert_eq!(line(GRAMMAR, 9, &twice, &great), "done 3 1 4096");
+    // With operations only: 2,048 + 2,047 + numbers + 2,047 are live, then the
+    // copy of a number. The last part always fails.
+    let with = |numbers: usize| {
+        let mut parts = vec![construct(2, &[(2, 5)]); numbers];
+        parts.push(construct(1, &[(65, 0)]));
+        parts.push(condition(&[(66, 1), (1, 0), (1_008, 1), (65, 1)]));
+        parts.push(deconstruct(1, &[(2, 6)]));
+        let texts = [RuleText {
+            pattern: &[(0, 0), (64, 1)],
+            parts: &parts,
+            replacement: &[(0, 0), (1, 1)],
+            ..NONE
+        }];
+        line(GRAMMAR, 9, &texts, &great)
+    };
+    assert_eq!(with(1), "done 1 0 4096");
+    assert_eq!(with(2), "stopped 44 1 0 4096");
+}
+
+#[test]
+fn h6_arguments_count_each_and_in_one_step_with_the_call() {
+    let application = [(1, 2), (65, 0), (65, 0)];
+    let chain = [&[(66, 0), (2, 0)], &application[..], &application[..]].concat();
+    let texts = [
+        RuleText {
+            replacement: &chain,
+            ..WHOLE
+        },
+        RuleText {
+            parameters: &[0, 0],
+            replacement: &[(65, 0)],
+            ..ON_EMPTY
+        },
+    ];
+    // Scope, variable, copy and twice the argument, for each application.
+    let with = |nodes| line(GRAMMAR, 9, &texts, &list_of_nodes(nodes));
+    assert_eq!(with(1_228), "done 3 1 2456");
+    assert_eq!(with(1_230), "stopped 44 1 0 2460");
+    // The 33rd call would have 97 trees of 64 nodes live: 41 is lower.
+    let endless = [
+        RuleText {
+            replacement: &[(66, 0), (1, 0), (1, 1), (65, 0)],
+            ..WHOLE
+        },
+        RuleText {
+            parameters: &[0],
+            replacement: &[(66, 1), (1, 0), (1, 1), (65, 0)],
+            ..WHOLE
+        },
+    ];
+    assert_eq!(
+        line(GRAMMAR, 99, &endless, &list_of_nodes(64)),
+        "stopped 41 32 0 128"
+    );
+}
+
+#[test]
+fn h7_an_operation_holds_nothing_more() {
+    // 2,048 + 2,047 + 1 + 2,047 are live, then the copy: 6,144. The last part
+    // always fails.
+    let with = |number| {
+        let texts = [RuleText {
+            pattern: &[(0, 0), (64, 1)],
+            parts: &[
+                construct(2, &[(2, number)]),
+                construct(1, &[(65, 0)]),
+                construct(2, &[(66, 1), (1, 0), (1_004, 0)]),
+                deconstruct(3, &[(2, 1)]),
+            ],
+            replacement: &[(0, 0), (1, 1)],
+            ..NONE
+        }];
+        line(GRAMMAR, 9, &texts, &list_of_nodes(2_048))
+    };
+    assert_eq!(with(250), "done 1 0 4096");
+    assert_eq!(with(999_999_950), "stopped 45 1 0 4096");
+}
+
+#[test]
+fn h8_open_calls() {
+    let tree = |numbers| list(&vec![5; numbers]);
+    // A sequence of 31 takes 32 calls, the last on the empty rest.
+    assert_eq!(line(GRAMMAR, 99, &[RECURSIVE], &tree(31)), "done 32 1 128");
+    assert_eq!(
+        line(GRAMMAR, 99, &[RECURSIVE], &tree(32)),
+        "stopped 41 32 0 132"
+    );
+    // An operation in the 32nd call is no call: it gives 45, not 41.
+    let rounding = RuleText {
+        parts: &[construct(2, &[(66, 0), (1, 0), (1_004, 0)])],
+        ..RECURSIVE
+    };
+    let mut numbers = vec![5; 31];
+    numbers.push(999_999_950);
+    assert_eq!(
+        line(GRAMMAR, 99, &[rounding], &list(&numbers)),
+        "stopped 45 32 0 132"
+    );
+    // Calls of tests are nested calls too.
+    let testing = RuleText {
+        parts: &[condition(&[(66, 0), (1, 0), (0, 0)])],
+        replacement: &[(65, 0)],
+        ..WHOLE
+    };
+    assert_eq!(
+        line(GRAMMAR, 99, &[testing], &[0, 0, 1, 1]),
+        "stopped 41 32 0 4"
+    );
+}
+
+#[test]
+fn h9_nesting_is_judged_after_the_last_pair() {
+    // Nesting 64, 2,001 nodes.
+    let tree = deep(61, 969);
+    let deeper = RuleText {
+        replacement: &[(0, 0), (65, 0)],
+        ..WHOLE
+    };
+    let holding_more = RuleText {
+        parts: &[construct(0, &[(65, 0)])],
+        ..deeper
+    };
+    assert_eq!(line(DEEP, 9, &[deeper], &tree), "stopped 43 1 0 4002");
+    assert_eq!(line(DEEP, 9, &[holding_more], &tree), "stopped 44 1 0 4002");
+}
+
+/// A tree of `DEEP`: two trees, one deep and one long. It has
+/// levels + 2 x numbers + 5 nodes.
+fn two(levels: usize, numbers: usize) -> Vec<u32> {
+    [vec![0, 2], deep(levels, 0), deep(0, numbers)].concat()
+}
+
+/// Makes the first tree under form 2 two levels deeper: its own nesting is
+/// then levels + 4.
+const DEEPEN_FIRST: RuleText = RuleText {
+    target: 0,
+    reach: 1,
+    pattern: &[(0, 0), (64, 0)],
+    replacement: &[(0, 0), (0, 0), (0, 0), (65, 0)],
+    ..NONE
+};
+
+#[test]
+fn h10_43_of_the_finished_tree_comes_before_42_in_place() {
+    assert_eq!(
+        line(DEEP, 9, &[DEEPEN_FIRST], &two(61, 991)),
+        "stopped 43 2 0 4096"
+    );
+}
+
+#[test]
+fn h11_nesting_of_a_moved_tree_is_judged_when_the_tree_above_is_finished() {
+    // Root 0 is `form 0: [0]`, `form 1: [number]` or `form 2: [0, 0]`.
+    let grammar = [3, 8, 3, 1, 0, 1, 2, 2, 0, 0, 4, 2, 1, 2];
+    let tree = [[0, 0].repeat(62), vec![0, 1, 2, 0]].concat();
+    let idle = RuleText {
+        pattern: &[(0, 1), (64, 2)],
+        replacement: &[(0, 1), (65, 0)],
+        ..NONE
+    };
+    let with = |replacement: &[(u32, u32)]| {
+        let main = RuleText {
+            parts: &[search(2, 0, &[(64, 2)])],
+            replacement,
+            ..WHOLE
+        };
+        line(&grammar, 9, &[main, RuleText { ..idle }], &tree)
+    };
+    let moved = [(0, 2), (66, 0), (1, 0), (1, 0), (0, 1)];
+    let divided = [(66, 1), (1, 0), (1_002, 1), (65, 1)];
+    assert_eq!(with(&[&moved[..], &divided].concat()), "stopped 45 2 0 128");
+    assert_eq!(
+        with(&[&moved[..], &[(65, 1)]].concat()),
+        "stopped 43 2 0 128"
+    );
+    assert_eq!(
+        with(&[&[(0, 2), (65, 0), (0, 1)], &divided[..]].concat()),
+        "stopped 45 1 0 128"
+    );
+}
+
+#[test]
+fn h12_42_in_place_counts_the_scope_as_it_would_be() {
+    let texts = [RuleText {
+        target: 2,
+        reach: 1,
+        pattern: &[(2, 5)],
+        replacement: &[(2, 6)],
+        ..NONE
+    }];
+    let great = list_of_nodes(2_048);
+    assert_eq!(line(GRAMMAR, 9, &texts, &great), "done 1 1 4096");
+    // One number more in the sequence is 2,050 nodes.
+    let growing = [RuleText {
+        target: 1,
+        reach: 1,
+        pattern: &[(64, 1)],
+        replacement: &[(1, 0), (2, 5), (65, 0)],
+        ..NONE
+    }];
+    let with = |nodes| line(GRAMMAR, 9, &growing, &list_of_nodes(nodes));
+    assert_eq!(with(2_046), "done 1 1 4096");
+    assert_eq!(with(2_048), "stopped 42 1 0 4096");
+}
+
+#[test]
+fn h13_in_place_42_comes_before_43() {
+    let with = |levels, numbers| line(DEEP, 9, &[DEEPEN_FIRST], &two(levels, numbers));
+    assert_eq!(with(60, 991), "stopped 42 2 0 4094");
+    assert_eq!(with(60, 10), "stopped 43 2 0 170");
+    assert_eq!(with(59, 10), "done 2 1 172");
+}
+
+#[test]
+fn h14_nesting_in_place_is_counted_in_the_calls_own_scope() {
+    let levels = |count, end: &[(u32, u32)]| [&vec![(0, 0); count], end].concat();
+    let with = |chain: &[(u32, u32)]| {
+        let main = levels(60, chain);
+        let deepening = levels(10, &[(65, 0)]);
+        let texts = [
+            RuleText {
+                replacement: &main,
+                ..WHOLE
+            },
+            RuleText {
+                replacement: &deepening,
+                ..WHOLE
+            },
+            RuleText {
+                replacement: &[(0, 1), (1, 1)],
+                ..WHOLE
+            },
+        ];
+        line(DEEP, 9, &texts, &[0, 1, 1, 1])
+    };
+    assert_eq!(with(&[(66, 0), (2, 0), (1, 0), (2, 0)]), "done 3 1 124");
+    assert_eq!(with(&[(66, 0), (1, 0), (1, 0)]), "stopped 43 2 0 4");
+    // The place keeps its nesting as the rest of a sequence: the tenth rest
+    // of a sequence of itself has nesting 1 and may get nesting 64.
+    let tree = [[0, 0, 0, 1].repeat(10), vec![0, 1]].concat();
+    let deepest = [vec![(0, 0); 63], vec![(0, 1); 64]].concat();
+    let texts = [RuleText {
+        target: 0,
+        reach: 1,
+        pattern: &[(0, 0), (0, 1), (0, 1)],
+        replacement: &deepest,
+        ..NONE
+    }];
+    assert_eq!(line(&[1, 4, 0], 99, &texts, &tree), "done 19 1 290");
+}
+
+#[test]
+fn h15_a_construct_is_judged_though_never_used() {
+    let texts = [RuleText {
+        parts: &[construct(0, &[(0, 0), (65, 0)])],
+        replacement: &[(65, 0)],
+        ..WHOLE
+    }];
+    assert_eq!(line(DEEP, 9, &texts, &deep(61, 1)), "stopped 43 1 0 130");
+    assert_eq!(line(DEEP, 9, &texts, &deep(60, 1)), "done 1 1 128");
+}
+
+#[test]
+fn h16_one_step_over_42_and_44_gives_42() {
+    // A copy: 1 + 2,048 nodes, and 6,145 live.
+    let copying = [RuleText {
+        replacement: &[(0, 0), (65, 0)],
+        ..WHOLE
+    }];
+    assert_eq!(
+        line(DEEP, 9, &copying, &deep(0, 1_023)),
+        "stopped 42 1 0 4096"
+    );
+    // A written node: the 2,049th, and the 6,145th live one.
+    let writing = [RuleText {
+        parts: &vec![construct(2, &[(2, 1)]); 4],
+        replacement: &[(0, 2), (65, 0), (0, 1), (1, 1)],
+        ..WHOLE
+    }];
+    assert_eq!(
+        line(DEEP, 9, &writing, &deep(0, 1_022)),
+        "stopped 42 1 0 4092"
+    );
+}
+
+#[test]
+fn h17_42_holds_for_trees_under_way() {
+    let texts = [RuleText {
+        parts: &[construct(0, &[(0, 2), (65, 0), (65, 0)])],
+        replacement: &[(65, 0)],
+        ..WHOLE
+    }];
+    let with = |numbers| line(DEEP, 9, &texts, &deep(0, numbers));
+    assert_eq!(with(749), "stopped 42 1 0 3000");
+    assert_eq!(with(510), "done 1 1 2044");
+}
+
+#[test]
+fn h18_a_failed_attempt_lets_go_of_its_variables() {
+    let texts = [RuleText {
+        target: 1,
+        reach: 1,
+        pattern: &[(1, 0), (64, 2), (64, 1)],
+        parts: &[construct(2, &[(65, 0)]), deconstruct(0, &[(2, 9)])],
+        replacement: &[(1, 1)],
+        ..NONE
+    }];
+    let great = list_of_nodes(2_048);
+    assert_eq!(line(GRAMMAR, 2_000, &texts, &great), "done 1024 0 4096");
+}
+
+/// What one number and an operation with another as argument give.
+fn operate(operation: u32, scope: u32, argument: u32) -> String {
+    let texts = [RuleText {
+        target: 1,
+        reach: 1,
+        pattern: &[(1, 0), (64, 2), (1, 0), (64, 2), (64, 1)],
+        replacement: &[(1, 0), (66, 0), (1, 0), (operation, 1), (65, 1), (65, 2)],
+        ..NONE
+    }];
+    result(&on_list(9, &texts, &list(&[scope, argument])))
+}
+
+/// What one number and an operation without argument give.
+fn operate_alone(operation: u32, scope: u32) -> String {
+    let texts = [RuleText {
+        target: 2,
+        reach: 1,
+        pattern: &[(64, 2)],
+        replacement: &[(66, 0), (1, 0), (operation, 0)],
+        ..NONE
+    }];
+    result(&on_list(9, &texts, &list(&[scope])))
+}
+
+/// The only number of a list, or the stop.
+fn result(text: &str) -> String {
+    let one_number = text
+        .strip_prefix("done 1 1 8\n0 0 1 0 2 ")
+        .and_then(|rest| rest.strip_suffix(" 1 1"));
+    match one_number {
+        Some(number) => number.to_string(),
+        None => text.split(' ').take(2).collect::<Vec<_>>().join(" "),
+    }
+}
+
+#[test]
+fn o1_quotient_and_remainder() {
+    assert_eq!(operate(1_003, 250, 120), "10");
+    assert_eq!(operate(1_003, 999_999_999, 1), "0");
+    assert_eq!(operate(1_002, 1_000, 300), "300");
+    assert_eq!(operate(1_002, 299, 300), "0");
+    assert_eq!(operate(1_002, 9_999_999, 1), "999999900");
+    assert_eq!(operate(1_002, 10_000_000, 1), "stopped 45");
+    assert_eq!(operate(1_002, 999_999_999, 1), "stopped 45");
+}
+
+#[test]
+fn o2_round_and_truncate() {
+    for (scope, rounded) in [(0, "0"), (49, "0"), (50, "100"), (149, "100")] {
+        assert_eq!(operate_alone(1_004, scope), rounded);
+    }
+    assert_eq!(operate_alone(1_004, 999_999_949), "999999900");
+    assert_eq!(operate_alone(1_004, 999_999_950), "stopped 45");
+    assert_eq!(operate_alone(1_005, 99), "0");
+    assert_eq!(operate_alone(1_005, 199), "100");
+    assert_eq!(operate_alone(1_005, 999_999_999), "999999900");
+}
+
+#[test]
+fn o3_divisor_0_and_results_out_of_range() {
+    for operation in [1_002, 1_003] {
+        assert_eq!(operate(operation, 500, 0), "stopped 45");
+        assert_eq!(operate(operation, 0, 0), "stopped 45");
+        assert_eq!(operate(operation, 0, 1), "0");
+    }
+    assert_eq!(operate(1_000, 999_999_998, 1), "999999999");
+    assert_eq!(operate(1_000, 999_999_999, 1), "stopped 45");
+    assert_eq!(operate(1_001, 5, 5), "0");
+    assert_eq!(operate(1_001, 5, 6), "stopped 45");
+}
+
+#[test]
+fn o4_number_types_may_differ() {
+    let grammar = [3, 8, 1, 2, 1, 2, 1, 2, 1, 2];
+    let adding = [RuleText {
+        pattern: &[(0, 0), (64, 1), (64, 2)],
+        replacement: &[(0, 0), (66, 0), (1, 0), (1_000, 1), (65, 1), (65, 1)],
+        ..NONE
+    }];
+    assert_eq!(
+        on(&grammar, 9, &adding, &[0, 0, 1, 250, 2, 120]),
+        "done 1 1 6\n0 0 1 370 2 120"
+    );
+    let compare = |operation, one, two| {
+        let texts = [RuleText {
+            pattern: &[(0, 0), (64, 1), (64, 2)],
+            parts: &[condition(&[(66, 0), (1, 0), (operation, 1), (65, 1)])],
+            replacement: &[(0, 0), (1, 1), (2, 1)],
+            ..NONE
+        }];
+        line(&grammar, 9, &texts, &[0, 0, 1, one, 2, two]) == "done 1 1 6"
+    };
+    assert!(compare(1_008, 5, 5) && !compare(1_008, 5, 6));
+    assert!(compare(1_009, 6, 5) && !compare(1_009, 5, 5) && !compare(1_009, 5, 6));
+}
+
+#[test]
+fn a1_without_a_replacement_the_result_is_the_tree() {
+    assert_eq!(
+        bench(9, GRAMMAR, RULES, &list(&[7, 8])),
+        "done 2 0 12\n0 0 1 0 2 7 1 0 2 8 1 1"
+    );
+}
+
+#[test]
+fn a2_a_stop_leaves_the_last_replacement() {
+    let texts = [RuleText {
+        target: 1,
+        reach: 2,
+        pattern: &[(1, 0), (64, 2), (1, 0), (64, 2), (64, 1)],
+        replacement: &[(1, 0), (66, 0), (1, 0), (1_001, 1), (65, 1), (65, 2)],
+        ..NONE
+    }];
+    assert_eq!(
+        on_list(9, &texts, &list(&[10, 3, 9])),
+        "stopped 45 2 1 12\n0 0 1 0 2 7 1 0 2 9 1 1"
+    );
+}
+
+#[test]
+fn a3_the_attempt_of_a_stop_is_counted_and_one_not_started_is_not() {
+    assert_eq!(first_line(2, GRAMMAR, RULES, TREE), "stopped 40 2 1 12");
+    assert_eq!(operate(1_001, 5, 6), "stopped 45");
+    // The stop of the second replacement above falls in attempt 2; here in 1.
+    let texts = [RuleText {
+        target: 2,
+        reach: 1,
+        pattern: &[(64, 2)],
+        replacement: &[(66, 0), (1, 0), (1_001, 1), (65, 0)],
+        ..NONE
+    }];
+    assert_eq!(line(GRAMMAR, 1, &texts, TREE), "done 1 1 12");
+    let stopping = [RuleText {
+        replacement: &[(66, 0), (1, 0), (1_002, 1), (65, 0)],
+        target: 2,
+        reach: 1,
+        pattern: &[(64, 2)],
+        ..NONE
+    }];
+    assert_eq!(line(GRAMMAR, 1, &stopping, &list(&[0])), "stopped 45 1 0 8");
+}

@@ -1,0 +1,84 @@
+//! Times the proved functions and the reference on the same inputs in one run
+//! and prints a table: the median of many runs of each, and their ratio.
+
+use std::hint::black_box;
+use std::time::Instant;
+
+use generate::Random;
+
+fn main() {
+    println!("| check | input | words | proved ns | reference ns | ratio |");
+    println!("|---|---|---|---|---|---|");
+    for (name, grammar) in grammars() {
+        let times = times(
+            || _ = black_box(tamarind::check_grammar(black_box(&grammar))),
+            || _ = black_box(reference::check_grammar(black_box(&grammar))),
+        );
+        print_row("grammar", name, grammar.len(), times);
+    }
+}
+
+fn print_row(check: &str, input: &str, words: usize, (proved, reference): (f64, f64)) {
+    let ratio = proved / reference;
+    println!("| {check} | {input} | {words} | {proved:.0} | {reference:.0} | {ratio:.2} |");
+}
+
+/// The median times of two functions in nanoseconds, measured in turn.
+fn times(mut proved: impl FnMut(), mut reference: impl FnMut()) -> (f64, f64) {
+    const SAMPLES: usize = 201;
+    let calls = calls_in_a_sample(&mut reference);
+    let (mut ours, mut theirs) = (Vec::new(), Vec::new());
+    for _ in 0..SAMPLES {
+        ours.push(time(calls, &mut proved));
+        theirs.push(time(calls, &mut reference));
+    }
+    (median(ours), median(theirs))
+}
+
+/// As many calls as take about 20 microseconds.
+fn calls_in_a_sample(function: &mut impl FnMut()) -> u32 {
+    let one = time(8, function).max(1.0);
+    (20_000.0 / one).clamp(1.0, 2_000.0) as u32
+}
+
+fn time(calls: u32, function: &mut impl FnMut()) -> f64 {
+    let start = Instant::now();
+    for _ in 0..calls {
+        function();
+    }
+    start.elapsed().as_nanos() as f64 / f64::from(calls)
+}
+
+fn median(mut times: Vec<f64>) -> f64 {
+    times.sort_by(f64::total_cmp);
+    times[times.len() / 2]
+}
+
+/// The paper's grammar, a chain of types each finished only by the next, and a
+/// large grammar with many forms.
+fn grammars() -> Vec<(&'static str, Vec<u32>)> {
+    let paper = vec![3, 8, 1, 1, 1, 4, 2, 1, 2];
+    let mut chain = vec![64];
+    for next in 1..64 {
+        chain.extend([8, 1, 1, next]);
+    }
+    chain.extend([1, 1]);
+    let mut random = Random::new(1);
+    let mut large = vec![64];
+    for _ in 0..63 {
+        large.extend([8, 8]);
+        for _ in 0..8 {
+            large.push(6);
+            large.extend((0..6).map(|_| random.below(64) as u32));
+        }
+    }
+    large.extend([1, 2]);
+    let mut refused = large.clone();
+    *refused.last_mut().expect("it has words") = 4;
+    vec![
+        ("the paper's", paper),
+        ("a chain of 64 types", chain),
+        ("64 types of 8 forms", large),
+        ("the same, refused at its last word", refused),
+    ]
+}

@@ -1,0 +1,17 @@
+/* Calls the checks from C and prints each answer. */
+#include "tamarind.h"
+
+#include <stdio.h>
+
+static void print(tamarind_answer answer) {
+    printf("%u %llu\n", (unsigned)answer.number, (unsigned long long)answer.position);
+}
+
+int main(void) {
+    const uint32_t grammar[] = {3, 8, 1, 1, 1, 4, 2, 1, 2};
+    const uint32_t endless[] = {1, 8, 1, 1, 0};
+    print(tamarind_check_grammar(grammar, 9));
+    print(tamarind_check_grammar(grammar, 8));
+    print(tamarind_check_grammar(endless, 5));
+    return 0;
+}

@@ -1,0 +1,23 @@
+//! A C program compiles against the header, links the archive and runs.
+
+use std::path::Path;
+use std::process::Command;
+
+#[test]
+fn a_c_program_links_and_runs() {
+    let here = Path::new(env!("CARGO_MANIFEST_DIR"));
+    let program = Path::new(env!("CARGO_TARGET_TMPDIR")).join("check");
+    let compiled = Command::new("gcc")
+        .args(["-std=c99", "-Wall", "-Wextra", "-Werror", "-pedantic", "-o"])
+        .arg(&program)
+        .arg("-I")
+        .arg(here.join("../../include"))
+        .arg(here.join("tests/check.c"))
+        .arg(here.join("../../target/staticlib/libtamarind.a"))
+        .status()
+        .expect("gcc runs");
+    assert!(compiled.success());
+    let output = Command::new(&program).output().expect("the program runs");
+    let printed = String::from_utf8(output.stdout).expect("text");
+    assert_eq!(printed, "0 0\n10 8\n12 1\n");
+}
