@@ -23,6 +23,10 @@ typedef struct {
 /* Checks a grammar: refusals 4, 10, 11 and 12. */
 tamarind_answer tamarind_check_grammar(const uint32_t *grammar, size_t grammar_len);
 
+/* Checks a tree against a grammar: refusals 4, 10 to 12, then 30 to 33. */
+tamarind_answer tamarind_check_tree(const uint32_t *grammar, size_t grammar_len,
+                                    const uint32_t *tree, size_t tree_len);
+
 #ifdef __cplusplus
 }
 #endif

@@ -1,4 +1,4 @@
-// Runs the check of a grammar on document 01's grammars and on damaged ones, and prints each answer on a line.
+// Runs the checks of a grammar and of a tree on document 01's examples and on damaged ones, and prints each answer on a line.
 use words::Check;
 
 // `accepted`, or `refused`, the number and the position.
@@ -41,7 +41,39 @@ fn others() {
     check_grammar(&long);
 }
 
+// A tree of the paper's grammar.
+fn check_tree(ws: &[u32]) {
+    let c = tree::check_tree(&[3, 8, 1, 1, 1, 4, 2, 1, 2], ws);
+    print_answer(c);
+}
+
+// The paper's trees, and its variants of them.
+fn trees() {
+    check_tree(&[0, 0, 1, 0, 2, 200, 1, 0, 2, 500, 1, 1]);
+    check_tree(&[0, 0, 1, 1]);
+    check_tree(&[0, 0]);
+    check_tree(&[0, 0, 1, 0, 2, 200, 1, 0, 2, 500, 1, 1, 1, 1]);
+    check_tree(&[0, 0, 1, 0, 2, 999999999, 1, 1]);
+    check_tree(&[0, 0, 1, 0, 2, 1000000000, 1, 1]);
+    check_tree(&[0, 0, 1, 2]);
+    check_tree(&[]);
+}
+
+// Opt in opt: a tree of 64 nodes is as deep as a tree may be, one of 65 is deeper.
+fn nested() {
+    let mut ws = [0u32; 128];
+    ws[127] = 1;
+    let c = tree::check_tree(&[1, 2, 0], &ws);
+    print_answer(c);
+    let mut deeper = [0u32; 130];
+    deeper[129] = 1;
+    let d = tree::check_tree(&[1, 2, 0], &deeper);
+    print_answer(d);
+}
+
 fn main() {
     paper();
     others();
+    trees();
+    nested();
 }

@@ -11,11 +11,18 @@ pub type Answer = Result<(), (u32, usize)>;
 /// A single check, by both cores.
 type Check = (&'static str, fn(&Input) -> Answer, fn(&Input) -> Answer);
 
-const CHECKS: [Check; 1] = [(
-    "grammar",
-    |input| proved(tamarind::check_grammar(&input.grammar)),
-    |input| reference(reference::check_grammar(&input.grammar)),
-)];
+const CHECKS: [Check; 2] = [
+    (
+        "grammar",
+        |input| proved(tamarind::check_grammar(&input.grammar)),
+        |input| reference(reference::check_grammar(&input.grammar)),
+    ),
+    (
+        "tree",
+        |input| proved(tamarind::check_tree(&input.grammar, &input.tree)),
+        |input| reference(reference::check_tree(&input.grammar, &input.tree)),
+    ),
+];
 
 fn proved(result: Result<(), tamarind::Refusal>) -> Answer {
     result.map_err(|refusal| (refusal.number, refusal.position))

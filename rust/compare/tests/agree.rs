@@ -16,7 +16,7 @@ fn the_checks_agree_number_and_position() {
         }
     }
     println!("{INPUTS} inputs agree; answers by number: {counts:?}");
-    for number in [4, 10, 11, 12] {
+    for number in [4, 10, 11, 12, 30, 31, 32, 33] {
         let count = counts.get(&number).copied().unwrap_or(0);
         assert!(count >= LEAST, "refusal {number} is given {count} times");
     }

@@ -16,6 +16,13 @@ fn main() {
         );
         print_row("grammar", name, grammar.len(), times);
     }
+    for (name, grammar, tree) in trees() {
+        let times = times(
+            || _ = black_box(tamarind::check_tree(black_box(&grammar), black_box(&tree))),
+            || _ = black_box(reference::check_tree(black_box(&grammar), black_box(&tree))),
+        );
+        print_row("tree", name, tree.len(), times);
+    }
 }
 
 fn print_row(check: &str, input: &str, words: usize, (proved, reference): (f64, f64)) {
@@ -81,4 +88,38 @@ fn grammars() -> Vec<(&'static str, Vec<u32>)> {
         ("64 types of 8 forms", large),
         ("the same, refused at its last word", refused),
     ]
+}
+
+/// A grammar and a tree of it: small, a sequence of 1,023 elements, 1,535 nodes
+/// in forms of two children, and nesting 64.
+fn trees() -> Vec<(&'static str, Vec<u32>, Vec<u32>)> {
+    let numbers = vec![3, 8, 1, 1, 1, 4, 2, 1, 2];
+    let small = vec![0, 0, 1, 0, 2, 200, 1, 0, 2, 500, 1, 1];
+    let mut long = vec![0, 0];
+    for value in 0..1_023 {
+        long.extend([1, 0, 2, value]);
+    }
+    long.extend([1, 1]);
+    // Form 0 is a name, form 1 two trees: a full tree of ten levels.
+    let pairs = vec![2, 8, 2, 1, 1, 2, 0, 0, 1, 1];
+    let full = full_tree(9);
+    // An opt of itself.
+    let opts = vec![1, 2, 0];
+    let mut deep = vec![0; 128];
+    deep[127] = 1;
+    vec![
+        ("the paper's", numbers.clone(), small),
+        ("a sequence of 1,023 elements", numbers, long),
+        ("a full tree of two children a node", pairs, full),
+        ("nesting 64", opts, deep),
+    ]
+}
+
+/// A tree with so many levels of two children below its root.
+fn full_tree(levels: u32) -> Vec<u32> {
+    if levels == 0 {
+        return vec![0, 0, 1, 7];
+    }
+    let half = full_tree(levels - 1);
+    [&[0, 1], half.as_slice(), half.as_slice()].concat()
 }

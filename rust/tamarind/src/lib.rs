@@ -55,6 +55,15 @@ pub fn check_grammar(grammar: &[u32]) -> Result<(), Refusal> {
     answer.into()
 }
 
+/// Checks a tree against a grammar (refusals 4, 10 to 12, 30 to 33).
+pub fn check_tree(grammar: &[u32], tree: &[u32]) -> Result<(), Refusal> {
+    // SAFETY: as above, both slices.
+    let answer = unsafe {
+        foreign::tamarind_check_tree(grammar.as_ptr(), grammar.len(), tree.as_ptr(), tree.len())
+    };
+    answer.into()
+}
+
 /// The exported functions. A Rattle slice is a pointer and then a length.
 mod foreign {
     use super::Refusal;
@@ -79,5 +88,11 @@ mod foreign {
 
     extern "C" {
         pub fn tamarind_check_grammar(grammar: *const u32, grammar_len: usize) -> Answer;
+        pub fn tamarind_check_tree(
+            grammar: *const u32,
+            grammar_len: usize,
+            tree: *const u32,
+            tree_len: usize,
+        ) -> Answer;
     }
 }

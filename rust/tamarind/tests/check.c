@@ -13,5 +13,9 @@ int main(void) {
     print(tamarind_check_grammar(grammar, 9));
     print(tamarind_check_grammar(grammar, 8));
     print(tamarind_check_grammar(endless, 5));
+    const uint32_t tree[] = {0, 0, 1, 0, 2, 200, 1, 0, 2, 500, 1, 1};
+    print(tamarind_check_tree(grammar, 9, tree, 12));
+    print(tamarind_check_tree(grammar, 9, tree, 2));
+    print(tamarind_check_tree(endless, 5, tree, 12));
     return 0;
 }

@@ -1,6 +1,6 @@
 //! The wrappers on the paper's examples.
 
-use tamarind::{check_grammar, Refusal};
+use tamarind::{check_grammar, check_tree, Refusal};
 
 const GRAMMAR: [u32; 9] = [3, 8, 1, 1, 1, 4, 2, 1, 2];
 
@@ -28,4 +28,15 @@ fn no_words_are_refused_not_read() {
         position: 0,
     };
     assert_eq!(check_grammar(&[]), Err(expected));
+}
+
+#[test]
+fn the_papers_tree_passes_and_its_first_node_alone_ends_early() {
+    let tree = [0, 0, 1, 0, 2, 200, 1, 0, 2, 500, 1, 1];
+    assert_eq!(check_tree(&GRAMMAR, &tree), Ok(()));
+    let expected = Refusal {
+        number: 31,
+        position: 2,
+    };
+    assert_eq!(check_tree(&GRAMMAR, &tree[..2]), Err(expected));
 }

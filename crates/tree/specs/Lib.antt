@@ -1,0 +1,7 @@
+pub mod Limits
+pub mod Tree
+pub mod Forest
+pub mod Dues
+pub mod Reading
+pub mod Views
+pub mod Cases

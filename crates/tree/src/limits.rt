@@ -1,0 +1,6 @@
+// The limits of a tree, each named once.
+
+// Words of a tree, two a node.
+pub const MOST_WORDS: usize = 4096;
+
+pub const MOST_NESTING: usize = 64;
