@@ -3,3 +3,8 @@ pub mod Rules
 pub mod Layout
 pub mod Views
 pub mod CasesLayout
+pub mod Typing
+pub mod WellTyped
+pub mod Tested
+pub mod Exactly
+pub mod CasesTested

@@ -31,7 +31,7 @@ duesOf-append [] ls (t ∷ ts) us h = absurd (omega arith)
 duesOf-append (k ∷ ks) ls [] us h = absurd (omega arith)
 duesOf-append (k ∷ ks) ls (t ∷ ts) us h = ap (λ l. tree k t ∷ l) (duesOf-append ks ls ts us (omega arith))
 
-leb-max : (k m n : ℕ) → leb (max k m) n ≡ and (leb k n) (leb m n)
+pub leb-max : (k m n : ℕ) → leb (max k m) n ≡ and (leb k n) (leb m n)
 leb-max k m n = go (leb k n) (leb m n) refl refl
   where
     go : (a b : Bool) → leb k n ≡ a → leb m n ≡ b → leb (max k m) n ≡ and a b

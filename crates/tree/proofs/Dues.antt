@@ -9,7 +9,7 @@ use lib.ListN.{length, drop}
 use lib.Seq.{drop-nil}
 use lib.Dec.{ltb}
 use borrow.Author.Tests.{lt-ltb, le-ltb}
-use Rattle.words.specs.Reader.{Words, pick, Read, value, refused, Reader, andThen, _>>_, require}
+use Rattle.words.specs.Reader.{Words, pick, and, Read, value, refused, Reader, andThen, _>>_, require}
 use Rattle.tree.specs.Dues.{Next, leaves, pairs, whole}
 
 -- A READING WITHOUT THE REFUSAL'S NUMBER AND POSITION
@@ -29,6 +29,30 @@ done (refused n p) = none
 abbrev pub bind : {A B : Type 0} → Option A → (A → Option B) → Option B
 bind none f = none
 bind (some a) f = f a
+
+-- the answer, where the test holds
+abbrev pub when : {A : Type 0} → Bool → Option A → Option A
+when b o = pick b o none
+
+pub bind-when : {A B : Type 0} (b : Bool) (o : Option A) (f : A → Option B) → bind (when b o) f ≡ when b (bind o f)
+bind-when true o f = refl
+bind-when false o f = refl
+
+pub when-none : {A : Type 0} (b : Bool) → _≡_ {A = Option A} none (when b none)
+when-none true = refl
+when-none false = refl
+
+pub when-never : {A : Type 0} (b : Bool) (o : Option A) → none ≡ when (and b false) o
+when-never true o = refl
+when-never false o = refl
+
+-- one reading after another
+pub plain-then : {A B : Type 0} (q : Read A) (o : Option A) (n : ℕ) (f : A → Reader B) (F : A → Option B) (next : ℕ) → plain q ≡ placed o n
+    → ((a : A) → o ≡ some a → plain (f a n) ≡ placed (F a) next) → plain (andThen q f) ≡ placed (bind o F) next
+plain-then (value a m) (some b) n f F next e h = let y : a ≡ b = cc in let z : m ≡ n = cc in rw (y, z) (h b refl)
+plain-then (value a m) none n f F next e h = let z : _≡_ {A = ℕ} 0 1 = cc in absurd (omega arith)
+plain-then (refused a m) (some b) n f F next e h = let z : _≡_ {A = ℕ} 0 1 = cc in absurd (omega arith)
+plain-then (refused a m) none n f F next e h = refl
 
 -- A READER OF ONE PAIR, which reads the same at every position
 

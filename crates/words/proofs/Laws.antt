@@ -3,8 +3,9 @@ use Prim.Native.Nat.{ℕ, zero, suc, _+_, _-_, _<_, _≤_}
 use mathlib.Core.Path.{_≡_, refl, sym, ap, _∙_}
 use mathlib.Core.List.{List, [], _∷_}
 use mathlib.Core.Bool.{Bool, true, false}
+use mathlib.Core.Option.{none, some}
 use native.Mathlib.Omega.{arith}
-use lib.ListN.{length, getD}
+use lib.ListN.{length, getD, getElem?}
 use lib.Dec.{ltb, leb}
 use borrow.Author.Tests.{lt-ltb, le-ltb, le-leb, lt-leb, ltb-true, leb-true}
 use Rattle.words.specs.Reader.{Words, pick, and, or, between, Read, value, refused, Reader, andThen, _>>=_, return, require, word, wordIn, many, end, accepted}
@@ -96,6 +97,18 @@ in-value ends fault ws low high at {w} {next} e =
     let v = pick-value (between low high (u .0)) (u .0) w (u .1) fault at next (u .3) in
     let b = and-both (leb low (u .0)) (leb (u .0) high) (v .0) in
     (sym (v .1) ∙ t .1, sym (v .2) ∙ t .2, rw (v .1) at (leb-true low (u .0) (b .0)), rw (v .1) at (leb-true (u .0) high (b .1)), t .0)
+
+-- AN ELEMENT OF A LIST, or none
+
+pub there-some : {A : Type 0} (l : List A) (i : ℕ) (d : A) → i < length l → getElem? l i ≡ some (getD l i d)
+there-some [] i d h = absurd (omega arith)
+there-some (x ∷ l) zero d h = refl
+there-some (x ∷ l) (suc i) d h = there-some l i d (omega arith)
+
+pub past-none : {A : Type 0} (l : List A) (i : ℕ) → length l ≤ i → getElem? l i ≡ none
+past-none [] i h = refl
+past-none (x ∷ l) zero h = absurd (omega arith)
+past-none (x ∷ l) (suc i) h = past-none l i (omega arith)
 
 -- ONE WORD
 
