@@ -2,6 +2,7 @@
 pub mod Trees
 pub mod Forest
 pub mod Places
+pub mod Rest
 pub mod Dues
 pub mod Accepted
 pub mod Reading

@@ -1,16 +1,16 @@
 -- Laws of stretches that are copied, cleared and compared word by word. Assumes nothing.
-use mathlib.Core.Path.{_≡_, refl, sym, ap, _∙_}
+use mathlib.Core.Path.{_≡_, refl, sym, ap, ap₂, _∙_}
 use mathlib.Core.List.{List, [], _∷_, _++_, append-nil}
 use mathlib.Core.Bool.{Bool, true, false}
 use Prim.Native.Nat.{ℕ, suc, _+_, _-_, _≤_, _<_}
 use native.Mathlib.Numerals.{add-one, add-two}
 use native.Mathlib.Nat.{zero-add}
 use native.Mathlib.Omega.{arith}
-use lib.ListN.{length, drop, take, getD, set, replicate, length-replicate, length-drop, getD-replicate, drop-of-length-le, List·getD-append}
-use lib.Seq.{paste, paste-suc, drop-paste, take-paste, getD-drop, getD-take, drop-length, take-length, drop-cons, take-all, length-take-le}
-use lib.Dec.{eqb}
-use borrow.Author.Tests.{eq-eqb, ne-eqb}
-use Rattle.words.specs.Reader.{and}
+use lib.ListN.{length, drop, take, getD, set, replicate, length-append, length-replicate, length-drop, getD-replicate, drop-of-length-le, List·getD-append}
+use lib.Seq.{paste, paste-suc, drop-paste, take-paste, getD-append-add, getD-drop, getD-take, drop-length, take-length, drop-cons, take-all, length-take-le}
+use lib.Dec.{eqb, ltb}
+use borrow.Author.Tests.{eq-eqb, ne-eqb, eqb-true, ltb-true, ltb-false}
+use Rattle.words.specs.Reader.{pick, and}
 use Rattle.words.specs.Views.{equalWords}
 
 -- a part to the end
@@ -100,3 +100,45 @@ module _ (a b : List ℕ) (i : ℕ) (inv : equalWords a b ≡ equalWords (drop i
   pub equal-end : length a ≤ i → true ≡ equalWords a b
   unfolding equalWords
   equal-end h = sym (inv ∙ rw (drop-of-length-le a {i = i} h, drop-of-length-le b {i = i} (omega arith)))
+
+-- what the comparison says
+pub equal-true : (a b : List ℕ) → equalWords a b ≡ true → a ≡ b
+unfolding equalWords
+equal-true [] [] e = refl
+equal-true [] (w ∷ ws) e = let z : _≡_ {A = ℕ} 0 1 = cc in absurd (omega arith)
+equal-true (t ∷ ts) [] e = let z : _≡_ {A = ℕ} 0 1 = cc in absurd (omega arith)
+equal-true (t ∷ ts) (w ∷ ws) e = go (eqb t w) refl e (equal-true ts ws)
+  where
+    go : (b : Bool) → eqb t w ≡ b → and b (equalWords ts ws) ≡ true → (equalWords ts ws ≡ true → ts ≡ ws) → t ∷ ts ≡ w ∷ ws
+    go true h f rest = ap₂ (λ x l. x ∷ l) (eqb-true t w h) (rest f)
+    go false h f rest = let z : _≡_ {A = ℕ} 0 1 = cc in absurd (omega arith)
+
+pub equal-same : (a : List ℕ) → equalWords a a ≡ true
+unfolding equalWords
+equal-same [] = refl
+equal-same (t ∷ ts) = rw (eq-eqb t t refl) (equal-same ts)
+
+-- a comparison that holds just where another does
+pub equal-alike : (a b c d : List ℕ) → (a ≡ b → c ≡ d) → (c ≡ d → a ≡ b) → equalWords a b ≡ equalWords c d
+equal-alike a b c d f h = go (equalWords a b) (equalWords c d) refl refl
+  where
+    go : (x y : Bool) → equalWords a b ≡ x → equalWords c d ≡ y → x ≡ y
+    go true true p q = refl
+    go false false p q = refl
+    go true false p q = let e : equalWords c d ≡ true = rw (f (equal-true a b p)) (equal-same d) in let z : _≡_ {A = ℕ} 0 1 = cc in absurd (omega arith)
+    go false true p q = let e : equalWords a b ≡ true = rw (h (equal-true c d q)) (equal-same b) in let z : _≡_ {A = ℕ} 0 1 = cc in absurd (omega arith)
+
+-- WORDS WRITTEN OVER THE FIRST OF OTHERS
+
+pub over-word : (ws r : List ℕ) (i : ℕ) → getD (ws ++ drop (length ws) r) i 0 ≡ pick (ltb i (length ws)) (getD ws i 0) (getD r i 0)
+over-word ws r i = go (ltb i (length ws)) refl
+  where
+    go : (b : Bool) → ltb i (length ws) ≡ b → getD (ws ++ drop (length ws) r) i 0 ≡ pick b (getD ws i 0) (getD r i 0)
+    go true e = List·getD-append ws (drop (length ws) r) 0 i (ltb-true i (length ws) e)
+    go false e =
+        let h = ltb-false i (length ws) e in
+        let z : i ≡ length ws + (i - length ws) = omega arith in
+        rw z (getD-append-add ws (drop (length ws) r) (i - length ws) 0 ∙ getD-drop (length ws) r (i - length ws) 0)
+
+pub over-length : (ws r : List ℕ) → length ws ≤ length r → length (ws ++ drop (length ws) r) ≡ length r
+over-length ws r h = omega (arith, length-append ws (drop (length ws) r), length-drop (length ws) r)

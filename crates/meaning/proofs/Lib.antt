@@ -1,0 +1,7 @@
+-- The soundness of the meaning, from words too, and the claim about a list of runs.
+pub mod Safe
+pub mod Matching
+pub mod Level
+pub mod Sound
+pub mod FromWords
+pub mod Runs

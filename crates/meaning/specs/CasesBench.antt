@@ -1,0 +1,86 @@
+-- "The two-to-forty-two bench": its cases, from words to the whole outcome, refusals included, and the words to post: one table, one proof. Memories are as
+-- short as they may be. Assumes nothing.
+use Prim.Native.Nat.{ℕ}
+use mathlib.Core.Path.{_≡_, refl}
+use mathlib.Core.List.{List, [], _∷_}
+use mathlib.Core.Bool.{true, false}
+use Rattle.words.specs.Reader.{Words}
+use Rattle.meaning.specs.Limits.{leastResult, leastWork}
+use Rattle.meaning.specs.Meaning.{done, stopped}
+use Rattle.meaning.specs.Outcome.{Outcome, refused, ended, outcome, output}
+use Rattle.words.specs.Reader as Reader
+use Rattle.words.specs.Views as Views
+use Rattle.grammar.specs.Grammar as Grammar
+use Rattle.grammar.specs.Kinds as Kinds
+use Rattle.tree.specs.Tree as Tree
+use Rattle.tree.specs.Dues as Dues
+use Rattle.tree.specs.Reading as Reading
+use Rattle.rules.specs.Rules as Rules
+use Rattle.rules.specs.Layout as Layout
+use Rattle.rules.specs.Typing as Typing
+use Rattle.meaning.specs.Computation as Computation
+use Rattle.meaning.specs.Operations as Operations
+use Rattle.meaning.specs.Meaning as Meaning
+use Rattle.meaning.specs.Outcome as Outcome
+
+-- budget, grammar, rules, tree, and the outcome
+data Case : Type 0 where
+  case : ℕ → Words → Words → Words → Outcome → Case
+
+-- "Grammar 3 8 1 1 1 4 2 1 2 (program of repeat number). Book 1 9 2 2 1 2 200 1 2 4200. Slip 0 0 1 0 2 200 1 0 2 500 1 1, that is 2.00, 5.00", and "Variants
+-- of it": those with *, and the others of the list
+table : List Case
+table =
+    -- "budget 3: as above"
+    case 3 (3 ∷ 8 ∷ 1 ∷ 1 ∷ 1 ∷ 4 ∷ 2 ∷ 1 ∷ 2 ∷ []) (1 ∷ 9 ∷ 2 ∷ 2 ∷ 1 ∷ 2 ∷ 200 ∷ 1 ∷ 2 ∷ 4200 ∷ []) (0 ∷ 0 ∷ 1 ∷ 0 ∷ 2 ∷ 200 ∷ 1 ∷ 0 ∷ 2 ∷ 500 ∷ 1 ∷ 1 ∷ []) (ended done 3 1 (0 ∷ 0 ∷ 1 ∷ 0 ∷ 2 ∷ 4200 ∷ 1 ∷ 0 ∷ 2 ∷ 500 ∷ 1 ∷ 1 ∷ []))
+    -- "Budget 2: stopped 40, 2 trials, same tree"
+    ∷ case 2 (3 ∷ 8 ∷ 1 ∷ 1 ∷ 1 ∷ 4 ∷ 2 ∷ 1 ∷ 2 ∷ []) (1 ∷ 9 ∷ 2 ∷ 2 ∷ 1 ∷ 2 ∷ 200 ∷ 1 ∷ 2 ∷ 4200 ∷ []) (0 ∷ 0 ∷ 1 ∷ 0 ∷ 2 ∷ 200 ∷ 1 ∷ 0 ∷ 2 ∷ 500 ∷ 1 ∷ 1 ∷ []) (ended (stopped 40) 2 1 (0 ∷ 0 ∷ 1 ∷ 0 ∷ 2 ∷ 4200 ∷ 1 ∷ 0 ∷ 2 ∷ 500 ∷ 1 ∷ 1 ∷ []))
+    -- "Budget 1: stopped 40, 1 trial, 1 replacement"
+    ∷ case 1 (3 ∷ 8 ∷ 1 ∷ 1 ∷ 1 ∷ 4 ∷ 2 ∷ 1 ∷ 2 ∷ []) (1 ∷ 9 ∷ 2 ∷ 2 ∷ 1 ∷ 2 ∷ 200 ∷ 1 ∷ 2 ∷ 4200 ∷ []) (0 ∷ 0 ∷ 1 ∷ 0 ∷ 2 ∷ 200 ∷ 1 ∷ 0 ∷ 2 ∷ 500 ∷ 1 ∷ 1 ∷ []) (ended (stopped 40) 1 1 (0 ∷ 0 ∷ 1 ∷ 0 ∷ 2 ∷ 4200 ∷ 1 ∷ 0 ∷ 2 ∷ 500 ∷ 1 ∷ 1 ∷ []))
+    -- "reach 1: done, 1 trial"
+    ∷ case 3 (3 ∷ 8 ∷ 1 ∷ 1 ∷ 1 ∷ 4 ∷ 2 ∷ 1 ∷ 2 ∷ []) (1 ∷ 9 ∷ 2 ∷ 1 ∷ 1 ∷ 2 ∷ 200 ∷ 1 ∷ 2 ∷ 4200 ∷ []) (0 ∷ 0 ∷ 1 ∷ 0 ∷ 2 ∷ 200 ∷ 1 ∷ 0 ∷ 2 ∷ 500 ∷ 1 ∷ 1 ∷ []) (ended done 1 1 (0 ∷ 0 ∷ 1 ∷ 0 ∷ 2 ∷ 4200 ∷ 1 ∷ 0 ∷ 2 ∷ 500 ∷ 1 ∷ 1 ∷ []))
+    -- "Slip 0 0 1 1: done, 0 trials"
+    ∷ case 3 (3 ∷ 8 ∷ 1 ∷ 1 ∷ 1 ∷ 4 ∷ 2 ∷ 1 ∷ 2 ∷ []) (1 ∷ 9 ∷ 2 ∷ 2 ∷ 1 ∷ 2 ∷ 200 ∷ 1 ∷ 2 ∷ 4200 ∷ []) (0 ∷ 0 ∷ 1 ∷ 1 ∷ []) (ended done 0 0 (0 ∷ 0 ∷ 1 ∷ 1 ∷ []))
+    -- "4200 made 200, budget 7: stopped 40, 7 trials, 7 replacements, slip unchanged"
+    ∷ case 7 (3 ∷ 8 ∷ 1 ∷ 1 ∷ 1 ∷ 4 ∷ 2 ∷ 1 ∷ 2 ∷ []) (1 ∷ 9 ∷ 2 ∷ 2 ∷ 1 ∷ 2 ∷ 200 ∷ 1 ∷ 2 ∷ 200 ∷ []) (0 ∷ 0 ∷ 1 ∷ 0 ∷ 2 ∷ 200 ∷ 1 ∷ 0 ∷ 2 ∷ 500 ∷ 1 ∷ 1 ∷ []) (ended (stopped 40) 7 7 (0 ∷ 0 ∷ 1 ∷ 0 ∷ 2 ∷ 200 ∷ 1 ∷ 0 ∷ 2 ∷ 500 ∷ 1 ∷ 1 ∷ []))
+    -- "replacement 1 1: refused 23 at 8"
+    ∷ case 3 (3 ∷ 8 ∷ 1 ∷ 1 ∷ 1 ∷ 4 ∷ 2 ∷ 1 ∷ 2 ∷ []) (1 ∷ 9 ∷ 2 ∷ 2 ∷ 1 ∷ 2 ∷ 200 ∷ 1 ∷ 1 ∷ 1 ∷ []) (0 ∷ 0 ∷ 1 ∷ 0 ∷ 2 ∷ 200 ∷ 1 ∷ 0 ∷ 2 ∷ 500 ∷ 1 ∷ 1 ∷ []) (refused 23 8)
+    -- "Grammar 1 8 1 1 0: 12 at 1"
+    ∷ case 3 (1 ∷ 8 ∷ 1 ∷ 1 ∷ 0 ∷ []) (1 ∷ 9 ∷ 2 ∷ 2 ∷ 1 ∷ 2 ∷ 200 ∷ 1 ∷ 2 ∷ 4200 ∷ []) (0 ∷ 0 ∷ 1 ∷ 0 ∷ 2 ∷ 200 ∷ 1 ∷ 0 ∷ 2 ∷ 500 ∷ 1 ∷ 1 ∷ []) (refused 12 1)
+    -- "slip 0 0: 31 at 2"
+    ∷ case 3 (3 ∷ 8 ∷ 1 ∷ 1 ∷ 1 ∷ 4 ∷ 2 ∷ 1 ∷ 2 ∷ []) (1 ∷ 9 ∷ 2 ∷ 2 ∷ 1 ∷ 2 ∷ 200 ∷ 1 ∷ 2 ∷ 4200 ∷ []) (0 ∷ 0 ∷ []) (refused 31 2)
+    -- "The twelve-word slip with 1 1 added: 31 at 12"
+    ∷ case 3 (3 ∷ 8 ∷ 1 ∷ 1 ∷ 1 ∷ 4 ∷ 2 ∷ 1 ∷ 2 ∷ []) (1 ∷ 9 ∷ 2 ∷ 2 ∷ 1 ∷ 2 ∷ 200 ∷ 1 ∷ 2 ∷ 4200 ∷ []) (0 ∷ 0 ∷ 1 ∷ 0 ∷ 2 ∷ 200 ∷ 1 ∷ 0 ∷ 2 ∷ 500 ∷ 1 ∷ 1 ∷ 1 ∷ 1 ∷ []) (refused 31 12)
+    -- "Number 999,999,999 passes, 1,000,000,000 is 32 at 5"
+    ∷ case 3 (3 ∷ 8 ∷ 1 ∷ 1 ∷ 1 ∷ 4 ∷ 2 ∷ 1 ∷ 2 ∷ []) (1 ∷ 9 ∷ 2 ∷ 2 ∷ 1 ∷ 2 ∷ 200 ∷ 1 ∷ 2 ∷ 4200 ∷ []) (0 ∷ 0 ∷ 1 ∷ 0 ∷ 2 ∷ 999999999 ∷ 1 ∷ 0 ∷ 2 ∷ 500 ∷ 1 ∷ 1 ∷ []) (ended done 2 0 (0 ∷ 0 ∷ 1 ∷ 0 ∷ 2 ∷ 999999999 ∷ 1 ∷ 0 ∷ 2 ∷ 500 ∷ 1 ∷ 1 ∷ []))
+    ∷ case 3 (3 ∷ 8 ∷ 1 ∷ 1 ∷ 1 ∷ 4 ∷ 2 ∷ 1 ∷ 2 ∷ []) (1 ∷ 9 ∷ 2 ∷ 2 ∷ 1 ∷ 2 ∷ 200 ∷ 1 ∷ 2 ∷ 4200 ∷ []) (0 ∷ 0 ∷ 1 ∷ 0 ∷ 2 ∷ 1000000000 ∷ 1 ∷ 0 ∷ 2 ∷ 500 ∷ 1 ∷ 1 ∷ []) (refused 32 5)
+    -- "round 125, 150, 49: 100, 200, 0"
+    ∷ case 3 (3 ∷ 8 ∷ 1 ∷ 1 ∷ 1 ∷ 4 ∷ 2 ∷ 1 ∷ 2 ∷ []) (1 ∷ 9 ∷ 2 ∷ 1 ∷ 1 ∷ 64 ∷ 2 ∷ 3 ∷ 66 ∷ 0 ∷ 1 ∷ 0 ∷ 1004 ∷ 0 ∷ []) (0 ∷ 0 ∷ 1 ∷ 0 ∷ 2 ∷ 125 ∷ 1 ∷ 1 ∷ []) (ended done 1 1 (0 ∷ 0 ∷ 1 ∷ 0 ∷ 2 ∷ 100 ∷ 1 ∷ 1 ∷ []))
+    ∷ case 3 (3 ∷ 8 ∷ 1 ∷ 1 ∷ 1 ∷ 4 ∷ 2 ∷ 1 ∷ 2 ∷ []) (1 ∷ 9 ∷ 2 ∷ 1 ∷ 1 ∷ 64 ∷ 2 ∷ 3 ∷ 66 ∷ 0 ∷ 1 ∷ 0 ∷ 1004 ∷ 0 ∷ []) (0 ∷ 0 ∷ 1 ∷ 0 ∷ 2 ∷ 150 ∷ 1 ∷ 1 ∷ []) (ended done 1 1 (0 ∷ 0 ∷ 1 ∷ 0 ∷ 2 ∷ 200 ∷ 1 ∷ 1 ∷ []))
+    ∷ case 3 (3 ∷ 8 ∷ 1 ∷ 1 ∷ 1 ∷ 4 ∷ 2 ∷ 1 ∷ 2 ∷ []) (1 ∷ 9 ∷ 2 ∷ 1 ∷ 1 ∷ 64 ∷ 2 ∷ 3 ∷ 66 ∷ 0 ∷ 1 ∷ 0 ∷ 1004 ∷ 0 ∷ []) (0 ∷ 0 ∷ 1 ∷ 0 ∷ 2 ∷ 49 ∷ 1 ∷ 1 ∷ []) (ended done 1 1 (0 ∷ 0 ∷ 1 ∷ 0 ∷ 2 ∷ 0 ∷ 1 ∷ 1 ∷ []))
+    -- "Round 999,999,950: stop 45"
+    ∷ case 3 (3 ∷ 8 ∷ 1 ∷ 1 ∷ 1 ∷ 4 ∷ 2 ∷ 1 ∷ 2 ∷ []) (1 ∷ 9 ∷ 2 ∷ 1 ∷ 1 ∷ 64 ∷ 2 ∷ 3 ∷ 66 ∷ 0 ∷ 1 ∷ 0 ∷ 1004 ∷ 0 ∷ []) (0 ∷ 0 ∷ 1 ∷ 0 ∷ 2 ∷ 999999950 ∷ 1 ∷ 1 ∷ []) (ended (stopped 45) 1 0 (0 ∷ 0 ∷ 1 ∷ 0 ∷ 2 ∷ 999999950 ∷ 1 ∷ 1 ∷ []))
+    -- "1000 quotient 300: 300"
+    ∷ case 3 (3 ∷ 8 ∷ 1 ∷ 1 ∷ 1 ∷ 4 ∷ 2 ∷ 1 ∷ 2 ∷ []) (1 ∷ 9 ∷ 1 ∷ 1 ∷ 5 ∷ 1 ∷ 0 ∷ 64 ∷ 2 ∷ 1 ∷ 0 ∷ 64 ∷ 2 ∷ 64 ∷ 1 ∷ 6 ∷ 1 ∷ 0 ∷ 66 ∷ 0 ∷ 1 ∷ 0 ∷ 1002 ∷ 1 ∷ 65 ∷ 1 ∷ 65 ∷ 2 ∷ []) (0 ∷ 0 ∷ 1 ∷ 0 ∷ 2 ∷ 1000 ∷ 1 ∷ 0 ∷ 2 ∷ 300 ∷ 1 ∷ 1 ∷ []) (ended done 1 1 (0 ∷ 0 ∷ 1 ∷ 0 ∷ 2 ∷ 300 ∷ 1 ∷ 1 ∷ []))
+    ∷ []
+
+given : List Case → List Outcome
+given [] = []
+given (case b g r t o ∷ more) = o ∷ given more
+
+found : List Case → List Outcome
+found [] = []
+found (case b g r t o ∷ more) = outcome leastResult leastWork (record { budget = b; grammar = g; rules = r; tree = t }) ∷ found more
+
+-- the words to post, with a result of five words and the tree 0 0 1 1: done with four filled, stopped with four, done with five, done with six
+posted : List Words
+posted =
+    output true 4 (8 ∷ 8 ∷ 9 ∷ 9 ∷ 7 ∷ []) (0 ∷ 0 ∷ 1 ∷ 1 ∷ [])
+    ∷ output false 4 (8 ∷ 8 ∷ 9 ∷ 9 ∷ 7 ∷ []) (0 ∷ 0 ∷ 1 ∷ 1 ∷ [])
+    ∷ output true 5 (8 ∷ 8 ∷ 9 ∷ 9 ∷ 7 ∷ []) (0 ∷ 0 ∷ 1 ∷ 1 ∷ [])
+    ∷ output true 6 (8 ∷ 8 ∷ 9 ∷ 9 ∷ 7 ∷ []) (0 ∷ 0 ∷ 1 ∷ 1 ∷ [])
+    ∷ []
+
+right : (found table ≡ given table) × (posted ≡ (8 ∷ 8 ∷ 9 ∷ 9 ∷ []) ∷ (0 ∷ 0 ∷ 1 ∷ 1 ∷ []) ∷ (8 ∷ 8 ∷ 9 ∷ 9 ∷ 7 ∷ []) ∷ (0 ∷ 0 ∷ 1 ∷ 1 ∷ []) ∷ [])
+unfolding Reader.word Reader.wordIn Reader.many Reader.end Views.equalWords Grammar.typesOf Grammar.field Grammar.element Grammar.form Grammar.kind Grammar.grammar Grammar.all Grammar.any Grammar.finishes Grammar.round Grammar.rounds Grammar.finite Grammar.finiteRecords Grammar.readGrammar Grammar.grammarFits Kinds.kindOf Kinds.allows Kinds.allowed Kinds.childrenOf Kinds.children Kinds.isSequenceKind Kinds.isSequence Kinds.isNumberKind Kinds.isNumber Tree.size Tree.levelsOf Tree.levels Tree.nestingFrom Tree.nesting Tree.areTrees Tree.isTree Tree.first Tree.after Tree.typeOf Dues.pairs Dues.whole Reading.duesOf Reading.meetsNode Reading.readTreeOf Rules.operations Rules.applied Rules.shapes Rules.arguments Rules.applications Rules.pairsIn Rules.argumentsWritten Rules.applicationsWritten Rules.chainWritten Rules.unreadable Rules.chainOf Rules.conditionOf Rules.piecesAfter Rules.pieces Layout.strategyOf Layout.stretch Layout.field Layout.pairs Layout.variableAt Layout.deconstructFields Layout.conditionFields Layout.partOf Layout.reach Layout.replacement Layout.mainFits Layout.mainBits Layout.typeField Layout.searchFields Layout.constructFields Layout.partAt Layout.part Layout.parameters Layout.headFields Layout.head Layout.parts Layout.rule Layout.layout Layout.readLayout Layout.rulesFit Typing.mayStand Typing.isSome Typing.appliesRule Typing.appliesOperation Typing.fitsScope Typing.usable Typing.argumentsDue Typing.newVariable Typing.variable Typing.chain Typing.node Typing.meets Typing.typed Typing.variableThere Typing.partTyped Typing.partsTyped Typing.ruleTyped Typing.mainTarget Typing.rulesTyped Typing.readRules Computation.thenOf Computation.spend Computation.stopUnless Computation.surely Computation.check Computation.present Computation.choose Computation.whether Operations.rounded Operations.truncated Operations.inRange Operations.divisor Operations.withOne Operations.withNone Operations.compute Operations.compare Meaning.nodesWithin Meaning.nestingWithin Meaning.liveWithin Meaning.total Meaning.variable Meaning.variables Meaning.sameTree Meaning.bind Meaning.match Meaning.matchFirst Meaning.valueOf Meaning.valuesOf Meaning.withValue Meaning.isNumberToken Meaning.areNumberTokens Meaning.areTreesOf Meaning.fits Meaning.begin Meaning.put Meaning.resultAs Meaning.resultOf Meaning.opened Meaning.afterRound Meaning.apply Meaning.applyChain Meaning.fill Meaning.finish Meaning.succeeds Meaning.anySucceeds Meaning.part Meaning.parts Meaning.attempt Meaning.seek Meaning.replace Meaning.turn Meaning.rounds Meaning.callWith Meaning.call Meaning.callMatches Meaning.calls Meaning.runFrom Meaning.run Outcome.callFits Outcome.decode Outcome.endedAs Outcome.outcomeOf Outcome.outcome Outcome.output posted table given found
+right = (refl, refl)

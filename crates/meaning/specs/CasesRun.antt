@@ -1,0 +1,311 @@
+-- Small inputs that pin how document 01's words on a run are read, each with its outcome: one table, one proof. The letters are the readings': M the order of
+-- steps, H live nodes and limits, O operations, A the answer. Memories are as short as they may be. Assumes nothing.
+use Prim.Native.Nat.{ℕ, zero, suc}
+use mathlib.Core.Path.{_≡_, refl}
+use mathlib.Core.List.{List, [], _∷_, _++_}
+use lib.ListN.{replicate}
+use Rattle.words.specs.Reader.{Words}
+use Rattle.meaning.specs.Limits.{leastResult, leastWork}
+use Rattle.meaning.specs.Meaning.{done, stopped}
+use Rattle.meaning.specs.Outcome.{Outcome, refused, ended, outcome}
+use Rattle.words.specs.Reader as Reader
+use Rattle.words.specs.Views as Views
+use Rattle.grammar.specs.Grammar as Grammar
+use Rattle.grammar.specs.Kinds as Kinds
+use Rattle.tree.specs.Tree as Tree
+use Rattle.tree.specs.Dues as Dues
+use Rattle.tree.specs.Reading as Reading
+use Rattle.rules.specs.Rules as Rules
+use Rattle.rules.specs.Layout as Layout
+use Rattle.rules.specs.Typing as Typing
+use Rattle.meaning.specs.Computation as Computation
+use Rattle.meaning.specs.Operations as Operations
+use Rattle.meaning.specs.Meaning as Meaning
+use Rattle.meaning.specs.Outcome as Outcome
+
+-- budget, grammar, rules, tree, and the outcome
+data Case : Type 0 where
+  case : ℕ → Words → Words → Words → Outcome → Case
+  -- the same, over a result and a work memory of these lengths
+  over : ℕ → ℕ → ℕ → Words → Words → Words → Outcome → Case
+
+-- "Grammar 3 8 1 1 1 4 2 1 2 (program of repeat number). Book 1 9 2 2 1 2 200 1 2 4200. Slip 0 0 1 0 2 200 1 0 2 500 1 1, that is 2.00, 5.00"
+numbers : Words
+numbers = 3 ∷ 8 ∷ 1 ∷ 1 ∷ 1 ∷ 4 ∷ 2 ∷ 1 ∷ 2 ∷ []
+
+toFortyTwo : Words
+toFortyTwo = 1 ∷ 9 ∷ 2 ∷ 2 ∷ 1 ∷ 2 ∷ 200 ∷ 1 ∷ 2 ∷ 4200 ∷ []
+
+twoAndFive : Words
+twoAndFive = 0 ∷ 0 ∷ 1 ∷ 0 ∷ 2 ∷ 200 ∷ 1 ∷ 0 ∷ 2 ∷ 500 ∷ 1 ∷ 1 ∷ []
+
+-- a tree of that grammar, with these numbers
+elements : List ℕ → Words
+elements [] = 1 ∷ 1 ∷ []
+elements (n ∷ ns) = 1 ∷ 0 ∷ 2 ∷ n ∷ elements ns
+
+list : List ℕ → Words
+list ns = 0 ∷ 0 ∷ elements ns
+
+-- a grammar of one type, a sequence of itself
+sequences : Words
+sequences = 1 ∷ 4 ∷ 0 ∷ []
+
+-- a grammar of one type with two forms: one tree of the type, or none
+levels : Words
+levels = 1 ∷ 8 ∷ 2 ∷ 1 ∷ 0 ∷ 0 ∷ []
+
+-- the words k times
+times : ℕ → Words → Words
+times zero ws = []
+times (suc k) ws = ws ++ times k ws
+
+table : List Case
+table =
+    -- M1: "a trial is due": only where a node of the target type comes up
+    -- one number, one attempt, no match: done with the budget spent
+    case 1 numbers toFortyTwo (list (5 ∷ [])) (ended done 1 0 (list (5 ∷ [])))
+    -- two numbers: the second attempt is due
+    ∷ case 1 numbers toFortyTwo (list (5 ∷ 6 ∷ [])) (ended (stopped 40) 1 0 (list (5 ∷ 6 ∷ [])))
+    -- reach 1 ends at the match, with the budget spent
+    ∷ case 1 numbers (1 ∷ 9 ∷ 2 ∷ 1 ∷ 1 ∷ 2 ∷ 200 ∷ 1 ∷ 2 ∷ 4200 ∷ []) twoAndFive (ended done 1 1 (list (4200 ∷ 500 ∷ [])))
+    -- no node of the target type: no attempt
+    ∷ case 1 numbers (1 ∷ 9 ∷ 2 ∷ 2 ∷ 1 ∷ 2 ∷ 5 ∷ 1 ∷ 2 ∷ 6 ∷ []) (list []) (ended done 0 0 (list []))
+    -- M2: opening a call comes before its first attempt
+    -- the 33rd call with the budget spent: 41
+    ∷ case 32 numbers (1 ∷ 8 ∷ 0 ∷ 1 ∷ 64 ∷ 0 ∷ 3 ∷ 66 ∷ 0 ∷ 1 ∷ 0 ∷ 0 ∷ 0 ∷ []) (list (5 ∷ [])) (ended (stopped 41) 32 0 (list (5 ∷ [])))
+    -- a call whose first attempt is not paid: 40
+    ∷ case 31 numbers (1 ∷ 8 ∷ 0 ∷ 1 ∷ 64 ∷ 0 ∷ 3 ∷ 66 ∷ 0 ∷ 1 ∷ 0 ∷ 0 ∷ 0 ∷ []) (list (5 ∷ [])) (ended (stopped 40) 31 0 (list (5 ∷ [])))
+    -- a second call, opened, with the budget spent: 40
+    ∷ case 1 numbers (2 ∷ 8 ∷ 0 ∷ 1 ∷ 64 ∷ 0 ∷ 4 ∷ 66 ∷ 0 ∷ 1 ∷ 0 ∷ 1 ∷ 1 ∷ 65 ∷ 0 ∷ 10 ∷ 0 ∷ 1 ∷ 0 ∷ 1 ∷ 64 ∷ 0 ∷ 1 ∷ 65 ∷ 1 ∷ []) twoAndFive (ended (stopped 40) 1 0 twoAndFive)
+    -- M4: a searching part takes the first node that matches, and does not go back for another
+    -- the first number is no 5.00
+    ∷ case 9 numbers (1 ∷ 12 ∷ 0 ∷ 1 ∷ 64 ∷ 0 ∷ 2 ∷ 3 ∷ 2 ∷ 0 ∷ 1 ∷ 64 ∷ 2 ∷ 1 ∷ 1 ∷ 1 ∷ 2 ∷ 500 ∷ 2 ∷ 0 ∷ 0 ∷ 1 ∷ 1 ∷ []) twoAndFive (ended done 1 0 twoAndFive)
+    -- .. and if it is
+    ∷ case 9 numbers (1 ∷ 12 ∷ 0 ∷ 1 ∷ 64 ∷ 0 ∷ 2 ∷ 3 ∷ 2 ∷ 0 ∷ 1 ∷ 64 ∷ 2 ∷ 1 ∷ 1 ∷ 1 ∷ 2 ∷ 200 ∷ 2 ∷ 0 ∷ 0 ∷ 1 ∷ 1 ∷ []) twoAndFive (ended done 1 1 (list []))
+    -- M5: a searching part tries the root first, and a failed node's bindings go
+    -- the last number: variable 1 is the one of the node that matched
+    ∷ case 9 numbers (1 ∷ 12 ∷ 0 ∷ 1 ∷ 64 ∷ 0 ∷ 1 ∷ 3 ∷ 1 ∷ 0 ∷ 3 ∷ 1 ∷ 0 ∷ 64 ∷ 2 ∷ 1 ∷ 1 ∷ 4 ∷ 0 ∷ 0 ∷ 1 ∷ 0 ∷ 65 ∷ 1 ∷ 1 ∷ 1 ∷ []) twoAndFive (ended done 1 1 (list (500 ∷ [])))
+    -- the root itself
+    ∷ case 9 numbers (1 ∷ 12 ∷ 0 ∷ 1 ∷ 64 ∷ 0 ∷ 1 ∷ 3 ∷ 0 ∷ 0 ∷ 4 ∷ 0 ∷ 0 ∷ 1 ∷ 0 ∷ 64 ∷ 2 ∷ 64 ∷ 1 ∷ 2 ∷ 0 ∷ 0 ∷ 65 ∷ 2 ∷ []) twoAndFive (ended done 1 1 (list (500 ∷ [])))
+    -- no node matches: no match
+    ∷ case 9 numbers (1 ∷ 12 ∷ 0 ∷ 1 ∷ 64 ∷ 0 ∷ 1 ∷ 3 ∷ 2 ∷ 0 ∷ 1 ∷ 2 ∷ 1 ∷ 2 ∷ 0 ∷ 0 ∷ 1 ∷ 1 ∷ []) twoAndFive (ended done 1 0 twoAndFive)
+    -- M6: a condition's applications up to the first success, with bit 4 too
+    -- the first succeeds
+    ∷ case 9 numbers (3 ∷ 12 ∷ 0 ∷ 1 ∷ 64 ∷ 0 ∷ 1 ∷ 8 ∷ 4 ∷ 66 ∷ 0 ∷ 2 ∷ 0 ∷ 1 ∷ 0 ∷ 1 ∷ 0 ∷ 2 ∷ 0 ∷ 0 ∷ 1 ∷ 1 ∷ 0 ∷ 0 ∷ 1 ∷ 64 ∷ 0 ∷ 0 ∷ 0 ∷ 2 ∷ 0 ∷ 0 ∷ 1 ∷ 1 ∷ []) twoAndFive (ended done 2 1 (list []))
+    -- the second does
+    ∷ case 9 numbers (3 ∷ 12 ∷ 0 ∷ 1 ∷ 64 ∷ 0 ∷ 1 ∷ 8 ∷ 4 ∷ 66 ∷ 0 ∷ 2 ∷ 0 ∷ 2 ∷ 0 ∷ 1 ∷ 0 ∷ 2 ∷ 0 ∷ 0 ∷ 1 ∷ 1 ∷ 0 ∷ 0 ∷ 1 ∷ 64 ∷ 0 ∷ 0 ∷ 0 ∷ 2 ∷ 0 ∷ 0 ∷ 1 ∷ 1 ∷ []) twoAndFive (ended done 3 1 (list []))
+    -- neither does
+    ∷ case 9 numbers (3 ∷ 12 ∷ 0 ∷ 1 ∷ 64 ∷ 0 ∷ 1 ∷ 8 ∷ 4 ∷ 66 ∷ 0 ∷ 2 ∷ 0 ∷ 2 ∷ 0 ∷ 2 ∷ 0 ∷ 2 ∷ 0 ∷ 0 ∷ 1 ∷ 1 ∷ 0 ∷ 0 ∷ 1 ∷ 64 ∷ 0 ∷ 0 ∷ 0 ∷ 2 ∷ 0 ∷ 0 ∷ 1 ∷ 1 ∷ []) twoAndFive (ended done 3 0 twoAndFive)
+    -- bit 4: the first succeeds
+    ∷ case 9 numbers (3 ∷ 12 ∷ 0 ∷ 1 ∷ 64 ∷ 0 ∷ 1 ∷ 24 ∷ 4 ∷ 66 ∷ 0 ∷ 2 ∷ 0 ∷ 1 ∷ 0 ∷ 1 ∷ 0 ∷ 2 ∷ 0 ∷ 0 ∷ 1 ∷ 1 ∷ 0 ∷ 0 ∷ 1 ∷ 64 ∷ 0 ∷ 0 ∷ 0 ∷ 2 ∷ 0 ∷ 0 ∷ 1 ∷ 1 ∷ []) twoAndFive (ended done 2 0 twoAndFive)
+    -- bit 4: the second does
+    ∷ case 9 numbers (3 ∷ 12 ∷ 0 ∷ 1 ∷ 64 ∷ 0 ∷ 1 ∷ 24 ∷ 4 ∷ 66 ∷ 0 ∷ 2 ∷ 0 ∷ 2 ∷ 0 ∷ 1 ∷ 0 ∷ 2 ∷ 0 ∷ 0 ∷ 1 ∷ 1 ∷ 0 ∷ 0 ∷ 1 ∷ 64 ∷ 0 ∷ 0 ∷ 0 ∷ 2 ∷ 0 ∷ 0 ∷ 1 ∷ 1 ∷ []) twoAndFive (ended done 3 0 twoAndFive)
+    -- bit 4: neither does
+    ∷ case 9 numbers (3 ∷ 12 ∷ 0 ∷ 1 ∷ 64 ∷ 0 ∷ 1 ∷ 24 ∷ 4 ∷ 66 ∷ 0 ∷ 2 ∷ 0 ∷ 2 ∷ 0 ∷ 2 ∷ 0 ∷ 2 ∷ 0 ∷ 0 ∷ 1 ∷ 1 ∷ 0 ∷ 0 ∷ 1 ∷ 64 ∷ 0 ∷ 0 ∷ 0 ∷ 2 ∷ 0 ∷ 0 ∷ 1 ∷ 1 ∷ []) twoAndFive (ended done 3 1 (list []))
+    -- M7: in a condition a rule's replacement is not worked, its parts are
+    -- a replacement that would stop by 45
+    ∷ case 9 numbers (2 ∷ 13 ∷ 2 ∷ 1 ∷ 1 ∷ 64 ∷ 2 ∷ 1 ∷ 8 ∷ 3 ∷ 66 ∷ 0 ∷ 1 ∷ 0 ∷ 1 ∷ 0 ∷ 1 ∷ 2 ∷ 9 ∷ 8 ∷ 2 ∷ 1 ∷ 64 ∷ 2 ∷ 4 ∷ 66 ∷ 0 ∷ 1 ∷ 0 ∷ 1002 ∷ 1 ∷ 65 ∷ 0 ∷ []) (list (0 ∷ [])) (ended done 2 1 (list (9 ∷ [])))
+    -- a part that does
+    ∷ case 9 numbers (2 ∷ 13 ∷ 2 ∷ 1 ∷ 1 ∷ 64 ∷ 2 ∷ 1 ∷ 8 ∷ 3 ∷ 66 ∷ 0 ∷ 1 ∷ 0 ∷ 1 ∷ 0 ∷ 1 ∷ 2 ∷ 9 ∷ 12 ∷ 2 ∷ 1 ∷ 64 ∷ 2 ∷ 1 ∷ 4 ∷ 2 ∷ 4 ∷ 66 ∷ 0 ∷ 1 ∷ 0 ∷ 1002 ∷ 1 ∷ 65 ∷ 0 ∷ 1 ∷ 65 ∷ 1 ∷ []) (list (0 ∷ [])) (ended (stopped 45) 2 0 (list (0 ∷ [])))
+    -- M8: only the first call's replacements are counted and kept, also where rule 0 is called again
+    -- rule 0 calls itself on the rest
+    ∷ case 9 numbers (1 ∷ 9 ∷ 1 ∷ 1 ∷ 3 ∷ 1 ∷ 0 ∷ 64 ∷ 2 ∷ 64 ∷ 1 ∷ 5 ∷ 1 ∷ 0 ∷ 2 ∷ 7 ∷ 66 ∷ 1 ∷ 1 ∷ 0 ∷ 0 ∷ 0 ∷ []) twoAndFive (ended done 3 1 (list (7 ∷ 7 ∷ [])))
+    -- a stop inside the inner call: nothing of it is kept
+    ∷ case 2 numbers (1 ∷ 9 ∷ 1 ∷ 1 ∷ 3 ∷ 1 ∷ 0 ∷ 64 ∷ 2 ∷ 64 ∷ 1 ∷ 5 ∷ 1 ∷ 0 ∷ 2 ∷ 7 ∷ 66 ∷ 1 ∷ 1 ∷ 0 ∷ 0 ∷ 0 ∷ []) (list (1 ∷ 2 ∷ 3 ∷ [])) (ended (stopped 40) 2 0 (list (1 ∷ 2 ∷ 3 ∷ [])))
+    -- a stop inside a call in a second round: the first replacement stays
+    ∷ case 9 numbers (3 ∷ 13 ∷ 2 ∷ 2 ∷ 1 ∷ 64 ∷ 2 ∷ 1 ∷ 24 ∷ 3 ∷ 66 ∷ 0 ∷ 1 ∷ 0 ∷ 2 ∷ 0 ∷ 3 ∷ 66 ∷ 0 ∷ 1 ∷ 0 ∷ 1 ∷ 0 ∷ 12 ∷ 2 ∷ 1 ∷ 64 ∷ 2 ∷ 1 ∷ 4 ∷ 2 ∷ 1 ∷ 2 ∷ 100 ∷ 4 ∷ 66 ∷ 0 ∷ 1 ∷ 0 ∷ 1001 ∷ 1 ∷ 65 ∷ 1 ∷ 0 ∷ 2 ∷ 1 ∷ 2 ∷ 0 ∷ []) (list (100 ∷ 50 ∷ [])) (ended (stopped 45) 8 1 (list (0 ∷ 50 ∷ [])))
+    -- M9: the search begins again at the scope's root
+    -- three searches over three numbers
+    ∷ case 99 numbers (1 ∷ 13 ∷ 2 ∷ 2 ∷ 1 ∷ 64 ∷ 2 ∷ 4 ∷ 4 ∷ 2 ∷ 1 ∷ 2 ∷ 4 ∷ 8 ∷ 4 ∷ 66 ∷ 1 ∷ 1 ∷ 0 ∷ 1009 ∷ 1 ∷ 65 ∷ 0 ∷ 4 ∷ 2 ∷ 1 ∷ 2 ∷ 1 ∷ 24 ∷ 4 ∷ 66 ∷ 0 ∷ 1 ∷ 0 ∷ 1008 ∷ 1 ∷ 65 ∷ 2 ∷ 4 ∷ 66 ∷ 0 ∷ 1 ∷ 0 ∷ 1001 ∷ 1 ∷ 65 ∷ 2 ∷ []) (list (5 ∷ 5 ∷ 3 ∷ [])) (ended done 9 2 (list (5 ∷ 5 ∷ 1 ∷ [])))
+    -- the replaced node is tried again
+    ∷ case 9 numbers (1 ∷ 9 ∷ 2 ∷ 2 ∷ 1 ∷ 2 ∷ 3 ∷ 1 ∷ 2 ∷ 2 ∷ []) (list (3 ∷ 3 ∷ [])) (ended done 5 2 (list (2 ∷ 2 ∷ [])))
+    -- M10: the same tree is one of the same types and values
+    -- two neighbours alike
+    ∷ case 9 numbers (1 ∷ 9 ∷ 1 ∷ 1 ∷ 5 ∷ 1 ∷ 0 ∷ 64 ∷ 2 ∷ 1 ∷ 0 ∷ 65 ∷ 0 ∷ 64 ∷ 1 ∷ 1 ∷ 65 ∷ 1 ∷ []) (list (4 ∷ 5 ∷ 5 ∷ 6 ∷ [])) (ended done 2 1 (list (4 ∷ 6 ∷ [])))
+    -- none alike
+    ∷ case 9 numbers (1 ∷ 9 ∷ 1 ∷ 1 ∷ 5 ∷ 1 ∷ 0 ∷ 64 ∷ 2 ∷ 1 ∷ 0 ∷ 65 ∷ 0 ∷ 64 ∷ 1 ∷ 1 ∷ 65 ∷ 1 ∷ []) (list (4 ∷ 5 ∷ 6 ∷ 5 ∷ [])) (ended done 5 0 (list (4 ∷ 5 ∷ 6 ∷ 5 ∷ [])))
+    -- a tree of several nodes
+    ∷ case 9 (2 ∷ 8 ∷ 2 ∷ 2 ∷ 0 ∷ 0 ∷ 1 ∷ 1 ∷ 1 ∷ 2 ∷ []) (1 ∷ 8 ∷ 0 ∷ 3 ∷ 0 ∷ 0 ∷ 64 ∷ 0 ∷ 65 ∷ 0 ∷ 1 ∷ 65 ∷ 0 ∷ []) (0 ∷ 0 ∷ 0 ∷ 0 ∷ 0 ∷ 1 ∷ 1 ∷ 3 ∷ 0 ∷ 1 ∷ 1 ∷ 4 ∷ 0 ∷ 0 ∷ 0 ∷ 1 ∷ 1 ∷ 3 ∷ 0 ∷ 1 ∷ 1 ∷ 4 ∷ []) (ended done 1 1 (0 ∷ 0 ∷ 0 ∷ 1 ∷ 1 ∷ 3 ∷ 0 ∷ 1 ∷ 1 ∷ 4 ∷ []))
+    -- .. and one that differs in its last word
+    ∷ case 9 (2 ∷ 8 ∷ 2 ∷ 2 ∷ 0 ∷ 0 ∷ 1 ∷ 1 ∷ 1 ∷ 2 ∷ []) (1 ∷ 8 ∷ 0 ∷ 3 ∷ 0 ∷ 0 ∷ 64 ∷ 0 ∷ 65 ∷ 0 ∷ 1 ∷ 65 ∷ 0 ∷ []) (0 ∷ 0 ∷ 0 ∷ 0 ∷ 0 ∷ 1 ∷ 1 ∷ 3 ∷ 0 ∷ 1 ∷ 1 ∷ 4 ∷ 0 ∷ 0 ∷ 0 ∷ 1 ∷ 1 ∷ 3 ∷ 0 ∷ 1 ∷ 1 ∷ 5 ∷ []) (ended done 1 0 (0 ∷ 0 ∷ 0 ∷ 0 ∷ 0 ∷ 1 ∷ 1 ∷ 3 ∷ 0 ∷ 1 ∷ 1 ∷ 4 ∷ 0 ∷ 0 ∷ 0 ∷ 1 ∷ 1 ∷ 3 ∷ 0 ∷ 1 ∷ 1 ∷ 5 ∷ []))
+    -- M11: an application without a match leaves the copy, and the next is applied
+    ∷ case 9 numbers (3 ∷ 9 ∷ 2 ∷ 1 ∷ 1 ∷ 64 ∷ 2 ∷ 4 ∷ 66 ∷ 0 ∷ 2 ∷ 0 ∷ 1 ∷ 0 ∷ 2 ∷ 0 ∷ 8 ∷ 2 ∷ 1 ∷ 2 ∷ 1 ∷ 1 ∷ 2 ∷ 2 ∷ 8 ∷ 2 ∷ 1 ∷ 2 ∷ 5 ∷ 1 ∷ 2 ∷ 6 ∷ []) (list (5 ∷ [])) (ended done 3 1 (list (6 ∷ [])))
+    -- both match, one after the other
+    ∷ case 9 numbers (3 ∷ 9 ∷ 2 ∷ 1 ∷ 1 ∷ 64 ∷ 2 ∷ 4 ∷ 66 ∷ 0 ∷ 2 ∷ 0 ∷ 1 ∷ 0 ∷ 2 ∷ 0 ∷ 8 ∷ 2 ∷ 1 ∷ 2 ∷ 5 ∷ 1 ∷ 2 ∷ 6 ∷ 8 ∷ 2 ∷ 1 ∷ 2 ∷ 6 ∷ 1 ∷ 2 ∷ 7 ∷ []) (list (5 ∷ [])) (ended done 3 1 (list (7 ∷ [])))
+    -- M12: the first match ends the search of a condition, whatever its reach
+    -- a condition
+    ∷ case 9 numbers (2 ∷ 12 ∷ 0 ∷ 1 ∷ 64 ∷ 0 ∷ 1 ∷ 8 ∷ 3 ∷ 66 ∷ 0 ∷ 1 ∷ 0 ∷ 1 ∷ 0 ∷ 2 ∷ 0 ∷ 0 ∷ 1 ∷ 1 ∷ 1 ∷ 2 ∷ 2 ∷ 1 ∷ 2 ∷ 5 ∷ []) (list (4 ∷ 5 ∷ 5 ∷ [])) (ended done 3 1 (list []))
+    -- a rule with a replacement acts as one
+    ∷ case 9 numbers (2 ∷ 12 ∷ 0 ∷ 1 ∷ 64 ∷ 0 ∷ 1 ∷ 8 ∷ 3 ∷ 66 ∷ 0 ∷ 1 ∷ 0 ∷ 1 ∷ 0 ∷ 2 ∷ 0 ∷ 0 ∷ 1 ∷ 1 ∷ 9 ∷ 2 ∷ 2 ∷ 1 ∷ 2 ∷ 5 ∷ 1 ∷ 2 ∷ 5 ∷ []) (list (4 ∷ 5 ∷ 5 ∷ [])) (ended done 3 1 (list []))
+    -- a root-only rule tries the root only
+    ∷ case 9 numbers (2 ∷ 12 ∷ 0 ∷ 1 ∷ 64 ∷ 0 ∷ 1 ∷ 8 ∷ 3 ∷ 66 ∷ 0 ∷ 1 ∷ 0 ∷ 1 ∷ 0 ∷ 2 ∷ 0 ∷ 0 ∷ 1 ∷ 1 ∷ 0 ∷ 0 ∷ 2 ∷ 0 ∷ 0 ∷ 1 ∷ 1 ∷ []) (list (4 ∷ [])) (ended done 2 0 (list (4 ∷ [])))
+    -- M13: operations and searches in parts are no attempts
+    ∷ case 1 numbers (1 ∷ 12 ∷ 0 ∷ 1 ∷ 64 ∷ 0 ∷ 3 ∷ 3 ∷ 2 ∷ 0 ∷ 1 ∷ 2 ∷ 500 ∷ 4 ∷ 2 ∷ 1 ∷ 2 ∷ 3 ∷ 8 ∷ 4 ∷ 66 ∷ 1 ∷ 1 ∷ 0 ∷ 1008 ∷ 1 ∷ 65 ∷ 1 ∷ 6 ∷ 0 ∷ 0 ∷ 1 ∷ 0 ∷ 66 ∷ 1 ∷ 1 ∷ 0 ∷ 1004 ∷ 0 ∷ 1 ∷ 1 ∷ []) twoAndFive (ended done 1 1 (list (0 ∷ [])))
+    -- the rest of a sequence is a node
+    -- the target is the rest
+    ∷ case 9 numbers (1 ∷ 9 ∷ 1 ∷ 1 ∷ 3 ∷ 1 ∷ 0 ∷ 2 ∷ 500 ∷ 64 ∷ 1 ∷ 1 ∷ 65 ∷ 0 ∷ []) twoAndFive (ended done 2 1 (list (200 ∷ [])))
+    -- also the empty one
+    ∷ case 9 numbers (1 ∷ 9 ∷ 1 ∷ 1 ∷ 1 ∷ 1 ∷ 1 ∷ 3 ∷ 1 ∷ 0 ∷ 2 ∷ 7 ∷ 1 ∷ 1 ∷ []) (list (5 ∷ [])) (ended done 2 1 (list (5 ∷ 7 ∷ [])))
+    -- "Bindings go when a trial ends": a failed attempt's are not there for the next
+    -- variable 0 is the second attempt's
+    ∷ case 9 numbers (1 ∷ 9 ∷ 1 ∷ 1 ∷ 3 ∷ 1 ∷ 0 ∷ 64 ∷ 2 ∷ 1 ∷ 1 ∷ 5 ∷ 1 ∷ 0 ∷ 65 ∷ 0 ∷ 1 ∷ 0 ∷ 65 ∷ 0 ∷ 1 ∷ 1 ∷ []) twoAndFive (ended done 2 1 (list (200 ∷ 500 ∷ 500 ∷ [])))
+    -- a failed part's too
+    ∷ case 9 numbers (1 ∷ 13 ∷ 1 ∷ 1 ∷ 3 ∷ 1 ∷ 0 ∷ 64 ∷ 2 ∷ 64 ∷ 1 ∷ 2 ∷ 4 ∷ 2 ∷ 1 ∷ 65 ∷ 0 ∷ 1 ∷ 0 ∷ 1 ∷ 2 ∷ 500 ∷ 3 ∷ 1 ∷ 0 ∷ 65 ∷ 2 ∷ 1 ∷ 1 ∷ []) twoAndFive (ended done 2 1 twoAndFive)
+    -- H1, H2, H12, H17: 42, on a sequence of itself; all its trees have odd counts
+    -- a tree of 2,047 nodes is built; the last part fails
+    ∷ case 9 sequences (1 ∷ 12 ∷ 0 ∷ 1 ∷ 64 ∷ 0 ∷ 3 ∷ 4 ∷ 0 ∷ 127 ∷ (times 63 (0 ∷ 0 ∷ 65 ∷ 0 ∷ []) ++ (0 ∷ 1 ∷ 4 ∷ 0 ∷ 31 ∷ (times 15 (0 ∷ 0 ∷ 65 ∷ 1 ∷ []) ++ (65 ∷ 1 ∷ 1 ∷ 0 ∷ 3 ∷ 0 ∷ 0 ∷ 64 ∷ 0 ∷ 64 ∷ 0 ∷ 1 ∷ 65 ∷ 0 ∷ []))))) (0 ∷ 1 ∷ []) (ended done 1 0 (0 ∷ 1 ∷ []))
+    -- one of 2,049 is not
+    ∷ case 9 sequences (1 ∷ 12 ∷ 0 ∷ 1 ∷ 64 ∷ 0 ∷ 3 ∷ 4 ∷ 0 ∷ 127 ∷ (times 63 (0 ∷ 0 ∷ 65 ∷ 0 ∷ []) ++ (0 ∷ 1 ∷ 4 ∷ 0 ∷ 33 ∷ (times 15 (0 ∷ 0 ∷ 65 ∷ 1 ∷ []) ++ (0 ∷ 0 ∷ 65 ∷ 0 ∷ 65 ∷ 1 ∷ 1 ∷ 0 ∷ 3 ∷ 0 ∷ 0 ∷ 64 ∷ 0 ∷ 64 ∷ 0 ∷ 1 ∷ 65 ∷ 0 ∷ []))))) (0 ∷ 1 ∷ []) (ended (stopped 42) 1 0 (0 ∷ 1 ∷ []))
+    -- H2, H15, H16: 44: scope, pattern's and built variables
+    -- 1 + 1 + 127 + 2,047 + 2,047 + 1,921 are 6,144
+    ∷ case 9 sequences (1 ∷ 12 ∷ 0 ∷ 1 ∷ 64 ∷ 0 ∷ 5 ∷ 4 ∷ 0 ∷ 127 ∷ (times 63 (0 ∷ 0 ∷ 65 ∷ 0 ∷ []) ++ (0 ∷ 1 ∷ 4 ∷ 0 ∷ 31 ∷ (times 15 (0 ∷ 0 ∷ 65 ∷ 1 ∷ []) ++ (65 ∷ 1 ∷ 4 ∷ 0 ∷ 1 ∷ 65 ∷ 2 ∷ 4 ∷ 0 ∷ 31 ∷ (times 15 (0 ∷ 0 ∷ 65 ∷ 1 ∷ []) ++ (0 ∷ 1 ∷ 1 ∷ 0 ∷ 3 ∷ 0 ∷ 0 ∷ 64 ∷ 0 ∷ 64 ∷ 0 ∷ 1 ∷ 65 ∷ 0 ∷ []))))))) (0 ∷ 1 ∷ []) (ended done 1 0 (0 ∷ 1 ∷ []))
+    -- two more are too many
+    ∷ case 9 sequences (1 ∷ 12 ∷ 0 ∷ 1 ∷ 64 ∷ 0 ∷ 5 ∷ 4 ∷ 0 ∷ 127 ∷ (times 63 (0 ∷ 0 ∷ 65 ∷ 0 ∷ []) ++ (0 ∷ 1 ∷ 4 ∷ 0 ∷ 31 ∷ (times 15 (0 ∷ 0 ∷ 65 ∷ 1 ∷ []) ++ (65 ∷ 1 ∷ 4 ∷ 0 ∷ 1 ∷ 65 ∷ 2 ∷ 4 ∷ 0 ∷ 33 ∷ (times 15 (0 ∷ 0 ∷ 65 ∷ 1 ∷ []) ++ (0 ∷ 0 ∷ 65 ∷ 0 ∷ 0 ∷ 1 ∷ 1 ∷ 0 ∷ 3 ∷ 0 ∷ 0 ∷ 64 ∷ 0 ∷ 64 ∷ 0 ∷ 1 ∷ 65 ∷ 0 ∷ []))))))) (0 ∷ 1 ∷ []) (ended (stopped 44) 1 0 (0 ∷ 1 ∷ []))
+    -- M3: one node bound more is too many, at its pair: that the pattern then fails comes later
+    ∷ case 9 sequences (1 ∷ 12 ∷ 0 ∷ 1 ∷ 64 ∷ 0 ∷ 6 ∷ 4 ∷ 0 ∷ 127 ∷ (times 63 (0 ∷ 0 ∷ 65 ∷ 0 ∷ []) ++ (0 ∷ 1 ∷ 4 ∷ 0 ∷ 31 ∷ (times 15 (0 ∷ 0 ∷ 65 ∷ 1 ∷ []) ++ (65 ∷ 1 ∷ 4 ∷ 0 ∷ 1 ∷ 65 ∷ 2 ∷ 4 ∷ 0 ∷ 31 ∷ (times 15 (0 ∷ 0 ∷ 65 ∷ 1 ∷ []) ++ (0 ∷ 1 ∷ 1 ∷ 1 ∷ 3 ∷ 0 ∷ 0 ∷ 64 ∷ 0 ∷ 0 ∷ 1 ∷ 1 ∷ 0 ∷ 3 ∷ 0 ∷ 0 ∷ 64 ∷ 0 ∷ 64 ∷ 0 ∷ 1 ∷ 65 ∷ 0 ∷ []))))))) (0 ∷ 1 ∷ []) (ended (stopped 44) 1 0 (0 ∷ 1 ∷ []))
+    -- one step that passes 42 and 44 gives 42
+    ∷ case 9 sequences (1 ∷ 12 ∷ 0 ∷ 1 ∷ 64 ∷ 0 ∷ 5 ∷ 4 ∷ 0 ∷ 127 ∷ (times 63 (0 ∷ 0 ∷ 65 ∷ 0 ∷ []) ++ (0 ∷ 1 ∷ 4 ∷ 0 ∷ 31 ∷ (times 15 (0 ∷ 0 ∷ 65 ∷ 1 ∷ []) ++ (65 ∷ 1 ∷ 4 ∷ 0 ∷ 1 ∷ 65 ∷ 2 ∷ 4 ∷ 0 ∷ 31 ∷ (times 15 (0 ∷ 0 ∷ 65 ∷ 1 ∷ []) ++ (65 ∷ 2 ∷ 1 ∷ 0 ∷ 3 ∷ 0 ∷ 0 ∷ 64 ∷ 0 ∷ 64 ∷ 0 ∷ 1 ∷ 65 ∷ 0 ∷ []))))))) (0 ∷ 1 ∷ []) (ended (stopped 42) 1 0 (0 ∷ 1 ∷ []))
+    -- one node bound more by a pattern that matches
+    ∷ case 9 sequences (1 ∷ 12 ∷ 0 ∷ 1 ∷ 64 ∷ 0 ∷ 5 ∷ 4 ∷ 0 ∷ 127 ∷ (times 63 (0 ∷ 0 ∷ 65 ∷ 0 ∷ []) ++ (0 ∷ 1 ∷ 4 ∷ 0 ∷ 31 ∷ (times 15 (0 ∷ 0 ∷ 65 ∷ 1 ∷ []) ++ (65 ∷ 1 ∷ 4 ∷ 0 ∷ 1 ∷ 65 ∷ 2 ∷ 4 ∷ 0 ∷ 31 ∷ (times 15 (0 ∷ 0 ∷ 65 ∷ 1 ∷ []) ++ (0 ∷ 1 ∷ 1 ∷ 0 ∷ 1 ∷ 64 ∷ 0 ∷ 1 ∷ 65 ∷ 0 ∷ []))))))) (0 ∷ 1 ∷ []) (ended (stopped 44) 1 0 (0 ∷ 1 ∷ []))
+    -- one written where 6,144 are live
+    ∷ case 9 sequences (1 ∷ 12 ∷ 0 ∷ 1 ∷ 64 ∷ 0 ∷ 4 ∷ 4 ∷ 0 ∷ 127 ∷ (times 63 (0 ∷ 0 ∷ 65 ∷ 0 ∷ []) ++ (0 ∷ 1 ∷ 4 ∷ 0 ∷ 31 ∷ (times 15 (0 ∷ 0 ∷ 65 ∷ 1 ∷ []) ++ (65 ∷ 1 ∷ 4 ∷ 0 ∷ 1 ∷ 65 ∷ 2 ∷ 4 ∷ 0 ∷ 31 ∷ (times 15 (0 ∷ 0 ∷ 65 ∷ 1 ∷ []) ++ (0 ∷ 1 ∷ 1 ∷ 0 ∷ 1 ∷ []))))))) (0 ∷ 1 ∷ []) (ended (stopped 44) 1 0 (0 ∷ 1 ∷ []))
+    -- a condition's copy where 6,144 are live
+    ∷ case 9 sequences (1 ∷ 12 ∷ 0 ∷ 1 ∷ 64 ∷ 0 ∷ 5 ∷ 4 ∷ 0 ∷ 127 ∷ (times 63 (0 ∷ 0 ∷ 65 ∷ 0 ∷ []) ++ (0 ∷ 1 ∷ 4 ∷ 0 ∷ 31 ∷ (times 15 (0 ∷ 0 ∷ 65 ∷ 1 ∷ []) ++ (65 ∷ 1 ∷ 4 ∷ 0 ∷ 1 ∷ 65 ∷ 2 ∷ 4 ∷ 0 ∷ 31 ∷ (times 15 (0 ∷ 0 ∷ 65 ∷ 1 ∷ []) ++ (0 ∷ 1 ∷ 8 ∷ 3 ∷ 66 ∷ 0 ∷ 1 ∷ 0 ∷ 0 ∷ 0 ∷ 1 ∷ 0 ∷ 1 ∷ []))))))) (0 ∷ 1 ∷ []) (ended (stopped 44) 1 0 (0 ∷ 1 ∷ []))
+    -- H2, H6: parameters are live, and 44 at a copy comes before 41 (H3)
+    -- 32 calls, each with a parameter, on trees of 64 nodes: 41
+    ∷ case 99 numbers (2 ∷ 8 ∷ 0 ∷ 1 ∷ 64 ∷ 0 ∷ 4 ∷ 66 ∷ 0 ∷ 1 ∷ 0 ∷ 1 ∷ 1 ∷ 65 ∷ 0 ∷ 10 ∷ 0 ∷ 1 ∷ 0 ∷ 1 ∷ 64 ∷ 0 ∷ 4 ∷ 66 ∷ 1 ∷ 1 ∷ 0 ∷ 1 ∷ 1 ∷ 65 ∷ 0 ∷ []) (list (replicate 31 5)) (ended (stopped 41) 32 0 (list (replicate 31 5)))
+    -- on trees of 66: 44 as the 32nd call takes its argument
+    ∷ case 99 numbers (2 ∷ 8 ∷ 0 ∷ 1 ∷ 64 ∷ 0 ∷ 4 ∷ 66 ∷ 0 ∷ 1 ∷ 0 ∷ 1 ∷ 1 ∷ 65 ∷ 0 ∷ 10 ∷ 0 ∷ 1 ∷ 0 ∷ 1 ∷ 64 ∷ 0 ∷ 4 ∷ 66 ∷ 1 ∷ 1 ∷ 0 ∷ 1 ∷ 1 ∷ 65 ∷ 0 ∷ []) (list (replicate 32 5)) (ended (stopped 44) 31 0 (list (replicate 32 5)))
+    -- .. also with the budget spent (M2)
+    ∷ case 31 numbers (2 ∷ 8 ∷ 0 ∷ 1 ∷ 64 ∷ 0 ∷ 4 ∷ 66 ∷ 0 ∷ 1 ∷ 0 ∷ 1 ∷ 1 ∷ 65 ∷ 0 ∷ 10 ∷ 0 ∷ 1 ∷ 0 ∷ 1 ∷ 64 ∷ 0 ∷ 4 ∷ 66 ∷ 1 ∷ 1 ∷ 0 ∷ 1 ∷ 1 ∷ 65 ∷ 0 ∷ []) (list (replicate 32 5)) (ended (stopped 44) 31 0 (list (replicate 32 5)))
+    -- one variable given twice counts twice
+    ∷ case 99 numbers (2 ∷ 8 ∷ 0 ∷ 1 ∷ 64 ∷ 0 ∷ 5 ∷ 66 ∷ 0 ∷ 1 ∷ 0 ∷ 1 ∷ 2 ∷ 65 ∷ 0 ∷ 65 ∷ 0 ∷ 10 ∷ 0 ∷ 2 ∷ 0 ∷ 0 ∷ 1 ∷ 64 ∷ 0 ∷ 5 ∷ 66 ∷ 2 ∷ 1 ∷ 0 ∷ 1 ∷ 2 ∷ 65 ∷ 0 ∷ 65 ∷ 1 ∷ []) (list (replicate 25 5)) (ended (stopped 44) 30 0 (list (replicate 25 5)))
+    -- without parameters, of 94 nodes: 41
+    ∷ case 99 numbers (1 ∷ 8 ∷ 0 ∷ 1 ∷ 64 ∷ 0 ∷ 3 ∷ 66 ∷ 0 ∷ 1 ∷ 0 ∷ 0 ∷ 0 ∷ []) (list (replicate 46 5)) (ended (stopped 41) 32 0 (list (replicate 46 5)))
+    -- of 96: 44 at the copy
+    ∷ case 99 numbers (1 ∷ 8 ∷ 0 ∷ 1 ∷ 64 ∷ 0 ∷ 3 ∷ 66 ∷ 0 ∷ 1 ∷ 0 ∷ 0 ∷ 0 ∷ []) (list (replicate 47 5)) (ended (stopped 44) 32 0 (list (replicate 47 5)))
+    -- H4: 42 of a chain's result is judged where it is moved
+    -- the copy is shrunk before the move
+    ∷ case 9 sequences (2 ∷ 12 ∷ 0 ∷ 1 ∷ 64 ∷ 0 ∷ 4 ∷ 4 ∷ 0 ∷ 127 ∷ (times 63 (0 ∷ 0 ∷ 65 ∷ 0 ∷ []) ++ (0 ∷ 1 ∷ 4 ∷ 0 ∷ 29 ∷ (times 14 (0 ∷ 0 ∷ 65 ∷ 1 ∷ []) ++ (0 ∷ 1 ∷ 4 ∷ 0 ∷ 5 ∷ 0 ∷ 0 ∷ 66 ∷ 2 ∷ 1 ∷ 0 ∷ 1 ∷ 0 ∷ 65 ∷ 2 ∷ 1 ∷ 0 ∷ 3 ∷ 0 ∷ 0 ∷ 64 ∷ 0 ∷ 64 ∷ 0 ∷ 1 ∷ 65 ∷ 0 ∷ 8 ∷ 0 ∷ 1 ∷ 64 ∷ 0 ∷ 1 ∷ 0 ∷ 1 ∷ []))))) (0 ∷ 1 ∷ []) (ended done 2 0 (0 ∷ 1 ∷ []))
+    -- it is not
+    ∷ case 9 sequences (2 ∷ 12 ∷ 0 ∷ 1 ∷ 64 ∷ 0 ∷ 4 ∷ 4 ∷ 0 ∷ 127 ∷ (times 63 (0 ∷ 0 ∷ 65 ∷ 0 ∷ []) ++ (0 ∷ 1 ∷ 4 ∷ 0 ∷ 29 ∷ (times 14 (0 ∷ 0 ∷ 65 ∷ 1 ∷ []) ++ (0 ∷ 1 ∷ 4 ∷ 0 ∷ 5 ∷ 0 ∷ 0 ∷ 66 ∷ 2 ∷ 1 ∷ 0 ∷ 1 ∷ 0 ∷ 65 ∷ 2 ∷ 1 ∷ 0 ∷ 3 ∷ 0 ∷ 0 ∷ 64 ∷ 0 ∷ 64 ∷ 0 ∷ 1 ∷ 65 ∷ 0 ∷ 8 ∷ 0 ∷ 1 ∷ 0 ∷ 1 ∷ 1 ∷ 0 ∷ 1 ∷ []))))) (0 ∷ 1 ∷ []) (ended (stopped 42) 2 0 (0 ∷ 1 ∷ []))
+    -- H5: a condition's copy is live till the condition ends
+    -- two conditions one after the other, the copies of one at a time
+    ∷ case 9 sequences (2 ∷ 12 ∷ 0 ∷ 1 ∷ 64 ∷ 0 ∷ 5 ∷ 4 ∷ 0 ∷ 127 ∷ (times 63 (0 ∷ 0 ∷ 65 ∷ 0 ∷ []) ++ (0 ∷ 1 ∷ 4 ∷ 0 ∷ 31 ∷ (times 15 (0 ∷ 0 ∷ 65 ∷ 1 ∷ []) ++ (65 ∷ 1 ∷ 24 ∷ 3 ∷ 66 ∷ 2 ∷ 1 ∷ 0 ∷ 1 ∷ 0 ∷ 24 ∷ 3 ∷ 66 ∷ 2 ∷ 1 ∷ 0 ∷ 1 ∷ 0 ∷ 1 ∷ 0 ∷ 3 ∷ 0 ∷ 0 ∷ 64 ∷ 0 ∷ 64 ∷ 0 ∷ 1 ∷ 65 ∷ 0 ∷ 0 ∷ 0 ∷ 1 ∷ 0 ∷ 1 ∷ []))))) (0 ∷ 1 ∷ []) (ended done 3 0 (0 ∷ 1 ∷ []))
+    -- H8: open calls, those of conditions too; operations are none
+    -- a sequence of 31 takes 32 calls
+    ∷ case 99 numbers (1 ∷ 9 ∷ 1 ∷ 1 ∷ 3 ∷ 1 ∷ 0 ∷ 64 ∷ 2 ∷ 64 ∷ 1 ∷ 5 ∷ 1 ∷ 0 ∷ 2 ∷ 7 ∷ 66 ∷ 1 ∷ 1 ∷ 0 ∷ 0 ∷ 0 ∷ []) (list (replicate 31 5)) (ended done 32 1 (list (replicate 31 7)))
+    -- one of 32 a 33rd
+    ∷ case 99 numbers (1 ∷ 9 ∷ 1 ∷ 1 ∷ 3 ∷ 1 ∷ 0 ∷ 64 ∷ 2 ∷ 64 ∷ 1 ∷ 5 ∷ 1 ∷ 0 ∷ 2 ∷ 7 ∷ 66 ∷ 1 ∷ 1 ∷ 0 ∷ 0 ∷ 0 ∷ []) (list (replicate 32 5)) (ended (stopped 41) 32 0 (list (replicate 32 5)))
+    -- calls in conditions
+    ∷ case 99 numbers (1 ∷ 12 ∷ 0 ∷ 1 ∷ 64 ∷ 0 ∷ 1 ∷ 8 ∷ 3 ∷ 66 ∷ 0 ∷ 1 ∷ 0 ∷ 0 ∷ 0 ∷ 1 ∷ 65 ∷ 0 ∷ []) (list (5 ∷ [])) (ended (stopped 41) 32 0 (list (5 ∷ [])))
+    -- an operation in the 32nd call: 45
+    ∷ case 99 numbers (1 ∷ 13 ∷ 1 ∷ 1 ∷ 3 ∷ 1 ∷ 0 ∷ 64 ∷ 2 ∷ 64 ∷ 1 ∷ 1 ∷ 4 ∷ 2 ∷ 3 ∷ 66 ∷ 0 ∷ 1 ∷ 0 ∷ 1004 ∷ 0 ∷ 5 ∷ 1 ∷ 0 ∷ 2 ∷ 7 ∷ 66 ∷ 1 ∷ 1 ∷ 0 ∷ 0 ∷ 0 ∷ []) (list (replicate 31 5 ++ 999999950 ∷ [])) (ended (stopped 45) 32 0 (list (replicate 31 5 ++ 999999950 ∷ [])))
+    -- H9, H10, H13 to H15: 43
+    -- 62 levels over 2: nesting 64
+    ∷ case 9 levels (1 ∷ 12 ∷ 0 ∷ 1 ∷ 64 ∷ 0 ∷ 2 ∷ 4 ∷ 0 ∷ 63 ∷ (times 62 (0 ∷ 0 ∷ []) ++ (65 ∷ 0 ∷ 1 ∷ 0 ∷ 1 ∷ 0 ∷ 1 ∷ 1 ∷ 65 ∷ 0 ∷ []))) (0 ∷ 0 ∷ 0 ∷ 1 ∷ []) (ended done 1 0 (0 ∷ 0 ∷ 0 ∷ 1 ∷ []))
+    -- 63 levels over 2: 43 when the construct is finished, though never used
+    ∷ case 9 levels (1 ∷ 12 ∷ 0 ∷ 1 ∷ 64 ∷ 0 ∷ 2 ∷ 4 ∷ 0 ∷ 64 ∷ (times 63 (0 ∷ 0 ∷ []) ++ (65 ∷ 0 ∷ 1 ∷ 0 ∷ 1 ∷ 0 ∷ 1 ∷ 1 ∷ 65 ∷ 0 ∷ []))) (0 ∷ 0 ∷ 0 ∷ 1 ∷ []) (ended (stopped 43) 1 0 (0 ∷ 0 ∷ 0 ∷ 1 ∷ []))
+    -- a replacement of 40 levels put at nesting 25: 64
+    ∷ case 99 levels (1 ∷ 9 ∷ 0 ∷ 1 ∷ 1 ∷ 0 ∷ 1 ∷ 40 ∷ (times 39 (0 ∷ 0 ∷ []) ++ (0 ∷ 1 ∷ []))) (times 24 (0 ∷ 0 ∷ []) ++ (0 ∷ 1 ∷ [])) (ended done 25 1 (times 63 (0 ∷ 0 ∷ []) ++ (0 ∷ 1 ∷ [])))
+    -- .. at nesting 26: 43 in place
+    ∷ case 99 levels (1 ∷ 9 ∷ 0 ∷ 1 ∷ 1 ∷ 0 ∷ 1 ∷ 40 ∷ (times 39 (0 ∷ 0 ∷ []) ++ (0 ∷ 1 ∷ []))) (times 25 (0 ∷ 0 ∷ []) ++ (0 ∷ 1 ∷ [])) (ended (stopped 43) 26 0 (times 25 (0 ∷ 0 ∷ []) ++ (0 ∷ 1 ∷ [])))
+    -- in a call it is counted in that call's own scope: 10 levels under 60, undone before the move
+    ∷ case 9 levels (3 ∷ 8 ∷ 0 ∷ 1 ∷ 64 ∷ 0 ∷ 64 ∷ (times 60 (0 ∷ 0 ∷ []) ++ (66 ∷ 0 ∷ 2 ∷ 0 ∷ 1 ∷ 0 ∷ 2 ∷ 0 ∷ 8 ∷ 0 ∷ 1 ∷ 64 ∷ 0 ∷ 11 ∷ (times 10 (0 ∷ 0 ∷ []) ++ (65 ∷ 0 ∷ 8 ∷ 0 ∷ 1 ∷ 64 ∷ 0 ∷ 1 ∷ 0 ∷ 1 ∷ []))))) (0 ∷ 1 ∷ []) (ended done 3 1 (times 60 (0 ∷ 0 ∷ []) ++ (0 ∷ 1 ∷ [])))
+    -- .. and not undone: 43 when the tree above is finished
+    ∷ case 9 levels (3 ∷ 8 ∷ 0 ∷ 1 ∷ 64 ∷ 0 ∷ 63 ∷ (times 60 (0 ∷ 0 ∷ []) ++ (66 ∷ 0 ∷ 1 ∷ 0 ∷ 1 ∷ 0 ∷ 8 ∷ 0 ∷ 1 ∷ 64 ∷ 0 ∷ 11 ∷ (times 10 (0 ∷ 0 ∷ []) ++ (65 ∷ 0 ∷ 8 ∷ 0 ∷ 1 ∷ 64 ∷ 0 ∷ 1 ∷ 0 ∷ 1 ∷ []))))) (0 ∷ 1 ∷ []) (ended (stopped 43) 2 0 (0 ∷ 1 ∷ []))
+    -- the rest of a sequence keeps its place's nesting
+    ∷ case 9 sequences (1 ∷ 9 ∷ 0 ∷ 1 ∷ 3 ∷ 0 ∷ 0 ∷ 0 ∷ 1 ∷ 0 ∷ 1 ∷ 61 ∷ (times 30 (0 ∷ 0 ∷ []) ++ (times 31 (0 ∷ 1 ∷ [])))) (0 ∷ 0 ∷ 0 ∷ 1 ∷ 0 ∷ 0 ∷ 0 ∷ 1 ∷ 0 ∷ 0 ∷ 0 ∷ 1 ∷ 0 ∷ 1 ∷ []) (ended done 5 1 (0 ∷ 0 ∷ 0 ∷ 1 ∷ 0 ∷ 0 ∷ 0 ∷ 1 ∷ (times 30 (0 ∷ 0 ∷ []) ++ (times 31 (0 ∷ 1 ∷ [])))))
+    -- H11: a moved tree's nesting is judged where the tree above is finished
+    -- a later pair's 45 comes first
+    ∷ case 9 (2 ∷ 8 ∷ 2 ∷ 2 ∷ 0 ∷ 1 ∷ 0 ∷ 1 ∷ 2 ∷ []) (2 ∷ 8 ∷ 0 ∷ 3 ∷ 0 ∷ 0 ∷ 64 ∷ 0 ∷ 64 ∷ 1 ∷ 126 ∷ (times 60 (0 ∷ 0 ∷ []) ++ (66 ∷ 0 ∷ 1 ∷ 0 ∷ 1 ∷ 0 ∷ (times 59 (65 ∷ 1 ∷ []) ++ (66 ∷ 1 ∷ 1 ∷ 0 ∷ 1002 ∷ 1 ∷ 65 ∷ 1 ∷ 8 ∷ 0 ∷ 1 ∷ 0 ∷ 1 ∷ 1 ∷ 0 ∷ 1 ∷ []))))) (times 7 (0 ∷ 0 ∷ []) ++ (0 ∷ 1 ∷ (times 7 (1 ∷ 0 ∷ [])))) (ended (stopped 45) 2 0 (times 7 (0 ∷ 0 ∷ []) ++ (0 ∷ 1 ∷ (times 7 (1 ∷ 0 ∷ [])))))
+    -- no later stop: 43
+    ∷ case 9 (2 ∷ 8 ∷ 2 ∷ 2 ∷ 0 ∷ 1 ∷ 0 ∷ 1 ∷ 2 ∷ []) (2 ∷ 8 ∷ 0 ∷ 3 ∷ 0 ∷ 0 ∷ 64 ∷ 0 ∷ 64 ∷ 1 ∷ 123 ∷ (times 60 (0 ∷ 0 ∷ []) ++ (66 ∷ 0 ∷ 1 ∷ 0 ∷ 1 ∷ 0 ∷ (times 60 (65 ∷ 1 ∷ []) ++ (8 ∷ 0 ∷ 1 ∷ 0 ∷ 1 ∷ 1 ∷ 0 ∷ 1 ∷ []))))) (times 7 (0 ∷ 0 ∷ []) ++ (0 ∷ 1 ∷ (times 7 (1 ∷ 0 ∷ [])))) (ended (stopped 43) 2 0 (times 7 (0 ∷ 0 ∷ []) ++ (0 ∷ 1 ∷ (times 7 (1 ∷ 0 ∷ [])))))
+    -- O1 to O4: the operations
+    -- add up to the most
+    ∷ case 9 numbers (1 ∷ 9 ∷ 1 ∷ 1 ∷ 5 ∷ 1 ∷ 0 ∷ 64 ∷ 2 ∷ 1 ∷ 0 ∷ 64 ∷ 2 ∷ 64 ∷ 1 ∷ 6 ∷ 1 ∷ 0 ∷ 66 ∷ 0 ∷ 1 ∷ 0 ∷ 1000 ∷ 1 ∷ 65 ∷ 1 ∷ 65 ∷ 2 ∷ []) (list (999999998 ∷ 1 ∷ [])) (ended done 1 1 (list (999999999 ∷ [])))
+    -- .. and past it
+    ∷ case 9 numbers (1 ∷ 9 ∷ 1 ∷ 1 ∷ 5 ∷ 1 ∷ 0 ∷ 64 ∷ 2 ∷ 1 ∷ 0 ∷ 64 ∷ 2 ∷ 64 ∷ 1 ∷ 6 ∷ 1 ∷ 0 ∷ 66 ∷ 0 ∷ 1 ∷ 0 ∷ 1000 ∷ 1 ∷ 65 ∷ 1 ∷ 65 ∷ 2 ∷ []) (list (999999999 ∷ 1 ∷ [])) (ended (stopped 45) 1 0 (list (999999999 ∷ 1 ∷ [])))
+    -- subtract down to 0
+    ∷ case 9 numbers (1 ∷ 9 ∷ 1 ∷ 1 ∷ 5 ∷ 1 ∷ 0 ∷ 64 ∷ 2 ∷ 1 ∷ 0 ∷ 64 ∷ 2 ∷ 64 ∷ 1 ∷ 6 ∷ 1 ∷ 0 ∷ 66 ∷ 0 ∷ 1 ∷ 0 ∷ 1001 ∷ 1 ∷ 65 ∷ 1 ∷ 65 ∷ 2 ∷ []) (list (5 ∷ 5 ∷ [])) (ended done 1 1 (list (0 ∷ [])))
+    -- .. and under it
+    ∷ case 9 numbers (1 ∷ 9 ∷ 1 ∷ 1 ∷ 5 ∷ 1 ∷ 0 ∷ 64 ∷ 2 ∷ 1 ∷ 0 ∷ 64 ∷ 2 ∷ 64 ∷ 1 ∷ 6 ∷ 1 ∷ 0 ∷ 66 ∷ 0 ∷ 1 ∷ 0 ∷ 1001 ∷ 1 ∷ 65 ∷ 1 ∷ 65 ∷ 2 ∷ []) (list (5 ∷ 6 ∷ [])) (ended (stopped 45) 1 0 (list (5 ∷ 6 ∷ [])))
+    -- quotient: 10.00 by 3.00 is 3.00
+    ∷ case 9 numbers (1 ∷ 9 ∷ 1 ∷ 1 ∷ 5 ∷ 1 ∷ 0 ∷ 64 ∷ 2 ∷ 1 ∷ 0 ∷ 64 ∷ 2 ∷ 64 ∷ 1 ∷ 6 ∷ 1 ∷ 0 ∷ 66 ∷ 0 ∷ 1 ∷ 0 ∷ 1002 ∷ 1 ∷ 65 ∷ 1 ∷ 65 ∷ 2 ∷ []) (list (1000 ∷ 300 ∷ [])) (ended done 1 1 (list (300 ∷ [])))
+    -- the greatest quotient
+    ∷ case 9 numbers (1 ∷ 9 ∷ 1 ∷ 1 ∷ 5 ∷ 1 ∷ 0 ∷ 64 ∷ 2 ∷ 1 ∷ 0 ∷ 64 ∷ 2 ∷ 64 ∷ 1 ∷ 6 ∷ 1 ∷ 0 ∷ 66 ∷ 0 ∷ 1 ∷ 0 ∷ 1002 ∷ 1 ∷ 65 ∷ 1 ∷ 65 ∷ 2 ∷ []) (list (9999999 ∷ 1 ∷ [])) (ended done 1 1 (list (999999900 ∷ [])))
+    -- .. and one past it
+    ∷ case 9 numbers (1 ∷ 9 ∷ 1 ∷ 1 ∷ 5 ∷ 1 ∷ 0 ∷ 64 ∷ 2 ∷ 1 ∷ 0 ∷ 64 ∷ 2 ∷ 64 ∷ 1 ∷ 6 ∷ 1 ∷ 0 ∷ 66 ∷ 0 ∷ 1 ∷ 0 ∷ 1002 ∷ 1 ∷ 65 ∷ 1 ∷ 65 ∷ 2 ∷ []) (list (10000000 ∷ 1 ∷ [])) (ended (stopped 45) 1 0 (list (10000000 ∷ 1 ∷ [])))
+    -- divisor 0
+    ∷ case 9 numbers (1 ∷ 9 ∷ 1 ∷ 1 ∷ 5 ∷ 1 ∷ 0 ∷ 64 ∷ 2 ∷ 1 ∷ 0 ∷ 64 ∷ 2 ∷ 64 ∷ 1 ∷ 6 ∷ 1 ∷ 0 ∷ 66 ∷ 0 ∷ 1 ∷ 0 ∷ 1002 ∷ 1 ∷ 65 ∷ 1 ∷ 65 ∷ 2 ∷ []) (list (5 ∷ 0 ∷ [])) (ended (stopped 45) 1 0 (list (5 ∷ 0 ∷ [])))
+    -- remainder: 250 and 120 give 10
+    ∷ case 9 numbers (1 ∷ 9 ∷ 1 ∷ 1 ∷ 5 ∷ 1 ∷ 0 ∷ 64 ∷ 2 ∷ 1 ∷ 0 ∷ 64 ∷ 2 ∷ 64 ∷ 1 ∷ 6 ∷ 1 ∷ 0 ∷ 66 ∷ 0 ∷ 1 ∷ 0 ∷ 1003 ∷ 1 ∷ 65 ∷ 1 ∷ 65 ∷ 2 ∷ []) (list (250 ∷ 120 ∷ [])) (ended done 1 1 (list (10 ∷ [])))
+    -- the quotient on the way may pass the limit
+    ∷ case 9 numbers (1 ∷ 9 ∷ 1 ∷ 1 ∷ 5 ∷ 1 ∷ 0 ∷ 64 ∷ 2 ∷ 1 ∷ 0 ∷ 64 ∷ 2 ∷ 64 ∷ 1 ∷ 6 ∷ 1 ∷ 0 ∷ 66 ∷ 0 ∷ 1 ∷ 0 ∷ 1003 ∷ 1 ∷ 65 ∷ 1 ∷ 65 ∷ 2 ∷ []) (list (999999999 ∷ 1 ∷ [])) (ended done 1 1 (list (0 ∷ [])))
+    -- divisor 0
+    ∷ case 9 numbers (1 ∷ 9 ∷ 1 ∷ 1 ∷ 5 ∷ 1 ∷ 0 ∷ 64 ∷ 2 ∷ 1 ∷ 0 ∷ 64 ∷ 2 ∷ 64 ∷ 1 ∷ 6 ∷ 1 ∷ 0 ∷ 66 ∷ 0 ∷ 1 ∷ 0 ∷ 1003 ∷ 1 ∷ 65 ∷ 1 ∷ 65 ∷ 2 ∷ []) (list (0 ∷ 0 ∷ [])) (ended (stopped 45) 1 0 (list (0 ∷ 0 ∷ [])))
+    -- round
+    ∷ case 9 numbers (1 ∷ 9 ∷ 2 ∷ 1 ∷ 1 ∷ 64 ∷ 2 ∷ 3 ∷ 66 ∷ 0 ∷ 1 ∷ 0 ∷ 1004 ∷ 0 ∷ []) (list (49 ∷ [])) (ended done 1 1 (list (0 ∷ [])))
+    -- half up
+    ∷ case 9 numbers (1 ∷ 9 ∷ 2 ∷ 1 ∷ 1 ∷ 64 ∷ 2 ∷ 3 ∷ 66 ∷ 0 ∷ 1 ∷ 0 ∷ 1004 ∷ 0 ∷ []) (list (50 ∷ [])) (ended done 1 1 (list (100 ∷ [])))
+    ∷ case 9 numbers (1 ∷ 9 ∷ 2 ∷ 1 ∷ 1 ∷ 64 ∷ 2 ∷ 3 ∷ 66 ∷ 0 ∷ 1 ∷ 0 ∷ 1004 ∷ 0 ∷ []) (list (150 ∷ [])) (ended done 1 1 (list (200 ∷ [])))
+    ∷ case 9 numbers (1 ∷ 9 ∷ 2 ∷ 1 ∷ 1 ∷ 64 ∷ 2 ∷ 3 ∷ 66 ∷ 0 ∷ 1 ∷ 0 ∷ 1004 ∷ 0 ∷ []) (list (999999949 ∷ [])) (ended done 1 1 (list (999999900 ∷ [])))
+    -- .. past the limit
+    ∷ case 9 numbers (1 ∷ 9 ∷ 2 ∷ 1 ∷ 1 ∷ 64 ∷ 2 ∷ 3 ∷ 66 ∷ 0 ∷ 1 ∷ 0 ∷ 1004 ∷ 0 ∷ []) (list (999999950 ∷ [])) (ended (stopped 45) 1 0 (list (999999950 ∷ [])))
+    -- truncate
+    ∷ case 9 numbers (1 ∷ 9 ∷ 2 ∷ 1 ∷ 1 ∷ 64 ∷ 2 ∷ 3 ∷ 66 ∷ 0 ∷ 1 ∷ 0 ∷ 1005 ∷ 0 ∷ []) (list (199 ∷ [])) (ended done 1 1 (list (100 ∷ [])))
+    ∷ case 9 numbers (1 ∷ 9 ∷ 2 ∷ 1 ∷ 1 ∷ 64 ∷ 2 ∷ 3 ∷ 66 ∷ 0 ∷ 1 ∷ 0 ∷ 1005 ∷ 0 ∷ []) (list (999999999 ∷ [])) (ended done 1 1 (list (999999900 ∷ [])))
+    -- number types may differ; the scope's stays
+    ∷ case 9 (3 ∷ 8 ∷ 1 ∷ 2 ∷ 1 ∷ 2 ∷ 1 ∷ 2 ∷ 1 ∷ 2 ∷ []) (1 ∷ 8 ∷ 0 ∷ 3 ∷ 0 ∷ 0 ∷ 64 ∷ 1 ∷ 64 ∷ 2 ∷ 6 ∷ 0 ∷ 0 ∷ 66 ∷ 0 ∷ 1 ∷ 0 ∷ 1000 ∷ 1 ∷ 65 ∷ 1 ∷ 65 ∷ 1 ∷ []) (0 ∷ 0 ∷ 1 ∷ 250 ∷ 2 ∷ 120 ∷ []) (ended done 1 1 (0 ∷ 0 ∷ 1 ∷ 370 ∷ 2 ∷ 120 ∷ []))
+    -- equal
+    ∷ case 9 (3 ∷ 8 ∷ 1 ∷ 2 ∷ 1 ∷ 2 ∷ 1 ∷ 2 ∷ 1 ∷ 2 ∷ []) (1 ∷ 12 ∷ 0 ∷ 3 ∷ 0 ∷ 0 ∷ 64 ∷ 1 ∷ 64 ∷ 2 ∷ 1 ∷ 8 ∷ 4 ∷ 66 ∷ 0 ∷ 1 ∷ 0 ∷ 1008 ∷ 1 ∷ 65 ∷ 1 ∷ 3 ∷ 0 ∷ 0 ∷ 1 ∷ 1 ∷ 2 ∷ 1 ∷ []) (0 ∷ 0 ∷ 1 ∷ 5 ∷ 2 ∷ 5 ∷ []) (ended done 1 1 (0 ∷ 0 ∷ 1 ∷ 1 ∷ 2 ∷ 1 ∷ []))
+    ∷ case 9 (3 ∷ 8 ∷ 1 ∷ 2 ∷ 1 ∷ 2 ∷ 1 ∷ 2 ∷ 1 ∷ 2 ∷ []) (1 ∷ 12 ∷ 0 ∷ 3 ∷ 0 ∷ 0 ∷ 64 ∷ 1 ∷ 64 ∷ 2 ∷ 1 ∷ 8 ∷ 4 ∷ 66 ∷ 0 ∷ 1 ∷ 0 ∷ 1008 ∷ 1 ∷ 65 ∷ 1 ∷ 3 ∷ 0 ∷ 0 ∷ 1 ∷ 1 ∷ 2 ∷ 1 ∷ []) (0 ∷ 0 ∷ 1 ∷ 5 ∷ 2 ∷ 6 ∷ []) (ended done 1 0 (0 ∷ 0 ∷ 1 ∷ 5 ∷ 2 ∷ 6 ∷ []))
+    -- scope greater
+    ∷ case 9 (3 ∷ 8 ∷ 1 ∷ 2 ∷ 1 ∷ 2 ∷ 1 ∷ 2 ∷ 1 ∷ 2 ∷ []) (1 ∷ 12 ∷ 0 ∷ 3 ∷ 0 ∷ 0 ∷ 64 ∷ 1 ∷ 64 ∷ 2 ∷ 1 ∷ 8 ∷ 4 ∷ 66 ∷ 0 ∷ 1 ∷ 0 ∷ 1009 ∷ 1 ∷ 65 ∷ 1 ∷ 3 ∷ 0 ∷ 0 ∷ 1 ∷ 1 ∷ 2 ∷ 1 ∷ []) (0 ∷ 0 ∷ 1 ∷ 6 ∷ 2 ∷ 5 ∷ []) (ended done 1 1 (0 ∷ 0 ∷ 1 ∷ 1 ∷ 2 ∷ 1 ∷ []))
+    ∷ case 9 (3 ∷ 8 ∷ 1 ∷ 2 ∷ 1 ∷ 2 ∷ 1 ∷ 2 ∷ 1 ∷ 2 ∷ []) (1 ∷ 12 ∷ 0 ∷ 3 ∷ 0 ∷ 0 ∷ 64 ∷ 1 ∷ 64 ∷ 2 ∷ 1 ∷ 8 ∷ 4 ∷ 66 ∷ 0 ∷ 1 ∷ 0 ∷ 1009 ∷ 1 ∷ 65 ∷ 1 ∷ 3 ∷ 0 ∷ 0 ∷ 1 ∷ 1 ∷ 2 ∷ 1 ∷ []) (0 ∷ 0 ∷ 1 ∷ 5 ∷ 2 ∷ 5 ∷ []) (ended done 1 0 (0 ∷ 0 ∷ 1 ∷ 5 ∷ 2 ∷ 5 ∷ []))
+    -- A1 to A3: the answer
+    -- without a match the result is the tree
+    ∷ case 9 numbers toFortyTwo (list (7 ∷ 8 ∷ [])) (ended done 2 0 (list (7 ∷ 8 ∷ [])))
+    -- a stop in the second replacement: the first stays, its attempt counts
+    ∷ case 9 numbers (1 ∷ 9 ∷ 1 ∷ 2 ∷ 5 ∷ 1 ∷ 0 ∷ 64 ∷ 2 ∷ 1 ∷ 0 ∷ 64 ∷ 2 ∷ 64 ∷ 1 ∷ 6 ∷ 1 ∷ 0 ∷ 66 ∷ 0 ∷ 1 ∷ 0 ∷ 1001 ∷ 1 ∷ 65 ∷ 1 ∷ 65 ∷ 2 ∷ []) (list (10 ∷ 3 ∷ 9 ∷ [])) (ended (stopped 45) 2 1 (list (7 ∷ 9 ∷ [])))
+    -- "Places go from the top": call, grammar, book layout, book typing, slip
+    -- budget 0, with all else wrong
+    ∷ case 0 [] (0 ∷ []) [] (refused 3 0)
+    -- budget 1,000,001
+    ∷ case 1000001 numbers toFortyTwo twoAndFive (refused 3 0)
+    -- budget 1,000,000
+    ∷ case 1000000 numbers toFortyTwo twoAndFive (ended done 3 1 (list (4200 ∷ 500 ∷ [])))
+    -- the grammar before the rules
+    ∷ case 3 (1 ∷ 8 ∷ 1 ∷ 1 ∷ 0 ∷ []) (1 ∷ 9 ∷ 9 ∷ []) (0 ∷ 0 ∷ []) (refused 12 1)
+    -- layout before typing, which is at a lower word
+    ∷ case 3 numbers (2 ∷ 9 ∷ 2 ∷ 2 ∷ 1 ∷ 3 ∷ 0 ∷ 1 ∷ 2 ∷ 1 ∷ 16 ∷ []) (0 ∷ 0 ∷ []) (refused 21 10)
+    -- typing before the tree
+    ∷ case 3 numbers (1 ∷ 9 ∷ 2 ∷ 2 ∷ 1 ∷ 3 ∷ 0 ∷ 1 ∷ 2 ∷ 1 ∷ []) (0 ∷ 0 ∷ []) (refused 23 5)
+    -- the tree: an odd count
+    ∷ case 3 numbers toFortyTwo (0 ∷ []) (refused 30 0)
+    -- the tree: its root of another type
+    ∷ case 3 numbers toFortyTwo (1 ∷ 1 ∷ []) (refused 32 0)
+    -- 1 to 5, in this order
+    ∷ over 4095 16383 0 [] [] [] (refused 1 0)
+    ∷ over 4096 16383 0 [] [] [] (refused 2 0)
+    ∷ over 4096 16384 0 (replicate 4097 0) [] [] (refused 3 0)
+    ∷ over 4096 16384 1 (replicate 4097 0) (replicate 16385 0) [] (refused 4 0)
+    ∷ over 4096 16384 1 [] (replicate 16385 0) [] (refused 5 0)
+    -- longer memories change nothing
+    ∷ over 5000 20000 3 numbers toFortyTwo twoAndFive (ended done 3 1 (list (4200 ∷ 500 ∷ [])))
+    ∷ []
+
+given : List Case → List Outcome
+given [] = []
+given (case b g r t o ∷ more) = o ∷ given more
+given (over x y b g r t o ∷ more) = o ∷ given more
+
+found : List Case → List Outcome
+found [] = []
+found (case b g r t o ∷ more) = outcome leastResult leastWork (record { budget = b; grammar = g; rules = r; tree = t }) ∷ found more
+found (over x y b g r t o ∷ more) = outcome x y (record { budget = b; grammar = g; rules = r; tree = t }) ∷ found more
+
+right : found table ≡ given table
+unfolding Reader.word Reader.wordIn Reader.many Reader.end Views.equalWords Grammar.typesOf Grammar.field Grammar.element Grammar.form Grammar.kind Grammar.grammar Grammar.all Grammar.any Grammar.finishes Grammar.round Grammar.rounds Grammar.finite Grammar.finiteRecords Grammar.readGrammar Grammar.grammarFits Kinds.kindOf Kinds.allows Kinds.allowed Kinds.childrenOf Kinds.children Kinds.isSequenceKind Kinds.isSequence Kinds.isNumberKind Kinds.isNumber Tree.size Tree.levelsOf Tree.levels Tree.nestingFrom Tree.nesting Tree.areTrees Tree.isTree Tree.first Tree.after Tree.typeOf Dues.pairs Dues.whole Reading.duesOf Reading.meetsNode Reading.readTreeOf Rules.operations Rules.applied Rules.shapes Rules.arguments Rules.applications Rules.pairsIn Rules.argumentsWritten Rules.applicationsWritten Rules.chainWritten Rules.unreadable Rules.chainOf Rules.conditionOf Rules.piecesAfter Rules.pieces Layout.strategyOf Layout.stretch Layout.field Layout.pairs Layout.variableAt Layout.deconstructFields Layout.conditionFields Layout.partOf Layout.reach Layout.replacement Layout.mainFits Layout.mainBits Layout.typeField Layout.searchFields Layout.constructFields Layout.partAt Layout.part Layout.parameters Layout.headFields Layout.head Layout.parts Layout.rule Layout.layout Layout.readLayout Layout.rulesFit Typing.mayStand Typing.isSome Typing.appliesRule Typing.appliesOperation Typing.fitsScope Typing.usable Typing.argumentsDue Typing.newVariable Typing.variable Typing.chain Typing.node Typing.meets Typing.typed Typing.variableThere Typing.partTyped Typing.partsTyped Typing.ruleTyped Typing.mainTarget Typing.rulesTyped Typing.readRules Computation.thenOf Computation.spend Computation.stopUnless Computation.surely Computation.check Computation.present Computation.choose Computation.whether Operations.rounded Operations.truncated Operations.inRange Operations.divisor Operations.withOne Operations.withNone Operations.compute Operations.compare Meaning.nodesWithin Meaning.nestingWithin Meaning.liveWithin Meaning.total Meaning.variable Meaning.variables Meaning.sameTree Meaning.bind Meaning.match Meaning.matchFirst Meaning.valueOf Meaning.valuesOf Meaning.withValue Meaning.isNumberToken Meaning.areNumberTokens Meaning.areTreesOf Meaning.fits Meaning.begin Meaning.put Meaning.resultAs Meaning.resultOf Meaning.opened Meaning.afterRound Meaning.apply Meaning.applyChain Meaning.fill Meaning.finish Meaning.succeeds Meaning.anySucceeds Meaning.part Meaning.parts Meaning.attempt Meaning.seek Meaning.replace Meaning.turn Meaning.rounds Meaning.callWith Meaning.call Meaning.callMatches Meaning.calls Meaning.runFrom Meaning.run Outcome.callFits Outcome.decode Outcome.endedAs Outcome.outcomeOf Outcome.outcome Outcome.output numbers toFortyTwo twoAndFive elements list sequences levels times table given found
+right = refl

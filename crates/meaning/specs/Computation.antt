@@ -1,0 +1,71 @@
+-- Computations that spend attempts (the paper's trials), and may stop by a number or be stuck. Assumes nothing: these are definitions.
+use Prim.Native.Nat.{ℕ, zero, suc}
+use mathlib.Core.Bool.{Bool, true, false}
+use mathlib.Core.Option.{Option, none, some}
+
+-- "a next step, the end or a stop 40 to 45 follows"
+pub data Result (A : Type 0) : Type 0 where
+  -- a value, and the attempts left
+  ok : A → ℕ → Result A
+  -- the stop's number, and the attempts left
+  stop : ℕ → ℕ → Result A
+  -- a step that is never reached
+  stuck : Result A
+
+-- what a computation ends as, given the attempts left
+abbrev pub Comp : Type 0 → Type 0
+Comp A = ℕ → Result A
+
+unfoldable pub thenOf : {A B : Type 0} → Result A → (A → Comp B) → Result B
+thenOf (ok a left) k = k a left
+thenOf (stop n left) k = stop n left
+thenOf stuck k = stuck
+
+abbrev pub _>>=_ : {A B : Type 0} → Comp A → (A → Comp B) → Comp B
+_>>=_ m k left = thenOf (m left) k
+
+abbrev pub _>>_ : {A B : Type 0} → Comp A → Comp B → Comp B
+_>>_ m k left = thenOf (m left) (λ a. k)
+
+abbrev pub return : {A : Type 0} → A → Comp A
+return a left = ok a left
+
+abbrev pub never : {A : Type 0} → Comp A
+never left = stuck
+
+-- "One trial costs one unit of the budget as it starts"; 40: "a trial is due and the budget is spent"
+unfoldable pub spend : Comp (Unit {0})
+spend zero = stop 40 zero
+spend (suc left) = ok tt left
+
+-- stops by the number, unless the test passes
+unfoldable pub stopUnless : ℕ → Bool → Comp (Unit {0})
+stopUnless n true left = ok tt left
+stopUnless n false left = stop n left
+
+-- stuck, unless the test passes
+unfoldable pub surely : Bool → Comp (Unit {0})
+surely true left = ok tt left
+surely false left = stuck
+
+-- the same for a strict computation; one that is not strict does not look
+unfoldable pub check : Bool → Bool → Comp (Unit {0})
+check true b left = surely b left
+check false b left = ok tt left
+
+-- what there surely is
+unfoldable pub present : {A : Type 0} → Option A → Comp A
+present none left = stuck
+present (some a) left = ok a left
+
+unfoldable pub choose : {A : Type 0} → Bool → Comp A → Comp A → Comp A
+choose true m n left = m left
+choose false m n left = n left
+
+unfoldable pub whether : {A B : Type 0} → Option A → (A → Comp B) → Comp B → Comp B
+whether (some a) m n left = m a left
+whether none m n left = n left
+
+-- none, unless the test passes
+abbrev pub provided : {A : Type 0} → Bool → Comp (Option A) → Comp (Option A)
+provided b m = choose b m (return none)

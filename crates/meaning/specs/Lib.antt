@@ -1,0 +1,11 @@
+pub mod Limits
+pub mod Computation
+pub mod Operations
+pub mod Meaning
+pub mod Outcome
+pub mod Sound
+pub mod Runs
+pub mod CasesBench
+pub mod CasesRun
+pub mod CasesLarge
+pub mod CasesStuck

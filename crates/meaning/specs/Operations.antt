@@ -1,0 +1,67 @@
+-- The eight operations on numbers, in hundredths. Assumes nothing: these are definitions.
+use Prim.Native.Nat.{ℕ, _+_, _-_, _*_, _/_}
+use mathlib.Core.List.{List, [], _∷_}
+use mathlib.Core.Bool.{Bool, not}
+use lib.Dec.{eqb, leb, ltb}
+use Rattle.grammar.specs.Limits.{greatestNumber}
+use Rattle.rules.specs.Rules.{Operation, add, subtract, quotient, remainder, round, truncate, equal, greater}
+use Rattle.meaning.specs.Computation.{Comp, _>>_, return, never, stopUnless}
+
+-- "1,004 round (half up)", to a whole number
+unfoldable pub rounded : ℕ → ℕ
+rounded a = (a + 50) / 100 * 100
+
+-- "1,005 truncate"
+unfoldable pub truncated : ℕ → ℕ
+truncated a = a / 100 * 100
+
+-- 45: "an operation's result .. over 999,999,999"
+unfoldable pub inRange : ℕ → Comp ℕ
+inRange n = do
+  stopUnless 45 (leb n greatestNumber)
+  return n
+
+-- 45: "divisor 0"
+unfoldable pub divisor : ℕ → Comp (Unit {0})
+divisor b = stopUnless 45 (not (eqb b 0))
+
+-- with its one argument, or with none: "Arguments fit .. in number"
+unfoldable pub withOne : {A : Type 0} → List ℕ → (ℕ → Comp A) → Comp A
+withOne [] f = never
+withOne (b ∷ []) f = f b
+withOne (b ∷ c ∷ bs) f = never
+
+unfoldable pub withNone : {A : Type 0} → List ℕ → Comp A → Comp A
+withNone [] m = m
+withNone (b ∷ bs) m = never
+
+-- "Replacements apply .. operations 1,000 to 1,005": what becomes of the scope a
+unfoldable pub compute : Operation → ℕ → List ℕ → Comp ℕ
+compute add a bs = withOne bs (λ b. inRange (a + b))
+-- 45: "an operation's result under 0"
+compute subtract a bs = withOne bs (λ b. do
+  stopUnless 45 (leb b a)
+  inRange (a - b))
+-- "1,002 quotient (whole, rounded down)", so in hundredths times 100
+compute quotient a bs = withOne bs (λ b. do
+  divisor b
+  inRange (a / b * 100))
+-- "1,003 remainder (scope less argument times quotient: 250 and 120 give 10)"
+compute remainder a bs = withOne bs (λ b. do
+  divisor b
+  inRange (a - b * (a / b)))
+compute round a bs = withNone bs (inRange (rounded a))
+compute truncate a bs = withNone bs (inRange (truncated a))
+compute equal a bs = never
+compute greater a bs = never
+
+-- "tests apply .. 1,008 and 1,009": "1,008 equal, 1,009 scope greater"
+unfoldable pub compare : Operation → ℕ → List ℕ → Comp Bool
+compare equal a bs = withOne bs (λ b. return (eqb a b))
+compare greater a bs = withOne bs (λ b. return (ltb b a))
+compare add a bs = never
+compare subtract a bs = never
+compare quotient a bs = never
+compare remainder a bs = never
+compare round a bs = never
+compare truncate a bs = never

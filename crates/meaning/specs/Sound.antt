@@ -1,0 +1,36 @@
+-- THE SOUNDNESS OF A RUN, stated: proofs/Sound.antt proves it. Assumes nothing: these are definitions.
+use Prim.Native.Nat.{ℕ, _≤_}
+use mathlib.Core.Path.{_≡_}
+use mathlib.Core.Bool.{true, false}
+use Rattle.words.specs.Reader.{Words}
+use Rattle.grammar.specs.Grammar.{Grammar}
+use Rattle.tree.specs.Tree.{Tree}
+use Rattle.rules.specs.Rules.{Rules}
+use Rattle.rules.specs.WellTyped.{WellTyped}
+use Rattle.meaning.specs.Meaning.{Ending, done, stopped, cannotGoOn, Called, run}
+
+-- "the end or a stop 40 to 45", never stuck
+abbrev pub WellEnded : Ending → Type 0
+WellEnded done = Unit {0}
+WellEnded (stopped n) = (40 ≤ n) × (n ≤ 45)
+WellEnded cannotGoOn = ⊥
+
+-- A call on a scope of type t with n attempts left, strict and plain: both leave the same. The strict one is never stuck, so each of its tests passed:
+--   "every variable read is bound": `variable`
+--   a variable becomes a tree of its own type, within the limits, and none is the 17th: `bind`
+--   "every rule .. applied is there": `apply`, `succeeds`; in a replacement it has one: `callWith`
+--   .. "and fits as under Typing": arguments fit parameters in number and type, the scope is a tree, for a root-only rule one of the target type: `begin`
+--   "every .. operation applied is there and fits": `apply`, `succeeds`, `compute`, `compare`; its scope and arguments are number tokens: `isNumberToken`
+--   a tree of the target type is put where one of that type stood, and the scope stays a tree of its type, within the limits: `replace`
+--   "and a next step, the end or a stop 40 to 45 follows": `WellEnded`; the bound on the rounds never runs out: `rounds`
+pub record Sound (g : Grammar) (t n : ℕ) (strict plain : Called) : Type 0 where
+  pub agree : strict ≡ plain
+  pub ends : WellEnded (strict .ending)
+  -- what is left is a tree of the type, within the limits
+  pub scope : Tree g t (strict .scope)
+  -- attempts are only spent
+  pub attempts : strict .left ≤ n
+
+-- for well-typed rules and a tree of type 0, on any budget
+abbrev pub Soundness : Type 0
+Soundness = (g : Grammar) (rules : Rules) → WellTyped g rules → (tree : Words) → Tree g 0 tree → (budget : ℕ) → Sound g 0 budget (run true g rules tree budget) (run false g rules tree budget)
