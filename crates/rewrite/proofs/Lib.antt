@@ -1,0 +1,10 @@
+pub mod Marks
+pub mod Marking
+pub mod Spans
+pub mod Same
+pub mod Steps
+pub mod Matcher
+pub mod Finding
+pub mod Numbers
+pub mod Putting
+pub mod Writing

@@ -1,0 +1,522 @@
+-- The matcher's loop: what was set against so far, and the definition at what is left. Assumes nothing.
+use Prim.Native.Nat.{ℕ, zero, suc, _+_, _-_, _*_, _<_, _≤_}
+use mathlib.Core.Path.{_≡_, refl, sym, ap, ap₂, _∙_}
+use mathlib.Core.List.{List, [], _∷_, _++_}
+use mathlib.Core.Bool.{Bool, true, false}
+use mathlib.Core.Option.{Option, none, some}
+use native.Mathlib.Omega.{arith}
+use native.Mathlib.Nat.{add-zero}
+use native.Mathlib.Numerals.{add-one}
+use lib.ListN.{length, getD, take, drop, set, getElem?, length-set, length-drop, length-take, length-append}
+use lib.Seq.{drop-at, drop-drop, getD-drop, getD-take, take-suc-set, take-take}
+use lib.Dec.{ltb, leb, eqb}
+use borrow.Author.Tests.{eq-eqb, ne-eqb, eqb-true, eqb-false, lt-ltb, le-ltb, ltb-true, ltb-false, le-leb, lt-leb, leb-true, leb-false}
+use Rattle.words.specs.Reader.{Words, pick, and}
+use Rattle.words.specs.Views.{equalWords}
+use Rattle.words.proofs.Stretches.{drop-pair, part-rest}
+use Rattle.grammar.specs.Grammar.{Grammar}
+use Rattle.grammar.specs.Kinds.{children}
+use Rattle.tree.specs.Tree.{Trees, Tree, size, isTree, first, after, firstTree}
+use Rattle.tree.proofs.Trees.{split, first-after, tells, trees-even, first-even, after-drop, first-take, tree-passes, tree-type}
+use Rattle.rules.specs.Rules.{Shape, node, new, same, shapes}
+use Rattle.meaning.specs.Computation.{Result, ok, stop, stuck}
+use Rattle.meaning.specs.Meaning.{Env, Bindings, total, live, match}
+use Rattle.tree.proofs.Rest.{Rest, rest-node, onward}
+use Rattle.rewrite.specs.declared.Vars.{Vars}
+use Rattle.rewrite.specs.declared.Verdict.{Verdict}
+use Rattle.rewrite.specs.declared.Verdict.the-variants.{Matches, Differs, Stops}
+use Rattle.rewrite.specs.declared.Matched.{Matched}
+use Rattle.rewrite.specs.Marked.{typeIn, sizeIn, mark, markOf, marked}
+use Rattle.rewrite.specs.Vars.{Stands, EnvAt, startsOf, bound, startAt, Sound}
+use Rattle.rewrite.specs.Post.{SameTree}
+use Rattle.rewrite.specs.Matching.{Stage, bindings, Means, Answers, matchOf, MatchAnswers, newMatched}
+use Rattle.rewrite.proofs.Marks.{mark-type, mark-size, marked-length, marked-append}
+use Rattle.rewrite.proofs.Marking.{type-there}
+use Rattle.rewrite.proofs.Spans.{first-size, drop-take}
+use Rattle.rewrite.proofs.Same.{marked-first}
+use Rattle.rewrite.proofs.Steps.{pair-new, pair-same, pair-node, no-pair, match-end, match-short, node-type, node-value, node-both, new-type, new-full, new-seventeenth, new-bound, same-unbound, same-other, same-there}
+
+-- THE VARIABLES
+
+env-length : (g : Grammar) (arena : Words) (ss : List ℕ) (env : Env) → EnvAt g arena ss env → length env ≡ length ss
+env-length g arena [] [] e = refl
+env-length g arena [] (w ∷ env) e = absurd e
+env-length g arena (s ∷ ss) [] e = absurd e
+env-length g arena (s ∷ ss) (w ∷ env) e = ap suc (env-length g arena ss env (e .1))
+
+env-more : (g : Grammar) (arena : Words) (ss : List ℕ) (env : Env) (s : ℕ) (u : Words) → EnvAt g arena ss env → Stands g arena s u → EnvAt g arena (ss ++ s ∷ []) (env ++ u ∷ [])
+env-more g arena [] [] s u e x = (x, tt)
+env-more g arena [] (w ∷ env) s u e x = absurd e
+env-more g arena (t ∷ ss) [] s u e x = absurd e
+env-more g arena (t ∷ ss) (w ∷ env) s u e x = (e .0, env-more g arena ss env s u (e .1) x)
+
+env-get : (g : Grammar) (arena : Words) (ss : List ℕ) (env : Env) (x : ℕ) → EnvAt g arena ss env → x < length ss → (u : Words) × (getElem? env x ≡ some u) × Stands g arena (getD ss x 0) u
+env-get g arena [] env x e h = absurd (omega arith)
+env-get g arena (s ∷ ss) [] x e h = absurd e
+env-get g arena (s ∷ ss) (w ∷ env) zero e h = (w, refl, e .0)
+env-get g arena (s ∷ ss) (w ∷ env) (suc x) e h = env-get g arena ss env x (e .1) (omega arith)
+
+env-past : (env : Env) (x : ℕ) → length env ≤ x → getElem? env x ≡ none
+env-past [] x h = refl
+env-past (w ∷ env) zero h = absurd (omega arith)
+env-past (w ∷ env) (suc x) h = env-past env x (omega arith)
+
+total-more : (env : Env) (u : Words) → total (env ++ u ∷ []) ≡ total env + size u
+unfolding total
+total-more [] u = omega arith
+total-more (w ∷ env) u = let h = total-more env u in omega arith
+
+starts-length : (v : Vars) → Sound v → length (startsOf v) ≡ v .n
+starts-length v s = omega (arith, length-take (v .n) (v .starts), s .room, s .few)
+
+starts-more : (v : Vars) (start : ℕ) → Sound v → v .n < 16 → startsOf (bound v start) ≡ startsOf v ++ start ∷ []
+starts-more v start s h = ap (λ n. take n (set (v .starts) (v .n) start)) (add-one (v .n)) ∙ take-suc-set (v .starts) (v .n) start (omega (arith, s .room))
+
+sound-more : (v : Vars) (start : ℕ) → Sound v → v .n < 16 → Sound (bound v start)
+sound-more v start s h = record { room = length-set (v .starts) (v .n) start ∙ s .room; few = omega arith }
+
+pub start-there : (v : Vars) (x i s : ℕ) → i ≡ x → i < v .n → i < 16 → s ≡ getD (v .starts) i 0 → s ≡ startAt v x
+unfolding startAt
+start-there v x i s e h k f = f ∙ rw (e, lt-ltb x (v .n) (omega arith), lt-ltb x 16 (omega arith))
+
+pub start-past : (v : Vars) (x i : ℕ) → i ≡ x → v .n ≤ i → 4294967295 ≡ startAt v x
+unfolding startAt
+start-past v x i e h = rw (le-ltb x (v .n) (omega arith))
+
+pub start-over : (v : Vars) (x i : ℕ) → i ≡ x → i < v .n → 16 ≤ i → 4294967295 ≡ startAt v x
+unfolding startAt
+start-over v x i e h k = rw (lt-ltb x (v .n) (omega arith), le-ltb x 16 (omega arith))
+
+start-is : (v : Vars) (x : ℕ) → Sound v → x < v .n → startAt v x ≡ getD (startsOf v) x 0
+unfolding startAt
+start-is v x s h = rw (lt-ltb x (v .n) h, lt-ltb x 16 (omega (arith, s .few))) (sym (getD-take (v .n) (v .starts) x 0 h))
+
+-- A NEW VARIABLE
+
+module _ (w ty start : ℕ) (vars : Vars) (live : ℕ) where
+  pub new-other : (typeIn w ≡ ty → ⊥) → record { verdict = Differs; vars = vars; live = live } ≡ newMatched w ty start vars live
+  unfolding newMatched
+  new-other h = rw (ne-eqb (typeIn w) ty h)
+
+  pub new-over : typeIn w ≡ ty → 6144 < live + sizeIn w → record { verdict = Stops 44; vars = vars; live = live } ≡ newMatched w ty start vars live
+  unfolding newMatched
+  new-over e h = rw (eq-eqb (typeIn w) ty e, lt-leb (live + sizeIn w) 6144 h)
+
+  pub new-past : typeIn w ≡ ty → live + sizeIn w ≤ 6144 → 16 ≤ vars .n → record { verdict = Differs; vars = vars; live = live } ≡ newMatched w ty start vars live
+  unfolding newMatched
+  new-past e h k = rw (eq-eqb (typeIn w) ty e, le-leb (live + sizeIn w) 6144 h, le-ltb (vars .n) 16 k)
+
+  pub new-there : typeIn w ≡ ty → (n : ℕ) → n ≡ sizeIn w → live + n ≤ 6144 → vars .n < 16 → (vars′ : Vars) → vars′ ≡ bound vars start → record { verdict = Matches; vars = vars′; live = live + n } ≡ newMatched w ty start vars live
+  unfolding newMatched
+  new-there e n en h k vars′ ev = rw (ev, en, eq-eqb (typeIn w) ty e, le-leb (live + sizeIn w) 6144 (omega arith), lt-ltb (vars .n) 16 k)
+
+-- what becomes of it
+pub data NewTold (w ty start : ℕ) (vars : Vars) (live : ℕ) (m : Matched) : Type 0 where
+  other : (typeIn w ≡ ty → ⊥) → m ≡ record { verdict = Differs; vars = vars; live = live } → NewTold w ty start vars live m
+  over : typeIn w ≡ ty → 6144 < live + sizeIn w → m ≡ record { verdict = Stops 44; vars = vars; live = live } → NewTold w ty start vars live m
+  past : typeIn w ≡ ty → live + sizeIn w ≤ 6144 → 16 ≤ vars .n → m ≡ record { verdict = Differs; vars = vars; live = live } → NewTold w ty start vars live m
+  taken : typeIn w ≡ ty → live + sizeIn w ≤ 6144 → vars .n < 16 → m ≡ record { verdict = Matches; vars = bound vars start; live = live + sizeIn w } → NewTold w ty start vars live m
+
+new-told : (w ty start : ℕ) (vars : Vars) (live : ℕ) (m : Matched) → m ≡ newMatched w ty start vars live → NewTold w ty start vars live m
+unfolding newMatched
+new-told w ty start vars live m e = go (eqb (typeIn w) ty) (leb (live + sizeIn w) 6144) (ltb (vars .n) 16) refl refl refl e
+  where
+    go : (a b c : Bool) → eqb (typeIn w) ty ≡ a → leb (live + sizeIn w) 6144 ≡ b → ltb (vars .n) 16 ≡ c
+        → m ≡ pick a (pick b (pick c (record { verdict = Matches; vars = bound vars start; live = live + sizeIn w }) (record { verdict = Differs; vars = vars; live = live })) (record { verdict = Stops 44; vars = vars; live = live })) (record { verdict = Differs; vars = vars; live = live })
+        → NewTold w ty start vars live m
+    go false b c p q r e = other (eqb-false (typeIn w) ty p) e
+    go true false c p q r e = over (eqb-true (typeIn w) ty p) (leb-false (live + sizeIn w) 6144 q) e
+    go true true false p q r e = past (eqb-true (typeIn w) ty p) (leb-true (live + sizeIn w) 6144 q) (ltb-false (vars .n) 16 r) e
+    go true true true p q r e = taken (eqb-true (typeIn w) ty p) (leb-true (live + sizeIn w) 6144 q) (ltb-true (vars .n) 16 r) e
+
+-- THE LOOP
+
+-- what is left, as the definition sees it
+record Run (strict : Bool) (g : Grammar) (pairs arena part : Words) (at : ℕ) (env : Vars) (held i p : ℕ) (ws : Words) (b : Bindings) (left : ℕ) : Type 0 where
+  inside : p ≤ length part
+  rest : Words
+  types : List ℕ
+  bound-to : Env
+  stage : Stage g arena (drop p part) (at + p) env held rest types (bindings bound-to (b .besides))
+  same-run : match strict g (shapes pairs) ws b left ≡ match strict g (shapes (drop i pairs)) rest (bindings bound-to (b .besides)) left
+
+pub record Going (pairs arena part : Words) (at : ℕ) (vars : Vars) (held₀ : ℕ) (env : Vars) (held i p : ℕ) : Type 0 where
+  pub read : i ≤ length pairs
+  pub near : p ≤ 8192 * i
+  pub sound : Sound env
+  pub fits : held ≤ 6144
+  run : (strict : Bool) (g : Grammar) (ws : Words) (ts : List ℕ) (b : Bindings) (left : ℕ) → Stage g arena part at vars held₀ ws ts b → (match strict g (shapes pairs) ws b left ≡ stuck → ⊥)
+      → Run strict g pairs arena part at env held i p ws b left
+
+pub going-start : (pairs arena part : Words) (at : ℕ) (vars : Vars) (held : ℕ) → Sound vars → held ≤ 6144 → Going pairs arena part at vars held vars held 0 0
+going-start pairs arena part at vars held s l = record {
+  read = omega arith;
+  near = omega arith;
+  sound = s;
+  fits = l;
+  run = λ strict g ws ts b left st ns. let z : at + 0 ≡ at = omega arith in record { inside = omega arith; rest = ws; types = ts; bound-to = b .env; stage = rw z st; same-run = refl };
+}
+
+-- the node that is set against
+pub record Node (g : Grammar) (x : Words) (rest : Words) (types : List ℕ) : Type 0 where
+  pub t : ℕ
+  pub v : ℕ
+  pub below : Words
+  pub more : List ℕ
+  pub is : rest ≡ t ∷ v ∷ below
+  pub due : types ≡ t ∷ more
+  pub type-in : typeIn (getD x 0 0) ≡ t
+  pub size-in : sizeIn (getD x 0 0) ≡ size (firstTree g rest)
+  pub value : getD x 1 0 ≡ v
+
+pub node-of : (g : Grammar) (x rest : Words) (types : List ℕ) → length g ≤ 64 → Rest g types rest → x ≡ marked g rest → 2 ≤ length x → Node g x rest types
+unfolding marked markOf
+node-of g x [] ts l r e h = absurd (omega (arith, ap length e))
+node-of g x (t ∷ []) ts l r e h = absurd (omega (arith, ap length e))
+node-of g x (t ∷ v ∷ ws) [] l r e h = absurd (tells (r .typed))
+node-of g x (t ∷ v ∷ ws) (c ∷ cs) l r e h =
+    let q = tells (r .typed) in
+    let low : t < 64 = rw (q .0) (omega (arith, type-there g c v (q .1))) in
+    let few : size (firstTree g (t ∷ v ∷ ws)) < 4096 = omega (arith, first-size g (t ∷ v ∷ ws) 1, r .nodes) in
+    record {
+      t = t;
+      v = v;
+      below = ws;
+      more = cs;
+      is = refl;
+      due = ap (λ y. y ∷ cs) (sym (q .0));
+      type-in = rw e (mark-type t (size (firstTree g (t ∷ v ∷ ws))) _ low);
+      size-in = rw e (mark-size t (size (firstTree g (t ∷ v ∷ ws))) _ low few);
+      value = rw e;
+    }
+
+-- m words on
+pub stage-on : {g : Grammar} {arena x : Words} {a : ℕ} {env : Vars} {held : ℕ} {rest : Words} {types : List ℕ} {b : Bindings} → Stage g arena x a env held rest types b
+    → (m : ℕ) → m ≤ length x → (env′ : Vars) (held′ : ℕ) (rest′ : Words) (types′ : List ℕ) (b′ : Bindings) → drop m x ≡ marked g rest′ → Rest g types′ rest′ → EnvAt g arena (startsOf env′) (b′ .env)
+    → held′ ≡ b′ .besides + total (b′ .env) → Stage g arena (drop m x) (a + m) env′ held′ rest′ types′ b′
+stage-on {g} {arena} {x} {a} st m h env′ held′ rest′ types′ b′ e r ev c =
+    let l : length (drop m x) ≡ length x - m = length-drop m x in
+    record {
+      types = st .types;
+      place = ap (drop m) (st .place) ∙ drop-take (length x) m (drop a arena) ∙ ap₂ take (sym l) (drop-drop m a arena);
+      inside = omega (arith, st .inside);
+      marks = e;
+      rest = r;
+      stands = ev;
+      counted = c;
+    }
+
+-- the same by positions in the part
+pub moved : {g : Grammar} {arena : Words} {env : Vars} {held : ℕ} {rest : Words} {types : List ℕ} {b : Bindings} (part : Words) (at p m : ℕ) → Stage g arena (drop m (drop p part)) (at + p + m) env held rest types b
+    → Stage g arena (drop (p + m) part) (at + (p + m)) env held rest types b
+moved part at p m st = let z : at + (p + m) ≡ at + p + m = omega arith in rw (← drop-drop m p part, z) st
+
+drop-marked : {g : Grammar} {t : ℕ} {ts : List ℕ} (ws : Words) (m : ℕ) → Trees g (t ∷ ts) ws → m ≡ length (firstTree g ws) → drop m (marked g ws) ≡ marked g (after g ws 1)
+drop-marked {g} {t} {ts} ws m r e =
+    let s = split ws (t ∷ []) ts r in
+    ap (λ l. drop m (marked g l)) (sym (first-after g ws 1)) ∙ ap (drop m) (marked-append (s .front) (after g ws 1))
+    ∙ drop-at (marked g (firstTree g ws)) (marked g (after g ws 1)) m (marked-length g (firstTree g ws) ∙ sym e)
+
+-- what is left, with its first type and its first node known
+pub due-as : {g : Grammar} {rest : Words} {types : List ℕ} (t : ℕ) (more : List ℕ) → types ≡ t ∷ more → Rest g types rest → Rest g (t ∷ more) rest
+due-as t more e r = rw e at r
+
+pub node-as : {g : Grammar} {ts : List ℕ} {rest : Words} (t v : ℕ) (below : Words) → rest ≡ t ∷ v ∷ below → Rest g ts rest → Rest g ts (t ∷ v ∷ below)
+node-as t v below e r = rw e at r
+
+stage-due : {g : Grammar} {arena x : Words} {a : ℕ} {env : Vars} {held : ℕ} {rest : Words} {types : List ℕ} {b : Bindings} (t : ℕ) (more : List ℕ) → types ≡ t ∷ more
+    → Stage g arena x a env held rest types b → Stage g arena x a env held rest (t ∷ more) b
+stage-due t more e st = rw e at st
+
+env-as : (g : Grammar) (arena : Words) {ss ss′ : List ℕ} (env : Env) → ss ≡ ss′ → EnvAt g arena ss′ env → EnvAt g arena ss env
+env-as g arena env e x = rw e x
+
+stands-as : {g : Grammar} {arena : Words} {s s′ : ℕ} {u : Words} → s ≡ s′ → Stands g arena s′ u → Stands g arena s u
+stands-as e x = rw e x
+
+pub two-marked : (g : Grammar) (rest : Words) (t v : ℕ) (below : Words) → rest ≡ t ∷ v ∷ below → drop 2 (marked g rest) ≡ marked g below
+unfolding marked
+two-marked g rest t v below e = rw e
+
+-- the tree that a new variable becomes stands where it is
+stands-here : {g : Grammar} {arena x : Words} {a : ℕ} {env : Vars} {held : ℕ} {rest : Words} {t : ℕ} {ts : List ℕ} {b : Bindings} → Stage g arena x a env held rest (t ∷ ts) b → Stands g arena a (firstTree g rest)
+stands-here {g} {arena} {x} {a} {rest = rest} {t} {ts} st =
+    let o = onward (st .rest) in
+    let n : length (firstTree g rest) ≤ length x = shorter in
+    record {
+      type = t;
+      tree = o .tree;
+      inside = omega (arith, st .inside);
+      words = sym (take-take (length (firstTree g rest)) (length x) (drop a arena) n) ∙ ap (take (length (firstTree g rest))) (sym (st .place) ∙ st .marks) ∙ marked-first rest (length (firstTree g rest)) (st .rest .typed) refl;
+    }
+  where
+    shorter : length (firstTree g rest) ≤ length x
+    shorter = omega (arith, first-even g rest 1, first-size g rest 1, ap length (st .marks), marked-length g rest, trees-even (st .rest .typed))
+
+module _ (pairs arena part : Words) (at : ℕ) (vars : Vars) (held₀ : ℕ) (env : Vars) (held i p : ℕ) (go : Going pairs arena part at vars held₀ env held i p) where
+  -- a verdict with the variables as they are
+  answered : (v : Verdict)
+      → ((strict : Bool) (g : Grammar) (ws : Words) (b : Bindings) (left : ℕ) → (match strict g (shapes pairs) ws b left ≡ stuck → ⊥) → Run strict g pairs arena part at env held i p ws b left
+      → Means g arena (b .besides) v env held left (match strict g (shapes pairs) ws b left))
+      → MatchAnswers pairs arena part at vars held₀ (record { verdict = v; vars = env; live = held })
+  answered v f strict = record { sound = go .sound; fits = go .fits; meant = λ g ws ts b left st ns. f strict g ws b left ns (go .run strict g ws ts b left st ns) }
+
+  pub going-end : length pairs - i < 2 → MatchAnswers pairs arena part at vars held₀ (record { verdict = Matches; vars = env; live = held })
+  going-end h = answered Matches (λ strict g ws b left ns r. (
+    r .bound-to,
+    r .stage .stands,
+    r .stage .counted,
+    r .same-run ∙ ap (λ ps. match strict g ps (r .rest) (bindings (r .bound-to) (b .besides)) left) (no-pair (drop i pairs) (simp length-drop (omega arith))) ∙ match-end strict g [] (bindings (r .bound-to) (b .besides)) left (r .rest),
+  ))
+
+  module _ (two : 2 ≤ length pairs - i) where
+    the-pair : drop i pairs ≡ getD pairs i 0 ∷ getD pairs (i + 1) 0 ∷ drop (i + 2) pairs
+    the-pair = drop-pair pairs i (omega (arith, go .read))
+
+    -- the definition at the pair here, as a shape
+    at-shape : (s : Shape) → shapes (getD pairs i 0 ∷ getD pairs (i + 1) 0 ∷ drop (i + 2) pairs) ≡ s ∷ shapes (drop (i + 2) pairs) → (strict : Bool) (g : Grammar) (x : Words) (b : Bindings) (left : ℕ)
+        → match strict g (shapes (drop i pairs)) x b left ≡ match strict g (s ∷ shapes (drop (i + 2) pairs)) x b left
+    at-shape s e strict g x b left = ap (λ ps. match strict g ps x b left) (ap shapes the-pair ∙ e)
+
+    some-shape : (s : Shape) × (shapes (getD pairs i 0 ∷ getD pairs (i + 1) 0 ∷ drop (i + 2) pairs) ≡ s ∷ shapes (drop (i + 2) pairs))
+    unfolding shapes
+    some-shape = (_, refl)
+
+    pub going-short : length part < p + 2 → MatchAnswers pairs arena part at vars held₀ (record { verdict = Differs; vars = env; live = held })
+    going-short h = answered Differs (λ strict g ws b left ns r.
+        let st = r .stage in
+        let none-left : r .rest ≡ [] = empty (r .rest) (trees-even (st .rest .typed)) (omega (arith, ap length (st .marks), marked-length g (r .rest), length-drop p part, r .inside)) in
+        r .same-run ∙ at-shape (some-shape .0) (some-shape .1) strict g (r .rest) (bindings (r .bound-to) (b .besides)) left
+        ∙ ap (λ x. match strict g (some-shape .0 ∷ shapes (drop (i + 2) pairs)) x (bindings (r .bound-to) (b .besides)) left) none-left ∙ match-short strict g (shapes (drop (i + 2) pairs)) (bindings (r .bound-to) (b .besides)) left (some-shape .0))
+      where
+        empty : (x : Words) → length x ≡ 2 * size x → length x < 2 → x ≡ []
+        empty [] e h = refl
+        empty (a ∷ x) e h = absurd (omega arith)
+
+    module _ (more : p + 2 ≤ length part) (w : ℕ) (ew : w ≡ getD part p 0) where
+      -- the node that stands here
+      here : {strict : Bool} {g : Grammar} {ws : Words} {b : Bindings} {left : ℕ} (r : Run strict g pairs arena part at env held i p ws b left) → Node g (drop p part) (r .rest) (r .types)
+      here r = node-of _ (drop p part) (r .rest) (r .types) (r .stage .types) (r .stage .rest) (r .stage .marks) (omega (arith, length-drop p part))
+
+      at-first : getD (drop p part) 0 0 ≡ w
+      at-first = getD-drop p part 0 0 ∙ ap (λ n. getD part n 0) (add-zero p) ∙ sym ew
+
+      -- A NODE
+      module _ (not-new : getD pairs i 0 ≡ 64 → ⊥) (not-same : getD pairs i 0 ≡ 65 → ⊥) where
+        is-node : shapes (getD pairs i 0 ∷ getD pairs (i + 1) 0 ∷ drop (i + 2) pairs) ≡ node (getD pairs i 0) (getD pairs (i + 1) 0) ∷ shapes (drop (i + 2) pairs)
+        is-node = pair-node (getD pairs i 0) (getD pairs (i + 1) 0) (drop (i + 2) pairs) not-new not-same
+
+        pub going-type : (typeIn w ≡ getD pairs i 0 → ⊥) → MatchAnswers pairs arena part at vars held₀ (record { verdict = Differs; vars = env; live = held })
+        going-type h = answered Differs (λ strict g ws b left ns r.
+            let n = here r in
+            let c = bindings (r .bound-to) (b .besides) in
+            r .same-run ∙ at-shape _ is-node strict g (r .rest) c left ∙ ap (λ x. match strict g (node (getD pairs i 0) (getD pairs (i + 1) 0) ∷ shapes (drop (i + 2) pairs)) x c left) (n .is)
+            ∙ node-type strict g (shapes (drop (i + 2) pairs)) c left (n .t) (n .v) (n .below) (getD pairs i 0) (getD pairs (i + 1) 0) (λ e. h (ap typeIn (sym at-first) ∙ n .type-in ∙ e)))
+
+        pub going-value : (y : ℕ) → y ≡ getD part (p + 1) 0 → typeIn w ≡ getD pairs i 0 → (y ≡ getD pairs (i + 1) 0 → ⊥) → MatchAnswers pairs arena part at vars held₀ (record { verdict = Differs; vars = env; live = held })
+        going-value y ey et h = answered Differs (λ strict g ws b left ns r.
+            let n = here r in
+            let c = bindings (r .bound-to) (b .besides) in
+            r .same-run ∙ at-shape _ is-node strict g (r .rest) c left ∙ ap (λ x. match strict g (node (getD pairs i 0) (getD pairs (i + 1) 0) ∷ shapes (drop (i + 2) pairs)) x c left) (n .is)
+            ∙ node-value strict g (shapes (drop (i + 2) pairs)) c left (n .t) (n .v) (n .below) (getD pairs i 0) (getD pairs (i + 1) 0) (sym (n .type-in) ∙ ap typeIn at-first ∙ et) (λ e. h (ey ∙ sym (getD-drop p part 1 0) ∙ n .value ∙ e)))
+
+        pub going-node : (y : ℕ) → y ≡ getD part (p + 1) 0 → typeIn w ≡ getD pairs i 0 → y ≡ getD pairs (i + 1) 0 → Going pairs arena part at vars held₀ env held (i + 2) (p + 2)
+        going-node y ey et ev = record {
+          read = omega (arith, go .read);
+          near = omega (arith, go .near);
+          sound = go .sound;
+          fits = go .fits;
+          run = λ strict g ws ts b left st ns. stepped strict g ws b left (go .run strict g ws ts b left st ns);
+        }
+          where
+            stepped : (strict : Bool) (g : Grammar) (ws : Words) (b : Bindings) (left : ℕ) → Run strict g pairs arena part at env held i p ws b left → Run strict g pairs arena part at env held (i + 2) (p + 2) ws b left
+            stepped strict g ws b left r =
+                let n = here r in
+                let c = bindings (r .bound-to) (b .besides) in
+                let q : Rest g (children g (n .t) (n .v) ++ n .more) (n .below) = rest-node (node-as (n .t) (n .v) (n .below) (n .is) (due-as (n .t) (n .more) (n .due) (r .stage .rest))) in
+                record {
+                  inside = omega arith;
+                  rest = n .below;
+                  types = children g (n .t) (n .v) ++ n .more;
+                  bound-to = r .bound-to;
+                  stage = moved part at p 2 (stage-on (r .stage) 2 (omega (arith, length-drop p part)) env held (n .below) (children g (n .t) (n .v) ++ n .more) c (ap (drop 2) (r .stage .marks) ∙ two-marked g (r .rest) (n .t) (n .v) (n .below) (n .is)) q (r .stage .stands) (r .stage .counted));
+                  same-run = r .same-run ∙ at-shape _ is-node strict g (r .rest) c left ∙ ap (λ x. match strict g (node (getD pairs i 0) (getD pairs (i + 1) 0) ∷ shapes (drop (i + 2) pairs)) x c left) (n .is)
+                      ∙ node-both strict g (shapes (drop (i + 2) pairs)) c left (n .t) (n .v) (n .below) (getD pairs i 0) (getD pairs (i + 1) 0) (sym (n .type-in) ∙ ap typeIn at-first ∙ et) (sym (n .value) ∙ getD-drop p part 1 0 ∙ sym ey ∙ ev);
+                }
+
+      -- the words of the first tree
+      tree-words : {strict : Bool} {g : Grammar} {ws : Words} {b : Bindings} {left : ℕ} (r : Run strict g pairs arena part at env held i p ws b left) → 2 * sizeIn w ≡ length (firstTree g (r .rest))
+      tree-words {g = g} r = let n = here r in sym (first-even g (r .rest) 1 ∙ ap (λ k. 2 * k) (sym (n .size-in) ∙ ap sizeIn at-first))
+
+      tree-inside : {strict : Bool} {g : Grammar} {ws : Words} {b : Bindings} {left : ℕ} (r : Run strict g pairs arena part at env held i p ws b left) → 2 * sizeIn w ≤ length (drop p part)
+      tree-inside {g = g} r = omega (arith, tree-words r, first-even g (r .rest) 1, first-size g (r .rest) 1, ap length (r .stage .marks), marked-length g (r .rest), trees-even (r .stage .rest .typed))
+
+      -- one tree on, with these variables
+      tree-on : {strict : Bool} {g : Grammar} {ws : Words} {b : Bindings} {left : ℕ} (r : Run strict g pairs arena part at env held i p ws b left) (env′ : Vars) (held′ : ℕ) (now : Env)
+          → EnvAt g arena (startsOf env′) now → held′ ≡ b .besides + total now → Stage g arena (drop (p + 2 * sizeIn w) part) (at + (p + 2 * sizeIn w)) env′ held′ (after g (r .rest) 1) (here r .more) (bindings now (b .besides))
+      tree-on {g = g} {b = b} r env′ held′ now ev c =
+          let n = here r in
+          let q : Rest g (n .t ∷ n .more) (r .rest) = due-as (n .t) (n .more) (n .due) (r .stage .rest) in
+          moved part at p (2 * sizeIn w) (stage-on (r .stage) (2 * sizeIn w) (tree-inside r) env′ held′ (after g (r .rest) 1) (n .more) (bindings now (b .besides))
+          (ap (drop (2 * sizeIn w)) (r .stage .marks) ∙ drop-marked (r .rest) (2 * sizeIn w) (q .typed) (tree-words r)) (onward q .rest) ev c)
+
+      -- A VARIABLE THAT IS THERE
+      module _ (not-new : getD pairs i 0 ≡ 64 → ⊥) (is : getD pairs i 0 ≡ 65) where
+        is-same : shapes (getD pairs i 0 ∷ getD pairs (i + 1) 0 ∷ drop (i + 2) pairs) ≡ same (getD pairs (i + 1) 0) ∷ shapes (drop (i + 2) pairs)
+        is-same = pair-same (getD pairs i 0) (getD pairs (i + 1) 0) (drop (i + 2) pairs) not-new is
+
+        -- the definition here, at the node
+        at-same : {strict : Bool} {g : Grammar} {ws : Words} {b : Bindings} {left : ℕ} (r : Run strict g pairs arena part at env held i p ws b left)
+            → match strict g (shapes pairs) ws b left ≡ match strict g (same (getD pairs (i + 1) 0) ∷ shapes (drop (i + 2) pairs)) (here r .t ∷ here r .v ∷ here r .below) (bindings (r .bound-to) (b .besides)) left
+        at-same {strict} {g} {ws} {b} {left} r =
+            r .same-run ∙ at-shape _ is-same strict g (r .rest) (bindings (r .bound-to) (b .besides)) left
+            ∙ ap (λ x. match strict g (same (getD pairs (i + 1) 0) ∷ shapes (drop (i + 2) pairs)) x (bindings (r .bound-to) (b .besides)) left) (here r .is)
+
+        -- the variable is bound, since the run is not stuck
+        variable-bound : {strict : Bool} {g : Grammar} {ws : Words} {b : Bindings} {left : ℕ} (r : Run strict g pairs arena part at env held i p ws b left) → (match strict g (shapes pairs) ws b left ≡ stuck → ⊥) → getD pairs (i + 1) 0 < env .n
+        variable-bound {strict} {g} {ws} {b} {left} r ns = go-on (env .n - getD pairs (i + 1) 0) refl
+          where
+            go-on : (d : ℕ) → env .n - getD pairs (i + 1) 0 ≡ d → getD pairs (i + 1) 0 < env .n
+            go-on (suc d) e = omega arith
+            go-on zero e =
+                let l = env-length g arena (startsOf env) (r .bound-to) (r .stage .stands) in
+                absurd (ns (at-same r ∙ same-unbound strict g (shapes (drop (i + 2) pairs)) (bindings (r .bound-to) (b .besides)) left (here r .t) (here r .v) (here r .below) (getD pairs (i + 1) 0) (env-past (r .bound-to) (getD pairs (i + 1) 0) (omega (arith, starts-length env (go .sound))))))
+
+        module _ (start : ℕ) (es : start ≡ startAt env (getD pairs (i + 1) 0)) (eq : Bool) (x : Words) (ex : x ≡ drop p part) (test : SameTree arena start x eq) where
+          -- the variable's tree, and what the comparison says of it
+          compared : {strict : Bool} {g : Grammar} {ws : Words} {b : Bindings} {left : ℕ} (r : Run strict g pairs arena part at env held i p ws b left) → (match strict g (shapes pairs) ws b left ≡ stuck → ⊥)
+              → (u : Words) × (getElem? (r .bound-to) (getD pairs (i + 1) 0) ≡ some u) × (eq ≡ equalWords u (firstTree g (here r .t ∷ here r .v ∷ here r .below)))
+          compared {g = g} r ns =
+              let n = here r in
+              let h = variable-bound r ns in
+              let e = env-get g arena (startsOf env) (r .bound-to) (getD pairs (i + 1) 0) (r .stage .stands) (omega (arith, starts-length env (go .sound))) in
+              let s : Stands g arena start (e .0) = stands-as (es ∙ start-is env (getD pairs (i + 1) 0) (go .sound) h) (e .2) in
+              (e .0, e .1, test g (e .0) (r .rest) (n .t) (n .more) (r .stage .types) s (ex ∙ r .stage .marks) (due-as (n .t) (n .more) (n .due) (r .stage .rest) .typed) (r .stage .rest .nodes) ∙ ap (λ y. equalWords (e .0) (firstTree g y)) (n .is))
+
+          pub going-other : eq ≡ false → MatchAnswers pairs arena part at vars held₀ (record { verdict = Differs; vars = env; live = held })
+          going-other f = answered Differs (λ strict g ws b left ns r.
+              let n = here r in
+              let c = compared r ns in
+              at-same r ∙ same-other strict g (shapes (drop (i + 2) pairs)) (bindings (r .bound-to) (b .besides)) left (n .t) (n .v) (n .below) (getD pairs (i + 1) 0) (c .0) (c .1) (sym (c .2) ∙ f))
+
+          pub going-same : eq ≡ true → Going pairs arena part at vars held₀ env held (i + 2) (p + 2 * sizeIn w)
+          going-same f = record {
+            read = omega (arith, go .read);
+            near = omega (arith, go .near);
+            sound = go .sound;
+            fits = go .fits;
+            run = λ strict g ws ts b left st ns. stepped strict g ws b left ns (go .run strict g ws ts b left st ns);
+          }
+            where
+              stepped : (strict : Bool) (g : Grammar) (ws : Words) (b : Bindings) (left : ℕ) → (match strict g (shapes pairs) ws b left ≡ stuck → ⊥) → Run strict g pairs arena part at env held i p ws b left
+                  → Run strict g pairs arena part at env held (i + 2) (p + 2 * sizeIn w) ws b left
+              stepped strict g ws b left ns r =
+                  let n = here r in
+                  let c = compared r ns in
+                  record {
+                    inside = omega (arith, tree-inside r, length-drop p part, r .inside);
+                    rest = after g (r .rest) 1;
+                    types = n .more;
+                    bound-to = r .bound-to;
+                    stage = tree-on r env held (r .bound-to) (r .stage .stands) (r .stage .counted);
+                    same-run = at-same r ∙ same-there strict g (shapes (drop (i + 2) pairs)) (bindings (r .bound-to) (b .besides)) left (n .t) (n .v) (n .below) (getD pairs (i + 1) 0) (c .0) (c .1) (sym (c .2) ∙ f)
+                        ∙ ap (λ y. match strict g (shapes (drop (i + 2) pairs)) (after g y 1) (bindings (r .bound-to) (b .besides)) left) (sym (n .is));
+                  }
+
+      -- A NEW VARIABLE
+      module _ (is : getD pairs i 0 ≡ 64) (start : ℕ) (es : start ≡ at + p) (m : Matched) (em : m ≡ newMatched w (getD pairs (i + 1) 0) start env held) where
+        is-new : shapes (getD pairs i 0 ∷ getD pairs (i + 1) 0 ∷ drop (i + 2) pairs) ≡ new (getD pairs (i + 1) 0) ∷ shapes (drop (i + 2) pairs)
+        is-new = pair-new (getD pairs i 0) (getD pairs (i + 1) 0) (drop (i + 2) pairs) is
+
+        at-new : {strict : Bool} {g : Grammar} {ws : Words} {b : Bindings} {left : ℕ} (r : Run strict g pairs arena part at env held i p ws b left)
+            → match strict g (shapes pairs) ws b left ≡ match strict g (new (getD pairs (i + 1) 0) ∷ shapes (drop (i + 2) pairs)) (here r .t ∷ here r .v ∷ here r .below) (bindings (r .bound-to) (b .besides)) left
+        at-new {strict} {g} {ws} {b} {left} r =
+            r .same-run ∙ at-shape _ is-new strict g (r .rest) (bindings (r .bound-to) (b .besides)) left
+            ∙ ap (λ x. match strict g (new (getD pairs (i + 1) 0) ∷ shapes (drop (i + 2) pairs)) x (bindings (r .bound-to) (b .besides)) left) (here r .is)
+
+        type-is : {strict : Bool} {g : Grammar} {ws : Words} {b : Bindings} {left : ℕ} (r : Run strict g pairs arena part at env held i p ws b left) → typeIn w ≡ here r .t
+        type-is r = ap typeIn (sym at-first) ∙ here r .type-in
+
+        live-is : {strict : Bool} {g : Grammar} {ws : Words} {b : Bindings} {left : ℕ} (r : Run strict g pairs arena part at env held i p ws b left)
+            → held + sizeIn w ≡ live (bindings (r .bound-to) (b .besides)) + size (firstTree g (here r .t ∷ here r .v ∷ here r .below))
+        live-is {g = g} r = let e : sizeIn w ≡ size (firstTree g (here r .t ∷ here r .v ∷ here r .below)) = ap sizeIn (sym at-first) ∙ here r .size-in ∙ ap (λ x. size (firstTree g x)) (here r .is) in omega (arith, r .stage .counted)
+
+        few-bound : {strict : Bool} {g : Grammar} {ws : Words} {b : Bindings} {left : ℕ} (r : Run strict g pairs arena part at env held i p ws b left) → length (r .bound-to) ≡ env .n
+        few-bound {g = g} r = env-length g arena (startsOf env) (r .bound-to) (r .stage .stands) ∙ starts-length env (go .sound)
+
+        other-answer : (typeIn w ≡ getD pairs (i + 1) 0 → ⊥) → MatchAnswers pairs arena part at vars held₀ (record { verdict = Differs; vars = env; live = held })
+        other-answer h = answered Differs (λ strict g ws b left ns r.
+            at-new r ∙ new-type strict g (shapes (drop (i + 2) pairs)) (bindings (r .bound-to) (b .besides)) left (here r .t) (here r .v) (here r .below) (getD pairs (i + 1) 0) (λ e. h (type-is r ∙ e)))
+
+        over-answer : typeIn w ≡ getD pairs (i + 1) 0 → 6144 < held + sizeIn w → MatchAnswers pairs arena part at vars held₀ (record { verdict = Stops 44; vars = env; live = held })
+        over-answer e h = answered (Stops 44) (λ strict g ws b left ns r.
+            at-new r ∙ new-full strict g (shapes (drop (i + 2) pairs)) (bindings (r .bound-to) (b .besides)) left (here r .t) (here r .v) (here r .below) (getD pairs (i + 1) 0) (sym (type-is r) ∙ e) (omega (arith, live-is r)))
+
+        past-answer : typeIn w ≡ getD pairs (i + 1) 0 → held + sizeIn w ≤ 6144 → 16 ≤ env .n → MatchAnswers pairs arena part at vars held₀ (record { verdict = Differs; vars = env; live = held })
+        past-answer e h k = answered Differs (λ strict g ws b left ns r.
+            absurd (ns (at-new r ∙ new-seventeenth strict g (shapes (drop (i + 2) pairs)) (bindings (r .bound-to) (b .besides)) left (here r .t) (here r .v) (here r .below) (getD pairs (i + 1) 0) (sym (type-is r) ∙ e) (omega (arith, live-is r)) (omega (arith, few-bound r)))))
+
+        answer-as : {x : Matched} → m ≡ x → MatchAnswers pairs arena part at vars held₀ x → MatchAnswers pairs arena part at vars held₀ m
+        answer-as e a = rw e a
+
+        pub going-differs : m .verdict ≡ Differs → MatchAnswers pairs arena part at vars held₀ m
+        going-differs d = told (new-told w (getD pairs (i + 1) 0) start env held m em)
+          where
+            told : NewTold w (getD pairs (i + 1) 0) start env held m → MatchAnswers pairs arena part at vars held₀ m
+            told (other h e) = answer-as e (other-answer h)
+            told (over t h e) = answer-as e (over-answer t h)
+            told (past t h k e) = answer-as e (past-answer t h k)
+            told (taken t h k e) = let z : Matches ≡ Differs = ap (λ x. x .verdict) (sym e) ∙ d in let y : _≡_ {A = ℕ} 0 1 = cc in absurd (omega arith)
+
+        pub going-stops : {n : ℕ} → m .verdict ≡ Stops n → MatchAnswers pairs arena part at vars held₀ m
+        going-stops {n} d = told (new-told w (getD pairs (i + 1) 0) start env held m em)
+          where
+            told : NewTold w (getD pairs (i + 1) 0) start env held m → MatchAnswers pairs arena part at vars held₀ m
+            told (other h e) = answer-as e (other-answer h)
+            told (over t h e) = answer-as e (over-answer t h)
+            told (past t h k e) = answer-as e (past-answer t h k)
+            told (taken t h k e) = let z : Matches ≡ Stops n = ap (λ x. x .verdict) (sym e) ∙ d in let y : _≡_ {A = ℕ} 0 1 = cc in absurd (omega arith)
+
+        taken-going : typeIn w ≡ getD pairs (i + 1) 0 → held + sizeIn w ≤ 6144 → env .n < 16 → Going pairs arena part at vars held₀ (bound env start) (held + sizeIn w) (i + 2) (p + 2 * sizeIn w)
+        taken-going t h k = record {
+          read = omega (arith, go .read);
+          near = omega (arith, go .near);
+          sound = sound-more env start (go .sound) k;
+          fits = h;
+          run = λ strict g ws ts b left st ns. stepped strict g ws b left (go .run strict g ws ts b left st ns);
+        }
+          where
+            stepped : (strict : Bool) (g : Grammar) (ws : Words) (b : Bindings) (left : ℕ) → Run strict g pairs arena part at env held i p ws b left
+                → Run strict g pairs arena part at (bound env start) (held + sizeIn w) (i + 2) (p + 2 * sizeIn w) ws b left
+            stepped strict g ws b left r =
+                let n = here r in
+                let u = firstTree g (r .rest) in
+                let c = bindings (r .bound-to) (b .besides) in
+                let due : Stage g arena (drop p part) (at + p) env held (r .rest) (n .t ∷ n .more) c = stage-due (n .t) (n .more) (n .due) (r .stage) in
+                let stands : Stands g arena start u = stands-as es (stands-here due) in
+                let ev : EnvAt g arena (startsOf (bound env start)) (r .bound-to ++ u ∷ []) = env-as g arena (r .bound-to ++ u ∷ []) (starts-more env start (go .sound) k) (env-more g arena (startsOf env) (r .bound-to) start u (r .stage .stands) stands) in
+                let cnt : held + sizeIn w ≡ b .besides + total (r .bound-to ++ u ∷ []) = omega (arith, total-more (r .bound-to) u, r .stage .counted, ap sizeIn (sym at-first) ∙ n .size-in) in
+                let tree : isTree g (getD pairs (i + 1) 0) (firstTree g (n .t ∷ n .v ∷ n .below)) ≡ true =
+                ap₂ (λ a x. isTree g a (firstTree g x)) (sym t ∙ type-is r) (sym (n .is)) ∙ tree-passes (onward (due .rest) .tree) in
+                record {
+                  inside = omega (arith, tree-inside r, length-drop p part, r .inside);
+                  rest = after g (r .rest) 1;
+                  types = n .more;
+                  bound-to = r .bound-to ++ u ∷ [];
+                  stage = tree-on r (bound env start) (held + sizeIn w) (r .bound-to ++ u ∷ []) ev cnt;
+                  same-run = at-new r
+                      ∙ new-bound strict g (shapes (drop (i + 2) pairs)) c left (n .t) (n .v) (n .below) (getD pairs (i + 1) 0) (sym (type-is r) ∙ t) (omega (arith, live-is r)) (omega (arith, few-bound r)) tree
+                      ∙ ap (λ y. match strict g (shapes (drop (i + 2) pairs)) (after g y 1) (bindings (r .bound-to ++ firstTree g y ∷ []) (b .besides)) left) (sym (n .is));
+                }
+
+        pub going-new : m .verdict ≡ Matches → Going pairs arena part at vars held₀ (m .vars) (m .live) (i + 2) (p + 2 * sizeIn w)
+        going-new d = told (new-told w (getD pairs (i + 1) 0) start env held m em)
+          where
+            clash : {v : Verdict} {x : Matched} → m ≡ x → x .verdict ≡ v → (v ≡ Matches → ⊥) → Going pairs arena part at vars held₀ (m .vars) (m .live) (i + 2) (p + 2 * sizeIn w)
+            clash e f h = absurd (h (sym f ∙ ap (λ y. y .verdict) (sym e) ∙ d))
+
+            told : NewTold w (getD pairs (i + 1) 0) start env held m → Going pairs arena part at vars held₀ (m .vars) (m .live) (i + 2) (p + 2 * sizeIn w)
+            told (other h e) = clash e refl (λ z. let y : _≡_ {A = ℕ} 0 1 = cc in omega arith)
+            told (over t h e) = clash e refl (λ z. let y : _≡_ {A = ℕ} 0 1 = cc in omega arith)
+            told (past t h k e) = clash e refl (λ z. let y : _≡_ {A = ℕ} 0 1 = cc in omega arith)
+            told (taken t h k e) = rw e (taken-going t h k)

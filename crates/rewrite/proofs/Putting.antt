@@ -1,0 +1,183 @@
+-- A tree put in the place of another: the moves in work memory, and the marks afterwards. Assumes nothing.
+use Prim.Native.Nat.{ℕ, zero, suc, _+_, _-_, _*_, _<_, _≤_}
+use mathlib.Core.Path.{_≡_, refl, sym, ap, ap₂, _∙_}
+use mathlib.Core.List.{List, [], _∷_, _++_, append-assoc}
+use native.Mathlib.Omega.{arith}
+use native.Mathlib.Numerals.{add-one, add-two}
+use lib.ListN.{length, getD, take, drop, length-append, length-take, length-drop, take-append-drop}
+use lib.Seq.{paste, length-paste, take-paste, take-at, drop-at, take-take, take-add, take-all, drop-drop, drop-nil, take-nil, getD-drop, getD-take, length-take-le}
+use Rattle.words.specs.Reader.{Words}
+use Rattle.grammar.specs.Grammar.{Grammar}
+use Rattle.grammar.specs.Tables.{Tables}
+use Rattle.tree.specs.Tree.{Trees, none, node, size, first, after, firstTree}
+use Rattle.tree.proofs.Trees.{tells, trees-even, first-even, after-drop}
+use Rattle.meaning.specs.Meaning.{put}
+use Rattle.rewrite.specs.Marked.{typeIn, sizeIn, marked, unmarked}
+use Rattle.rewrite.specs.Post.{span, Unfinished, TreeMarked, Ready, InPlace}
+use Rattle.rewrite.proofs.Marks.{marked-length, marked-append}
+use Rattle.rewrite.proofs.Marking.{Child, child-of}
+use Rattle.rewrite.proofs.Spans.{drop-take, span-later, span-length, suffix-trees, suffix-size, first-size}
+use Rattle.rewrite.proofs.Same.{unmark}
+
+-- MARKS OF A PART
+
+marked-suffix : (g : Grammar) (ws : Words) (h q : ℕ) → q ≡ 2 * h → drop q (marked g ws) ≡ marked g (drop q ws)
+unfolding marked
+marked-suffix g ws zero q e = let z : q ≡ 0 = omega arith in rw z
+marked-suffix g [] (suc h) q e = rw (drop-nil {A = ℕ} q)
+marked-suffix g (t ∷ []) (suc h) zero e = absurd (omega arith)
+marked-suffix g (t ∷ []) (suc h) (suc q) e = rw (drop-nil {A = ℕ} q)
+marked-suffix g (t ∷ v ∷ ws) (suc h) zero e = absurd (omega arith)
+marked-suffix g (t ∷ v ∷ ws) (suc h) (suc zero) e = absurd (omega arith)
+marked-suffix g (t ∷ v ∷ ws) (suc h) (suc (suc q)) e = marked-suffix g ws h q (omega arith)
+
+unmarked-take : (ws : Words) (h q : ℕ) → q ≡ 2 * h → unmarked (take q ws) ≡ take q (unmarked ws)
+unfolding unmarked
+unmarked-take ws zero q e = let z : q ≡ 0 = omega arith in rw z
+unmarked-take [] (suc h) q e = rw (take-nil {A = ℕ} q)
+unmarked-take (w ∷ []) (suc h) zero e = absurd (omega arith)
+unmarked-take (w ∷ []) (suc h) (suc q) e = rw (take-nil {A = ℕ} q)
+unmarked-take (w ∷ v ∷ ws) (suc h) zero e = absurd (omega arith)
+unmarked-take (w ∷ v ∷ ws) (suc h) (suc zero) e = absurd (omega arith)
+unmarked-take (w ∷ v ∷ ws) (suc h) (suc (suc q)) e = ap (λ l. typeIn w ∷ v ∷ l) (unmarked-take ws h q (omega arith))
+
+-- ONE MOVE
+
+module _ (d : Words) (at : ℕ) (s : Words) (n : ℕ) (low : at ≤ length d) (high : n ≤ length s) where
+  paste-front : take at (paste d at s n) ≡ take at d
+  paste-front =
+      sym (take-take at (at + n) (paste d at s n) (omega arith)) ∙ ap (take at) (take-paste d at s n low high) ∙ take-at (take at d) (take n s) at (length-take-le at d low)
+
+  paste-middle : take n (drop at (paste d at s n)) ≡ take n s
+  paste-middle =
+      let z : at + n - at ≡ n = omega arith in
+      ap (λ k. take k (drop at (paste d at s n))) (sym z) ∙ sym (drop-take (at + n) at (paste d at s n)) ∙ ap (drop at) (take-paste d at s n low high)
+      ∙ drop-at (take at d) (take n s) at (length-take-le at d low)
+
+-- BOTH MOVES
+
+abbrev pub behind : Words → ℕ → ℕ → ℕ → ℕ → Words
+behind w after from n rest = paste w (from + n) (drop after w) rest
+
+abbrev pub moved : Words → ℕ → ℕ → ℕ → ℕ → ℕ → Words
+moved w place after from n rest = paste (behind w after from n rest) place (drop from (behind w after from n rest)) (n + rest)
+
+module _ (w : Words) (place after end from n rest : ℕ) (e : after + rest ≡ end) (a : place ≤ after) (f : end ≤ from) (room : from + n + rest ≤ length w) where
+  behind-long : length (behind w after from n rest) ≡ length w
+  behind-long = length-paste w (from + n) (drop after w) rest (omega arith) (omega (arith, length-drop after w))
+
+  moved-long : length (moved w place after from n rest) ≡ length w
+  moved-long =
+      length-paste (behind w after from n rest) place (drop from (behind w after from n rest)) (n + rest) (omega (arith, behind-long)) (omega (arith, length-drop from (behind w after from n rest), behind-long))
+      ∙ behind-long
+
+  moved-front : take place (moved w place after from n rest) ≡ take place w
+  moved-front =
+      paste-front (behind w after from n rest) place (drop from (behind w after from n rest)) (n + rest) (omega (arith, behind-long)) (omega (arith, length-drop from (behind w after from n rest), behind-long))
+      ∙ sym (take-take place (from + n) (behind w after from n rest) (omega arith)) ∙ ap (take place) (paste-front w (from + n) (drop after w) rest (omega arith) (omega (arith, length-drop after w)))
+      ∙ take-take place (from + n) w (omega arith)
+
+  moved-middle : take (n + rest) (drop place (moved w place after from n rest)) ≡ span w from (from + n) ++ span w after end
+  moved-middle =
+      let z : from + n - from ≡ n = omega arith in
+      let y : rest ≡ end - after = omega arith in
+      let l = behind w after from n rest in
+      paste-middle l place (drop from l) (n + rest) (omega (arith, behind-long)) (omega (arith, length-drop from l, behind-long))
+      ∙ take-add n rest (drop from l)
+      ∙ ap₂ (λ x y. x ++ y)
+      (ap (λ k. take k (drop from l)) (sym z) ∙ sym (drop-take (from + n) from l) ∙ ap (drop from) (paste-front w (from + n) (drop after w) rest (omega arith) (omega (arith, length-drop after w))) ∙ drop-take (from + n) from w)
+      (ap (take rest) (drop-drop n from l) ∙ paste-middle w (from + n) (drop after w) rest (omega arith) (omega (arith, length-drop after w)) ∙ ap (λ k. take k (drop after w)) y)
+
+-- THE NODE, AND WHAT FOLLOWS IT
+
+module _ (g : Grammar) (w : Words) (base place end from n t : ℕ) (scope ws : Words) (types : length g ≤ 64) (r : Ready g w base place end from n t scope ws) (low : base ≤ place) (two : place < end) (room : end ≤ length w) where
+  abbrev rest-words : Words
+  rest-words = drop (place - base) scope
+
+  stands-rest : span w place end ≡ marked g rest-words
+  stands-rest = sym (span-later w base place end low) ∙ ap (drop (place - base)) (r .stands) ∙ marked-suffix g scope (r .half) (place - base) (r .even)
+
+  there : (c : ℕ) × (cs : List ℕ) × Trees g (c ∷ cs) rest-words
+  there = go (suffix-trees scope (r .tree) (r .half) (place - base) (r .even) (omega (arith, r .long)))
+    where
+      go : (us : List ℕ) × Trees g us rest-words → (c : ℕ) × (cs : List ℕ) × Trees g (c ∷ cs) rest-words
+      go ([], q) = absurd (omega (arith, trees-none rest-words q, length-drop (place - base) scope, r .long))
+        where
+          trees-none : (x : Words) → Trees g [] x → length x ≡ 0
+          trees-none [] q = refl
+          trees-none (y ∷ x) q = absurd (tells q)
+      go ((c ∷ cs), q) = (c, cs, q)
+
+  node-size : sizeIn (getD w place 0) ≡ size (firstTree g rest-words)
+  node-size =
+      let z : place + 0 ≡ place = omega arith in
+      let here : getD w place 0 ≡ getD (marked g rest-words) 0 0 =
+      ap (λ k. getD w k 0) (sym z) ∙ sym (getD-drop place w 0 0) ∙ sym (getD-take (end - place) (drop place w) 0 0 (omega arith)) ∙ ap (λ l. getD l 0 0) stands-rest in
+      let s = first-size g rest-words 1 in
+      let u = suffix-size scope (r .half) (place - base) (r .even) in
+      child-of g (there .0) (there .1) rest-words (getD w place 0) types (omega (arith, r .few)) (there .2) here .counted
+
+  rest-long : length rest-words ≡ end - place
+  rest-long = omega (arith, length-drop (place - base) scope, r .long)
+
+  after-inside : place + 2 * sizeIn (getD w place 0) ≤ end
+  after-inside =
+      let s = first-size g rest-words 1 in
+      let u = suffix-trees scope (r .tree) (r .half) (place - base) (r .even) (omega (arith, r .long)) in
+      omega (arith, node-size, rest-long, trees-even (u .1))
+
+  what-follows : (p : ℕ) → p ≡ place + 2 * sizeIn (getD w place 0) → span w p end ≡ marked g (after g rest-words 1)
+  what-follows p e =
+      let m : p - place ≡ 2 * sizeIn (getD w place 0) = omega arith in
+      let l : p - place ≡ length (firstTree g rest-words) = omega (arith, node-size, first-even g rest-words 1) in
+      sym (span-later w place p end (omega arith)) ∙ ap (drop (p - place)) stands-rest ∙ marked-suffix g rest-words (sizeIn (getD w place 0)) (p - place) m
+      ∙ ap (marked g) (ap (λ k. drop k rest-words) l ∙ sym (after-drop g rest-words 1))
+
+  follows-long : (p : ℕ) → p ≡ place + 2 * sizeIn (getD w place 0) → length (after g rest-words 1) ≡ end - p
+  follows-long p e =
+      omega (arith, ap length (after-drop g rest-words 1), length-drop (length (firstTree g rest-words)) rest-words, node-size, first-even g rest-words 1, rest-long)
+
+  -- after the moves all is right but the marks before the place
+  unfinished : (p rest : ℕ) (w₂ : Words) → p ≡ place + 2 * sizeIn (getD w place 0) → p + rest ≡ end → take place w₂ ≡ take place w → take (n + rest) (drop place w₂) ≡ span w from (from + n) ++ span w p end
+      → Unfinished g w₂ base place (place + (n + rest)) (put g scope (place - base) ws)
+  unfolding put
+  unfinished p rest w₂ e er front middle =
+      let q = place - base in
+      let x = after g rest-words 1 in
+      let lq : length (take q scope) ≡ q = length-take-le q scope (omega (arith, r .long)) in
+      let top : place + (n + rest) - place ≡ n + rest = omega arith in
+      let same : span w₂ base place ≡ span w base place = sym (drop-take place base w₂) ∙ ap (drop base) front ∙ drop-take place base w in
+      let part : span w base place ≡ take q (marked g scope) = sym (take-take q (end - base) (drop base w) (omega arith)) ∙ ap (take q) (r .stands) in
+      record {
+        long = omega (arith, length-append (take q scope) (ws ++ x), length-append ws x, lq, r .new-long, follows-long p e);
+        half = r .half;
+        even = r .even;
+        front = ap unmarked (same ∙ part) ∙ unmarked-take (marked g scope) (r .half) q (r .even) ∙ ap (take q) (unmark types (r .tree)) ∙ sym (take-at (take q scope) (ws ++ x) q lq);
+        back = ap (λ k. take k (drop place w₂)) top ∙ middle ∙ ap₂ (λ a b. a ++ b) (r .new-stands) (what-follows p e) ∙ sym (marked-append (r .new) x)
+            ∙ ap (marked g) (sym (drop-at (take q scope) (ws ++ x) q lq));
+      }
+
+-- IN PLACE
+
+module _ (heads rows w : Words) (base place end from n : ℕ) (low : base ≤ place) (two : place < end) (high : end ≤ from) (room : from + n + (end - place) ≤ length w) where
+  pub put-done : (p rest : ℕ) (w₂ w₃ : Words) → p ≡ place + 2 * sizeIn (getD w place 0) → p ≤ end → rest ≡ end - p → w₂ ≡ moved w place p from n rest → TreeMarked heads rows w₂ w₃ base place (place + (n + rest))
+      → InPlace heads rows w w₃ base place end from n
+  put-done p rest w₂ w₃ e inside er e₂ m = record {
+    long = m .long ∙ ap length e₂ ∙ moved-long w place p end from n rest (omega arith) (omega arith) high (omega arith);
+    in-place = λ g t scope ws tb r.
+        let front : take place w₂ ≡ take place w = ap (take place) e₂ ∙ moved-front w place p end from n rest (omega arith) (omega arith) high (omega arith) in
+        let middle : take (n + rest) (drop place w₂) ≡ span w from (from + n) ++ span w p end = ap (λ l. take (n + rest) (drop place l)) e₂ ∙ moved-middle w place p end from n rest (omega arith) (omega arith) high (omega arith) in
+        let u = unfinished g w base place end from n t scope ws (tb .rows-of .types) r low two (omega arith) p rest w₂ e (omega arith) front middle in
+        let is = m .marks g t (put g scope (place - base) ws) tb (r .fits) (r .small) u in
+        let lb : length (take base w₂) ≡ base = length-take-le base w₂ (omega (arith, ap length e₂, moved-long w place p end from n rest (omega arith) (omega arith) high (omega arith))) in
+        let top : base + length (put g scope (place - base) ws) - base ≡ length (marked g (put g scope (place - base) ws)) = omega (arith, marked-length g (put g scope (place - base) ws)) in (
+          ap (take base) is ∙ take-at (take base w₂) (marked g (put g scope (place - base) ws) ++ drop (place + (n + rest)) w₂) base lb ∙ sym (take-take base place w₂ low) ∙ ap (take base) front ∙ take-take base place w low,
+          ap (λ l. take (base + length (put g scope (place - base) ws) - base) (drop base l)) is
+              ∙ ap (take (base + length (put g scope (place - base) ws) - base)) (drop-at (take base w₂) (marked g (put g scope (place - base) ws) ++ drop (place + (n + rest)) w₂) base lb)
+              ∙ take-at (marked g (put g scope (place - base) ws)) (drop (place + (n + rest)) w₂) (base + length (put g scope (place - base) ws) - base) (sym top),
+        );
+  }
+
+  -- the node's tree ends inside the scope, so there is no other way
+  pub put-not : end < place + 2 * sizeIn (getD w place 0) → InPlace heads rows w w base place end from n
+  put-not over = record { long = refl; in-place = λ g t scope ws tb r. absurd (omega (arith, after-inside g w base place end from n t scope ws (tb .rows-of .types) r low two (omega arith))) }

@@ -1,0 +1,16 @@
+use Rattle.rewrite.proofs.Numbers.{equals, exceeds}
+use Rattle.rewrite.proofs.operations.holds.Statement.{statement}
+use Rattle.rewrite.proofs.operations.holds.Tie as tie
+use Rattle.rewrite.proofs.operations.holds.Reads as reads
+use Rattle.rewrite.proofs.operations.holds.Lts as lts
+
+-- src/operations.rt:59:9
+returns : tie.Need-returns
+returns c = equals (c .before .args .op) (c .before .args .a) (c .before .args .b) (c .if1 .taken)
+
+-- src/operations.rt:55:1
+returns-2 : tie.Need-returns-2
+returns-2 c = exceeds (c .before .args .op) (c .before .args .a) (c .before .args .b) (c .if1 .left)
+
+pub holds-spec : {M : Type 1} → statement M
+holds-spec = tie.close (tie.spec returns returns-2)

@@ -1,0 +1,5 @@
+pub mod Marked
+pub mod Post
+pub mod Vars
+pub mod Matching
+pub mod Operating

@@ -1,0 +1,70 @@
+-- What the matcher promises: the meaning's match, over trees that stand marked in work memory. Assumes nothing: these are definitions.
+use Prim.Native.Nat.{ℕ, _+_, _≤_}
+use mathlib.Core.Path.{_≡_}
+use mathlib.Core.Bool.{Bool}
+use mathlib.Core.List.{List, [], _∷_}
+use mathlib.Core.Option.{Option, none, some}
+use lib.ListN.{length, take, drop}
+use lib.Dec.{ltb, leb, eqb}
+use Rattle.words.specs.Reader.{Words, pick}
+use Rattle.grammar.specs.Grammar.{Grammar}
+use Rattle.grammar.specs.Limits.{mostTypes}
+use Rattle.rules.specs.Limits.{mostVariables}
+use Rattle.rules.specs.Rules.{Shape, shapes}
+use Rattle.meaning.specs.Limits.{mostLive}
+use Rattle.meaning.specs.Computation.{Result, ok, stop, stuck, Comp}
+use Rattle.meaning.specs.Meaning.{Env, Bindings, total, match, matchFirst}
+use Rattle.tree.proofs.Rest.{Rest}
+use Rattle.rewrite.specs.Marked.{marked, typeIn, sizeIn}
+use Rattle.rewrite.specs.Vars.{EnvAt, startsOf, bound, Sound}
+use Rattle.rewrite.specs.declared.Vars.{Vars}
+use Rattle.rewrite.specs.declared.Verdict.{Verdict}
+use Rattle.rewrite.specs.declared.Verdict.the-variants.{Matches, Differs, Stops}
+use Rattle.rewrite.specs.declared.Matched.{Matched}
+
+-- a new variable of the type set against the node w at `start`: it is bound, unless the type is another, too many nodes would be live, or it is the 17th
+unfoldable pub newMatched : ℕ → ℕ → ℕ → Vars → ℕ → Matched
+newMatched w ty start vars live =
+    pick (eqb (typeIn w) ty)
+    (pick (leb (live + sizeIn w) mostLive)
+    (pick (ltb (vars .n) mostVariables) (record { verdict = Matches; vars = bound vars start; live = live + sizeIn w }) (record { verdict = Differs; vars = vars; live = live }))
+    (record { verdict = Stops 44; vars = vars; live = live }))
+    (record { verdict = Differs; vars = vars; live = live })
+
+-- the part, which begins at `at` in the arena, is what is left of a marked tree; the variables' trees stand in the arena; so many nodes are live
+pub record Stage (g : Grammar) (arena part : Words) (at : ℕ) (vars : Vars) (live : ℕ) (ws : Words) (ts : List ℕ) (b : Bindings) : Type 0 where
+  pub types : length g ≤ mostTypes
+  pub place : part ≡ take (length part) (drop at arena)
+  pub inside : at + length part ≤ length arena
+  pub marks : part ≡ marked g ws
+  pub rest : Rest g ts ws
+  pub stands : EnvAt g arena (startsOf vars) (b .env)
+  pub counted : live ≡ b .besides + total (b .env)
+
+abbrev pub bindings : Env → ℕ → Bindings
+bindings env besides = record { env = env; besides = besides }
+
+-- what a verdict says of a computation that gives a match or none
+abbrev pub Means : Grammar → Words → ℕ → Verdict → Vars → ℕ → ℕ → Result (Option Bindings) → Type 0
+Means g arena besides Matches vars live left m = (env : Env) × EnvAt g arena (startsOf vars) env × (live ≡ besides + total env) × (m ≡ ok (some (bindings env besides)) left)
+Means g arena besides Differs vars live left m = m ≡ ok none left
+Means g arena besides (Stops n) vars live left m = m ≡ stop n left
+
+-- the answer is what the computation gives, unless it is stuck
+pub record Answers (arena part : Words) (at : ℕ) (vars : Vars) (live : ℕ) (f : Grammar → Words → Bindings → Comp (Option Bindings)) (r : Matched) : Type 0 where
+  pub sound : Sound (r .vars)
+  pub fits : r .live ≤ mostLive
+  pub meant : (g : Grammar) (ws : Words) (ts : List ℕ) (b : Bindings) (left : ℕ) → Stage g arena part at vars live ws ts b → (f g ws b left ≡ stuck → ⊥)
+      → Means g arena (b .besides) (r .verdict) (r .vars) (r .live) left (f g ws b left)
+
+-- a pattern's pairs set against the first tree
+abbrev pub matchOf : Bool → Words → Grammar → Words → Bindings → Comp (Option Bindings)
+matchOf strict pairs g ws b = match strict g (shapes pairs) ws b
+
+-- .. strict or not
+abbrev pub MatchAnswers : Words → Words → Words → ℕ → Vars → ℕ → Matched → Type 0
+MatchAnswers pairs arena part at vars live r = (strict : Bool) → Answers arena part at vars live (matchOf strict pairs) r
+
+-- the first node of the type that the pattern matches
+abbrev pub FirstAnswers : ℕ → Words → Words → Words → ℕ → Vars → ℕ → Matched → Type 0
+FirstAnswers ty pairs arena part at vars live r = (strict : Bool) → Answers arena part at vars live (λ g ws b. matchFirst strict g ty (shapes pairs) ws b) r

@@ -1,0 +1,366 @@
+// Trees in work memory: the first word of each node carries its type and the size and nesting of its tree.
+use grammar::limits::HEADS;
+use grammar::limits::ROWS;
+use grammar::tables;
+ghost use mathlib.Core.Path.{_≡_};
+ghost use Prim.Native.Nat.{ℕ, _+_, _-_, _*_, _<_, _≤_, _^_, max};
+ghost use mathlib.Core.Bool.{true, false};
+ghost use Rattle.words.specs.Reader.{pick, and};
+ghost use lib.Dec.{eqb};
+ghost use lib.ListN.{length};
+ghost use Rattle.rewrite.specs.Marked.{mark, typeIn, sizeIn, nestingIn};
+ghost use Rattle.rewrite.specs.Post.{MarkMade, TreeMarked, InPlace, Written, SameTree};
+ghost use Rattle.rewrite.specs.Vars.{bound, startAt, Sound};
+ghost use Rattle.rewrite.specs.Matching.{newMatched, MatchAnswers, FirstAnswers};
+ghost use Rattle.rewrite.specs.declared.Verdict as Verdict;
+
+pub mod operations;
+
+const MARK_NEW: u32 = 64;
+
+const MARK_VARIABLE: u32 = 65;
+
+const MOST_LIVE: usize = 6144;
+
+const MOST_VARIABLES: usize = 16;
+
+// The variables of an open call: where their trees stand, the first n of 16.
+pub struct Vars {
+    pub n: usize,
+    pub starts: [u32; 16],
+}
+
+pub enum Verdict {
+    Matches,
+    Differs,
+    Stops(u32),
+}
+
+// What a match found, the variables that are bound after it, and how many nodes are live then.
+pub struct Matched {
+    pub verdict: Verdict,
+    pub vars: Vars,
+    pub live: usize,
+}
+
+pub fn type_in(w: u32) -> u32
+    ensures { λ r. ⌜ r ≡ typeIn w ⌝ }
+{
+    w % 64
+}
+
+// How many nodes the tree of a marked node has.
+pub fn size_in(w: u32) -> usize
+    ensures { λ r. ⌜ (r ≡ sizeIn w) × (r < 4096) ⌝ }
+{
+    words::wide(w / 64 % 4096)
+}
+
+// How deep the tree of a marked node nests.
+pub fn nesting_in(w: u32) -> usize
+    ensures { λ r. ⌜ (r ≡ nestingIn w) × (r < 16384) ⌝ }
+{
+    words::wide(w / 262144)
+}
+
+fn greater(a: usize, b: usize) -> usize
+    ensures { λ r. ⌜ r ≡ max a b ⌝ }
+{
+    if a < b { b } else { a }
+}
+
+// How much deeper child i nests in its parent's tree: the rest of a sequence keeps its parent's nesting.
+fn level(sequence: bool, i: usize) -> usize
+    ensures { λ r. ⌜ (r ≡ pick (and sequence (eqb i 1)) 0 1) × (r ≤ 1) ⌝ }
+{
+    if sequence {
+        if i == 1 {
+            return 0;
+        }
+    }
+    1
+}
+
+// A marked word.
+fn pack(t: u32, n: usize, k: usize) -> u32
+    requires { ⌜ (n < 2 ^ 32) × (k < 2 ^ 32) ⌝ }
+    ensures { λ r. ⌜ (mark t n k < 2 ^ 32 → r ≡ mark t n k) ⌝ }
+{
+    let w = words::wide(t) + 64 * n + 262144 * k;
+    (w % 4294967296) as u32
+}
+
+// The mark of a node (t, v), whose children's marked trees the words below begin with.
+fn mark_of(heads: &[u32; HEADS], rows: &[u8; ROWS], t: u32, v: u32, below: &[u32]) -> u32
+    ensures { λ r. ⌜ MarkMade (now (heads .entry)) (now (rows .entry)) t v (now (below .entry)) r ⌝ }
+{
+    let count = tables::child_count(rows, t, v);
+    let sequence = tables::is_sequence(heads, t);
+    let mut size: usize = 1;
+    let mut deepest: usize = 1;
+    let mut at: usize = 0;
+    let mut i: usize = 0;
+    while i < count {
+        let w = words::word(below, at);
+        let n = size_in(w);
+        let k = nesting_in(w) + level(sequence, i);
+        deepest = greater(deepest, k);
+        size = size + n;
+        at = at + 2 * n;
+        i = i + 1;
+    }
+    pack(t, size, deepest)
+}
+
+// Marks the nodes before the place in the tree that stands from base to top, the last first: a node's children are marked before it.
+pub fn mark_tree(
+    heads: &[u32; HEADS],
+    rows: &[u8; ROWS],
+    w: &mut [u32],
+    base: usize,
+    place: usize,
+    top: usize,
+)
+    requires { ⌜ (base ≤ place) × (place ≤ top) × (top ≤ length (now w)) ⌝ }
+    ensures { λ _. ⌜ TreeMarked (now (heads .entry)) (now (rows .entry)) (now (w .entry)) (now (w .exit)) base place top ⌝ }
+{
+    let mut p = place;
+    while 2 <= p - base {
+        p = p - 2;
+        let below = p + 2;
+        let t = type_in(w[p]);
+        let v = w[p + 1];
+        let arena = &w[..];
+        let m = mark_of(heads, rows, t, v, &arena[below..top]);
+        w[p] = m;
+    }
+}
+
+// Puts the tree of n words that stands at `from` in the place of the tree that stands there, in the scope from base to end: what follows goes behind
+// the new tree, then both move down.
+pub fn put_in_place(
+    heads: &[u32; HEADS],
+    rows: &[u8; ROWS],
+    w: &mut [u32],
+    base: usize,
+    place: usize,
+    end: usize,
+    from: usize,
+    n: usize,
+)
+    requires { ⌜ (base ≤ place) × (place < end) × (end ≤ from) × (from + n + (end - place) ≤ length (now w)) ⌝ }
+    ensures { λ _. ⌜ InPlace (now (heads .entry)) (now (rows .entry)) (now (w .entry)) (now (w .exit)) base place end from n ⌝ }
+{
+    let after = place + 2 * size_in(w[place]);
+    if after <= end {
+        let rest = end - after;
+        words::copy_up(w, after, from + n, rest);
+        words::move_down(w, from, place, n + rest);
+        let top = place + (n + rest);
+        mark_tree(heads, rows, w, base, place, top);
+    }
+}
+
+// Writes the tree of the part to the result, without marks.
+pub fn write_result(part: &[u32], result: &mut [u32])
+    requires { ⌜ length (now part) ≤ length (now result) ⌝ }
+    ensures { λ _. ⌜ Written (now (part .entry)) (now (result .entry)) (now (result .exit)) ⌝ }
+{
+    let mut i: usize = 0;
+    while 2 <= part.len() - i {
+        result[i] = type_in(part[i]);
+        result[i + 1] = part[i + 1];
+        i = i + 2;
+    }
+}
+
+// One variable more.
+fn bind(vars: Vars, start: u32) -> Vars
+    requires { ⌜ vars .n < 16 ⌝ }
+    ensures { λ r. ⌜ r ≡ bound vars start ⌝ }
+{
+    let mut v = vars;
+    let n = v.n;
+    v.starts[n] = start;
+    v.n = n + 1;
+    v
+}
+
+// Is the tree that stands at `start` the same as that which the part begins with?
+fn same_tree(arena: &[u32], start: usize, part: &[u32]) -> bool
+    requires { ⌜ start < 2 ^ 32 ⌝ }
+    ensures { λ r. ⌜ SameTree (now (arena .entry)) start (now (part .entry)) r ⌝ }
+{
+    let n = 2 * size_in(words::word(arena, start));
+    let m = 2 * size_in(words::word(part, 0));
+    let end = start + n;
+    if n != m {
+        return false;
+    }
+    if arena.len() < end {
+        return false;
+    }
+    if part.len() < m {
+        return false;
+    }
+    words::same(&arena[start..end], &part[..m])
+}
+
+fn differs(vars: Vars, live: usize) -> Matched
+    ensures { λ r. ⌜ r ≡ record { verdict = Verdict.Differs; vars = vars; live = live } ⌝ }
+{
+    Matched {
+        verdict: Verdict::Differs,
+        vars,
+        live,
+    }
+}
+
+fn place(x: u32) -> usize
+    ensures { λ r. ⌜ (r ≡ x) × (r < 2 ^ 32) ⌝ }
+{
+    x as usize
+}
+
+// Where the variable's tree stands; 2^32 - 1, where none can stand, if it is not bound.
+fn start_of(vars: Vars, x: u32) -> usize
+    ensures { λ r. ⌜ (r ≡ startAt vars x) × (r < 2 ^ 32) ⌝ }
+{
+    let i = words::wide(x);
+    if i < vars.n {
+        if i < 16 {
+            return place(vars.starts[i]);
+        }
+    }
+    4294967295
+}
+
+// A new variable of the type set against the node w that stands at `start`.
+fn match_new(w: u32, ty: u32, start: usize, vars: Vars, live: usize) -> Matched
+    requires { ⌜ (start < 2 ^ 32) × (live ≤ 6144) ⌝ }
+    ensures { λ r. ⌜ r ≡ newMatched w ty start vars live ⌝ }
+{
+    if type_in(w) != ty {
+        return differs(vars, live);
+    }
+    let total = live + size_in(w);
+    if MOST_LIVE < total {
+        return Matched {
+            verdict: Verdict::Stops(44),
+            vars,
+            live,
+        };
+    }
+    let n = vars.n;
+    if MOST_VARIABLES <= n {
+        return differs(vars, live);
+    }
+    let bound = bind(vars, start as u32);
+    Matched {
+        verdict: Verdict::Matches,
+        vars: bound,
+        live: total,
+    }
+}
+
+// The pattern's pairs set against the tree that the part of the arena begins with, at `at`.
+pub fn match_pattern(
+    pairs: &[u32],
+    arena: &[u32],
+    part: &[u32],
+    at: usize,
+    vars: Vars,
+    live: usize,
+) -> Matched
+    requires { ⌜ (length (now pairs) ≤ 256) × (at < 2 ^ 20) × Sound vars × (live ≤ 6144) ⌝ }
+    ensures { λ r. ⌜ MatchAnswers (now (pairs .entry)) (now (arena .entry)) (now (part .entry)) at vars live r ⌝ }
+{
+    let mut env = vars;
+    let mut total = live;
+    let mut i: usize = 0;
+    let mut p: usize = 0;
+    while 2 <= pairs.len() - i {
+        if part.len() < p + 2 {
+            return differs(env, total);
+        }
+        let t = pairs[i];
+        let v = pairs[i + 1];
+        let w = part[p];
+        if t == MARK_NEW {
+            let m = match_new(w, v, at + p, env, total);
+            let verdict = m.verdict;
+            match verdict {
+                Verdict::Differs => {
+                    return m;
+                }
+                Verdict::Stops(_) => {
+                    return m;
+                }
+                Verdict::Matches => {
+                    let bound = m.vars;
+                    env = bound;
+                    total = m.live;
+                    p = p + 2 * size_in(w);
+                    i = i + 2;
+                }
+            }
+        } else if t == MARK_VARIABLE {
+            let start = start_of(env, v);
+            if !same_tree(arena, start, &part[p..]) {
+                return differs(env, total);
+            }
+            p = p + 2 * size_in(w);
+            i = i + 2;
+        } else {
+            if type_in(w) != t {
+                return differs(env, total);
+            }
+            if part[p + 1] != v {
+                return differs(env, total);
+            }
+            p = p + 2;
+            i = i + 2;
+        }
+    }
+    Matched {
+        verdict: Verdict::Matches,
+        vars: env,
+        live: total,
+    }
+}
+
+// The first node of the type, parent first and left to right, that the pattern matches: a deconstruct that searches.
+pub fn match_first(
+    ty: u32,
+    pairs: &[u32],
+    arena: &[u32],
+    part: &[u32],
+    at: usize,
+    vars: Vars,
+    live: usize,
+) -> Matched
+    requires { ⌜ (length (now pairs) ≤ 256) × (at + length (now part) < 2 ^ 20) × Sound vars × (live ≤ 6144) ⌝ }
+    ensures { λ r. ⌜ FirstAnswers ty (now (pairs .entry)) (now (arena .entry)) (now (part .entry)) at vars live r ⌝ }
+{
+    let mut p: usize = 0;
+    while 2 <= part.len() - p {
+        if type_in(part[p]) == ty {
+            let m = match_pattern(pairs, arena, &part[p..], at + p, vars, live);
+            let verdict = m.verdict;
+            match verdict {
+                Verdict::Matches => {
+                    return m;
+                }
+                Verdict::Stops(_) => {
+                    return m;
+                }
+                Verdict::Differs => {
+                    p = p + 2;
+                }
+            }
+        } else {
+            p = p + 2;
+        }
+    }
+    differs(vars, live)
+}
