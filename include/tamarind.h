@@ -27,6 +27,10 @@ tamarind_answer tamarind_check_grammar(const uint32_t *grammar, size_t grammar_l
 tamarind_answer tamarind_check_tree(const uint32_t *grammar, size_t grammar_len,
                                     const uint32_t *tree, size_t tree_len);
 
+/* Checks a rule book against a grammar: refusals 4, 5, 10 to 12, then 20 to 24. */
+tamarind_answer tamarind_check_rules(const uint32_t *grammar, size_t grammar_len,
+                                     const uint32_t *rules, size_t rules_len);
+
 #ifdef __cplusplus
 }
 #endif

@@ -376,7 +376,7 @@ pub fn read_head(types: u32, ws: &[u32], at: usize) -> HeadRead
 }
 
 // A rule: its head, pattern, parts and replacement.
-fn read_rule(types: u32, ws: &[u32], at: usize) -> Check
+pub fn read_rule(types: u32, ws: &[u32], at: usize) -> Check
     requires { ⌜ 1 ≤ types ⌝ }
     ensures { λ r. ⌜ r ≡ answer (Layout.rule types (now (ws .entry)) at) ⌝ }
 {

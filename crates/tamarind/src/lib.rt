@@ -3,6 +3,7 @@ use words::Check;
 ghost use mathlib.Core.Path.{_≡_};
 ghost use Rattle.grammar.specs.Grammar.{checkGrammar};
 ghost use Rattle.tree.specs.Reading.{checkTree};
+ghost use Rattle.rules.specs.Typing.{checkRules};
 ghost use Rattle.tamarind.specs.Exports.{exported, exportedCheck};
 
 // A single check's answer: the number of the refusal and its position; 0 and 0 where nothing is refused.
@@ -43,5 +44,14 @@ pub extern "C" fn tamarind_check_tree(grammar: &[u32], tree: &[u32]) -> Answer
     ensures { λ r. ⌜ r ≡ exported (checkTree (now (grammar .entry)) (now (tree .entry))) ⌝ }
 {
     let c = tree::check_tree(grammar, tree);
+    export(c)
+}
+
+// The single check of a rule book, given its grammar.
+#[no_mangle]
+pub extern "C" fn tamarind_check_rules(grammar: &[u32], rules: &[u32]) -> Answer
+    ensures { λ r. ⌜ r ≡ exported (checkRules (now (grammar .entry)) (now (rules .entry))) ⌝ }
+{
+    let c = typing::check_rules(grammar, rules);
     export(c)
 }

@@ -107,7 +107,7 @@ kind-dues (opt e) d v k h = go (eqb v 0)
 kind-dues (sequence e) d v k h = let z : _≡_ {A = ℕ} 0 1 = cc in absurd (omega arith)
 kind-dues (forms fs) d v k h = dues-level (suc k) (getD fs v [])
 
-children-dues : (g : Grammar) (d v k : ℕ) → isSequence g d ≡ false → duesOf (levels g d v k) (children g d v) ≡ level (suc k) (children g d v)
+pub children-dues : (g : Grammar) (d v k : ℕ) → isSequence g d ≡ false → duesOf (levels g d v k) (children g d v) ≡ level (suc k) (children g d v)
 unfolding isSequence levels children
 children-dues g d v k h = kind-dues (kindOf g d) d v k h
 
@@ -119,7 +119,7 @@ kind-some (opt e) d k h = let z : _≡_ {A = ℕ} 0 1 = cc in absurd (omega arit
 kind-some (sequence e) d k h = refl
 kind-some (forms fs) d k h = let z : _≡_ {A = ℕ} 0 1 = cc in absurd (omega arith)
 
-sequence-some : (g : Grammar) (d k : ℕ) → isSequence g d ≡ true → duesOf (levels g d 0 k) (children g d 0) ≡ tree (suc k) (getD (children g d 0) 0 0) ∷ tree k d ∷ []
+pub sequence-some : (g : Grammar) (d k : ℕ) → isSequence g d ≡ true → duesOf (levels g d 0 k) (children g d 0) ≡ tree (suc k) (getD (children g d 0) 0 0) ∷ tree k d ∷ []
 unfolding isSequence levels children
 sequence-some g d k h = kind-some (kindOf g d) d k h
 
@@ -130,7 +130,7 @@ kind-none (opt e) d v k h z = let z : _≡_ {A = ℕ} 0 1 = cc in absurd (omega 
 kind-none (sequence e) d v k h z = rw (ne-eqb v 0 z)
 kind-none (forms fs) d v k h z = let z : _≡_ {A = ℕ} 0 1 = cc in absurd (omega arith)
 
-sequence-none : (g : Grammar) (d v k : ℕ) → isSequence g d ≡ true → (v ≡ 0 → ⊥) → duesOf (levels g d v k) (children g d v) ≡ []
+pub sequence-none : (g : Grammar) (d v k : ℕ) → isSequence g d ≡ true → (v ≡ 0 → ⊥) → duesOf (levels g d v k) (children g d v) ≡ []
 unfolding isSequence levels children
 sequence-none g d v k h z = kind-none (kindOf g d) d v k h z
 

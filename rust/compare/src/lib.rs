@@ -11,7 +11,7 @@ pub type Answer = Result<(), (u32, usize)>;
 /// A single check, by both cores.
 type Check = (&'static str, fn(&Input) -> Answer, fn(&Input) -> Answer);
 
-const CHECKS: [Check; 2] = [
+const CHECKS: [Check; 3] = [
     (
         "grammar",
         |input| proved(tamarind::check_grammar(&input.grammar)),
@@ -21,6 +21,11 @@ const CHECKS: [Check; 2] = [
         "tree",
         |input| proved(tamarind::check_tree(&input.grammar, &input.tree)),
         |input| reference(reference::check_tree(&input.grammar, &input.tree)),
+    ),
+    (
+        "rules",
+        |input| proved(tamarind::check_rules(&input.grammar, &input.rules)),
+        |input| reference(reference::check_rules(&input.grammar, &input.rules)),
     ),
 ];
 

@@ -6,6 +6,20 @@ use std::time::Instant;
 
 use generate::Random;
 
+/// Rule books with their grammars, as bench inputs.
+const BOOKS: [(&str, &[u8]); 4] = [
+    ("the paper's", include_bytes!("../workloads/smallest.txt")),
+    ("8 rules", include_bytes!("../workloads/typical.txt")),
+    (
+        "27 calls nested",
+        include_bytes!("../workloads/call_heavy.txt"),
+    ),
+    (
+        "16,384 words, refused at the end",
+        include_bytes!("../workloads/refuse_book.txt"),
+    ),
+];
+
 fn main() {
     println!("| check | input | words | proved ns | reference ns | ratio |");
     println!("|---|---|---|---|---|---|");
@@ -23,6 +37,51 @@ fn main() {
         );
         print_row("tree", name, tree.len(), times);
     }
+    for (name, text) in BOOKS {
+        let input = reference::bench::parse(text).expect("a bench input");
+        let (grammar, rules) = (input.grammar, input.rules);
+        let times = times(
+            || {
+                _ = black_box(tamarind::check_rules(
+                    black_box(&grammar),
+                    black_box(&rules),
+                ))
+            },
+            || {
+                _ = black_box(reference::check_rules(
+                    black_box(&grammar),
+                    black_box(&rules),
+                ))
+            },
+        );
+        print_row("rules", name, rules.len(), times);
+    }
+    let grammar = numbers();
+    let mut proved = Vec::new();
+    for count in [4, 16] {
+        let rules = long_book(count);
+        assert_eq!(tamarind::check_rules(&grammar, &rules), Ok(()));
+        let times = times(
+            || {
+                _ = black_box(tamarind::check_rules(
+                    black_box(&grammar),
+                    black_box(&rules),
+                ))
+            },
+            || {
+                _ = black_box(reference::check_rules(
+                    black_box(&grammar),
+                    black_box(&rules),
+                ))
+            },
+        );
+        print_row("rules", &format!("{count} long rules"), rules.len(), times);
+        proved.push(times.0);
+    }
+    println!(
+        "\n16 long rules take {:.2} times as long as 4.",
+        proved[1] / proved[0]
+    );
 }
 
 fn print_row(check: &str, input: &str, words: usize, (proved, reference): (f64, f64)) {
@@ -61,10 +120,33 @@ fn median(mut times: Vec<f64>) -> f64 {
     times[times.len() / 2]
 }
 
+/// The paper's grammar: a program of a sequence of numbers.
+fn numbers() -> Vec<u32> {
+    vec![3, 8, 1, 1, 1, 4, 2, 1, 2]
+}
+
+/// So many rules of 990 words, each of which builds four sequences of 60 numbers.
+fn long_book(count: u32) -> Vec<u32> {
+    let mut built = vec![4, 1, 121];
+    for value in 0..60 {
+        built.extend([1, 0, 2, value]);
+    }
+    built.extend([1, 1]);
+    let mut rule = vec![13, 1, 2, 1, 64, 1, 4];
+    for _ in 0..4 {
+        rule.extend(&built);
+    }
+    rule.extend([1, 65, 0]);
+    let mut book = vec![count];
+    for _ in 0..count {
+        book.extend(&rule);
+    }
+    book
+}
+
 /// The paper's grammar, a chain of types each finished only by the next, and a
 /// large grammar with many forms.
 fn grammars() -> Vec<(&'static str, Vec<u32>)> {
-    let paper = vec![3, 8, 1, 1, 1, 4, 2, 1, 2];
     let mut chain = vec![64];
     for next in 1..64 {
         chain.extend([8, 1, 1, next]);
@@ -83,7 +165,7 @@ fn grammars() -> Vec<(&'static str, Vec<u32>)> {
     let mut refused = large.clone();
     *refused.last_mut().expect("it has words") = 4;
     vec![
-        ("the paper's", paper),
+        ("the paper's", numbers()),
         ("a chain of 64 types", chain),
         ("64 types of 8 forms", large),
         ("the same, refused at its last word", refused),
@@ -93,7 +175,6 @@ fn grammars() -> Vec<(&'static str, Vec<u32>)> {
 /// A grammar and a tree of it: small, a sequence of 1,023 elements, 1,535 nodes
 /// in forms of two children, and nesting 64.
 fn trees() -> Vec<(&'static str, Vec<u32>, Vec<u32>)> {
-    let numbers = vec![3, 8, 1, 1, 1, 4, 2, 1, 2];
     let small = vec![0, 0, 1, 0, 2, 200, 1, 0, 2, 500, 1, 1];
     let mut long = vec![0, 0];
     for value in 0..1_023 {
@@ -108,8 +189,8 @@ fn trees() -> Vec<(&'static str, Vec<u32>, Vec<u32>)> {
     let mut deep = vec![0; 128];
     deep[127] = 1;
     vec![
-        ("the paper's", numbers.clone(), small),
-        ("a sequence of 1,023 elements", numbers, long),
+        ("the paper's", numbers(), small),
+        ("a sequence of 1,023 elements", numbers(), long),
         ("a full tree of two children a node", pairs, full),
         ("nesting 64", opts, deep),
     ]

@@ -64,6 +64,15 @@ pub fn check_tree(grammar: &[u32], tree: &[u32]) -> Result<(), Refusal> {
     answer.into()
 }
 
+/// Checks a rule book against a grammar (refusals 4, 5, 10 to 12, 20 to 24).
+pub fn check_rules(grammar: &[u32], rules: &[u32]) -> Result<(), Refusal> {
+    // SAFETY: as above, both slices.
+    let answer = unsafe {
+        foreign::tamarind_check_rules(grammar.as_ptr(), grammar.len(), rules.as_ptr(), rules.len())
+    };
+    answer.into()
+}
+
 /// The exported functions. A Rattle slice is a pointer and then a length.
 mod foreign {
     use super::Refusal;
@@ -93,6 +102,12 @@ mod foreign {
             grammar_len: usize,
             tree: *const u32,
             tree_len: usize,
+        ) -> Answer;
+        pub fn tamarind_check_rules(
+            grammar: *const u32,
+            grammar_len: usize,
+            rules: *const u32,
+            rules_len: usize,
         ) -> Answer;
     }
 }

@@ -17,5 +17,9 @@ int main(void) {
     print(tamarind_check_tree(grammar, 9, tree, 12));
     print(tamarind_check_tree(grammar, 9, tree, 2));
     print(tamarind_check_tree(endless, 5, tree, 12));
+    const uint32_t rules[] = {1, 9, 2, 2, 1, 2, 200, 1, 2, 4200};
+    print(tamarind_check_rules(grammar, 9, rules, 10));
+    print(tamarind_check_rules(grammar, 9, rules, 9));
+    print(tamarind_check_rules(endless, 5, rules, 10));
     return 0;
 }

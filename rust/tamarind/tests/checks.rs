@@ -1,6 +1,6 @@
 //! The wrappers on the paper's examples.
 
-use tamarind::{check_grammar, check_tree, Refusal};
+use tamarind::{check_grammar, check_rules, check_tree, Refusal};
 
 const GRAMMAR: [u32; 9] = [3, 8, 1, 1, 1, 4, 2, 1, 2];
 
@@ -39,4 +39,16 @@ fn the_papers_tree_passes_and_its_first_node_alone_ends_early() {
         position: 2,
     };
     assert_eq!(check_tree(&GRAMMAR, &tree[..2]), Err(expected));
+}
+
+#[test]
+fn the_papers_rules_pass_and_a_form_for_the_number_is_refused() {
+    let mut rules = [1, 9, 2, 2, 1, 2, 200, 1, 2, 4200];
+    assert_eq!(check_rules(&GRAMMAR, &rules), Ok(()));
+    rules[8] = 1;
+    let expected = Refusal {
+        number: 23,
+        position: 8,
+    };
+    assert_eq!(check_rules(&GRAMMAR, &rules), Err(expected));
 }

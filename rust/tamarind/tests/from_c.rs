@@ -19,5 +19,8 @@ fn a_c_program_links_and_runs() {
     assert!(compiled.success());
     let output = Command::new(&program).output().expect("the program runs");
     let printed = String::from_utf8(output.stdout).expect("text");
-    assert_eq!(printed, "0 0\n10 8\n12 1\n0 0\n31 2\n12 1\n");
+    assert_eq!(
+        printed,
+        "0 0\n10 8\n12 1\n0 0\n31 2\n12 1\n0 0\n20 9\n12 1\n"
+    );
 }

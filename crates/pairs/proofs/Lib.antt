@@ -1,0 +1,5 @@
+pub mod Stack
+pub mod Pairs
+pub mod Loop
+pub mod Book
+pub mod Stretch

@@ -1,0 +1,166 @@
+-- `pairs::pairs_typed` meets its contract. The loop's invariant: the whole reading is that of the pairs left, from where the loop stands, against what the stack has due. Assumes nothing.
+use Prim.Native.Nat.{_+_, _-_, _*_, _≤_}
+use borrow.Author.Needs.{needs}
+use lib.ListN.{length}
+use mathlib.Core.List.{[], _∷_}
+use mathlib.Core.Path.{_≡_, refl}
+use native.Mathlib.Omega.{arith}
+use Rattle.grammar.specs.Grammar.{Grammar}
+use Rattle.grammar.specs.Tables.{Tables}
+use Rattle.rules.specs.Rules.{Rules}
+use Rattle.rules.specs.Typing.{meets}
+use Rattle.tree.specs.Dues.{whole}
+use Rattle.pairs.proofs.Loop.{rest, rest-all, loop-short, loop-fault, loop-next, loop-over, loop-whole}
+use Rattle.rules.proofs.Accept.{meets-steady}
+use Rattle.pairs.specs.Views.{placeAs, contextOf, dueOf, stackOf, Book}
+use Rattle.pairs.proofs.pairs_typed.Statement.{statement}
+use Rattle.pairs.proofs.pairs_typed.Tie as tie
+
+abbrev Inv-loop : tie.InvT-loop
+Inv-loop here heads rows types ws starts ps start a b st₀ sp₀ i₀ known₀ st sp i known = (length st ≡ 2048) × (2 * sp + 7 * (length ps - i) ≤ 1794) × (i ≤ length ps) × (known .n ≤ 16) × ((g : Grammar) → Tables g heads rows → (rules : Rules) → Book types ws starts rules → whole (meets g rules (placeAs here)) 23 ps (dueOf a b ∷ []) (contextOf known₀) start ≡ rest (meets g rules (placeAs here)) ps start i (stackOf st sp) (contextOf known))
+
+abbrev μ-loop : tie.MeasureT-loop
+μ-loop here heads rows types ws starts ps start a b st₀ sp₀ i₀ known₀ st sp i known = length ps - i
+
+push-requires : tie.Need-push-requires Inv-loop μ-loop
+push-requires c κs = (omega arith, c .before .before .before .before .pre .7)
+
+loop-holds : tie.Need-loop-holds Inv-loop μ-loop
+loop-holds c = (omega (arith, c .before .before .push .kept .0, c .before .before .before .before .before .before .before .pre .7), omega (arith, c .before .before .before .before .before .before .before .pre .4), omega arith, c .before .before .before .before .before .before .before .pre .6, λ g h rules b. rest-all (meets g rules (placeAs (c .before .before .before .before .before .before .before .args .here))) (c .before .before .before .before .before .before .before .args .ps .now) (c .before .before .before .before .before .before .before .args .start) (c .before .before .before .before .before .before .before .args .a) (c .before .before .before .before .before .before .before .args .b) (contextOf (c .before .before .before .before .before .before .before .args .ctx)) (c .before .before .before .before .before .before .before .args .st .now) _ (c .before .before .push .ensures))
+
+sub-if1 : tie.Need-sub-if1 Inv-loop μ-loop
+sub-if1 c = search needs
+
+add-t34 : tie.Need-add-t34 Inv-loop μ-loop
+add-t34 c = search needs
+
+same-length : tie.Need-same-length Inv-loop μ-loop
+same-length c = search needs
+
+returns : tie.Need-returns Inv-loop μ-loop
+returns c = λ g h rules b. loop-short (meets g rules (placeAs (c .before .before .before .before .before .before .before .before .before .before .args .here))) (c .before .before .before .before .before .before .before .before .before .before .args .ps .now) (c .before .before .before .before .before .before .before .before .before .before .args .start) (c .before .before .loop .i) (c .before .before .loop .sp) (c .before .before .loop .st) (c .before .before .loop .known) _ (c .before .before .loop .inv .4 g h rules b) (c .before .loop-test .taken) (c .before .before .loop .inv .2) (c .if1 .taken)
+
+mul-t : tie.Need-mul-t Inv-loop μ-loop
+mul-t c = search needs
+
+shared-slice-read-t : tie.Need-shared-slice-read-t Inv-loop μ-loop
+shared-slice-read-t c = search needs
+
+add-v : tie.Need-add-v Inv-loop μ-loop
+add-v c = search needs
+
+mul-v : tie.Need-mul-v Inv-loop μ-loop
+mul-v c = search needs
+
+shared-slice-read-v : tie.Need-shared-slice-read-v Inv-loop μ-loop
+shared-slice-read-v c = search needs
+
+sub-top : tie.Need-sub-top Inv-loop μ-loop
+sub-top c = search needs
+
+mul-c : tie.Need-mul-c Inv-loop μ-loop
+mul-c c = search needs
+
+mul-c-2 : tie.Need-mul-c-2 Inv-loop μ-loop
+mul-c-2 c = search needs
+
+slice-read-c : tie.Need-slice-read-c Inv-loop μ-loop
+slice-read-c c = search needs
+
+mul-d : tie.Need-mul-d Inv-loop μ-loop
+mul-d c = search needs
+
+add-d : tie.Need-add-d Inv-loop μ-loop
+add-d c = search needs
+
+mul-d-2 : tie.Need-mul-d-2 Inv-loop μ-loop
+mul-d-2 c = search needs
+
+slice-read-d : tie.Need-slice-read-d Inv-loop μ-loop
+slice-read-d c = search needs
+
+add-meet : tie.Need-add-meet Inv-loop μ-loop
+add-meet c = search needs
+
+meet-requires : tie.Need-meet-requires Inv-loop μ-loop
+meet-requires c κs = ((c .before .before .before .before .before .before .before .before .before .before .before .before .before .before .before .pre .0 .grammar, c .before .before .before .before .before .before .before .before .before .before .before .before .before .before .before .pre .0 .tables), c .before .before .before .before .before .before .before .before .before .before .before .before .before .before .before .pre .1, c .before .before .before .before .before .before .before .before .before .before .before .before .before .before .before .pre .2, c .before .before .before .before .before .before .before .before .before .before .before .before .before .before .before .pre .3, omega (arith, c .before .before .before .before .before .before .before .loop .inv .1, c .before .before .before .before .before .before .before .loop .inv .2, c .before .before .before .before .before .if1 .left, c .before .before .before .before .before .before .loop-test .taken), omega (arith, c .before .before .before .before .before .before .before .before .before .before .before .before .before .before .before .pre .5, c .before .before .before .before .before .before .before .before .before .before .before .before .before .before .before .pre .4, c .before .before .before .before .before .before .before .loop .inv .2), c .before .before .before .before .before .before .before .loop .inv .3, c .before .before .before .before .before .before .before .loop .inv .0)
+
+enum-known-check : tie.Need-enum-known-check Inv-loop μ-loop
+enum-known-check c = search needs
+
+same-length-2 : tie.Need-same-length-2 Inv-loop μ-loop
+same-length-2 c = search needs
+
+returns-2 : tie.Need-returns-2 Inv-loop μ-loop
+returns-2 c = λ g h rules b. loop-fault (meets g rules (placeAs (c .before .before .before .before .before .before .before .before .before .before .before .before .before .before .before .before .before .before .before .before .before .args .here))) (c .before .before .before .before .before .before .before .before .before .before .before .before .before .before .before .before .before .before .before .before .before .args .ps .now) (c .before .before .before .before .before .before .before .before .before .before .before .before .before .before .before .before .before .before .before .before .before .args .start) (c .before .before .before .before .before .before .before .before .before .before .before .before .before .loop .i) (c .before .before .before .before .before .before .before .before .before .before .before .before .before .loop .sp) (c .before .before .before .before .before .before .before .before .before .before .before .before .before .loop .st) (c .before .before .before .before .before .before .before .before .before .before .before .before .before .loop .known) _ (c .before .before .before .before .before .before .before .before .before .before .before .before .before .loop .inv .4 g h rules b) (c .before .before .before .before .before .before .before .before .before .before .before .before .loop-test .taken) _ _ refl refl (omega (arith, c .before .before .before .before .before .before .before .before .before .before .before .if1 .left, c .before .before .before .before .before .before .before .before .before .before .before .before .before .loop .inv .2)) (c .before .before .before .before .before .meet .result) _ (c .before .before .before .before .before .meet .ensures g h rules b) (c .before .check .given .1)
+
+enum-known-check-2 : tie.Need-enum-known-check-2 Inv-loop μ-loop
+enum-known-check-2 c = search needs
+
+add-i : tie.Need-add-i Inv-loop μ-loop
+add-i c = search needs
+
+loop-less : tie.Need-loop-less Inv-loop μ-loop
+loop-less c = search needs
+
+loop-again : tie.Need-loop-again Inv-loop μ-loop
+loop-again c = let u = loop-next (meets (c .before .before .before .before .before .before .before .before .before .before .before .before .before .before .before .before .before .before .before .before .before .before .pre .0 .grammar) (c .before .before .before .before .before .before .before .before .before .before .before .before .before .before .before .before .before .before .before .before .before .before .pre .0 .rules) (placeAs (c .before .before .before .before .before .before .before .before .before .before .before .before .before .before .before .before .before .before .before .before .before .before .args .here))) (c .before .before .before .before .before .before .before .before .before .before .before .before .before .before .before .before .before .before .before .before .before .before .args .ps .now) (c .before .before .before .before .before .before .before .before .before .before .before .before .before .before .before .before .before .before .before .before .before .before .args .start) (c .before .before .before .before .before .before .before .before .before .before .before .before .before .before .loop .i) (c .before .before .before .before .before .before .before .before .before .before .before .before .before .before .loop .sp) (c .before .before .before .before .before .before .before .before .before .before .before .before .before .before .loop .st) (c .before .before .before .before .before .before .before .before .before .before .before .before .before .before .loop .known) _ (c .before .before .before .before .before .before .before .before .before .before .before .before .before .before .loop .inv .4 (c .before .before .before .before .before .before .before .before .before .before .before .before .before .before .before .before .before .before .before .before .before .before .pre .0 .grammar) (c .before .before .before .before .before .before .before .before .before .before .before .before .before .before .before .before .before .before .before .before .before .before .pre .0 .tables) (c .before .before .before .before .before .before .before .before .before .before .before .before .before .before .before .before .before .before .before .before .before .before .pre .0 .rules) (c .before .before .before .before .before .before .before .before .before .before .before .before .before .before .before .before .before .before .before .before .before .before .pre .0 .book)) (c .before .before .before .before .before .before .before .before .before .before .before .before .before .loop-test .taken) _ _ refl refl (omega (arith, c .before .before .before .before .before .before .before .before .before .before .before .before .if1 .left, c .before .before .before .before .before .before .before .before .before .before .before .before .before .before .loop .inv .2)) (c .before .before .before .before .before .before .meet .result) _ (c .before .before .before .before .before .before .meet .ensures (c .before .before .before .before .before .before .before .before .before .before .before .before .before .before .before .before .before .before .before .before .before .before .pre .0 .grammar) (c .before .before .before .before .before .before .before .before .before .before .before .before .before .before .before .before .before .before .before .before .before .before .pre .0 .tables) (c .before .before .before .before .before .before .before .before .before .before .before .before .before .before .before .before .before .before .before .before .before .before .pre .0 .rules) (c .before .before .before .before .before .before .before .before .before .before .before .before .before .before .before .before .before .before .before .before .before .before .pre .0 .book)) (c .before .before .check2 .given .1) (meets-steady (c .before .before .before .before .before .before .before .before .before .before .before .before .before .before .before .before .before .before .before .before .before .before .pre .0 .grammar) (c .before .before .before .before .before .before .before .before .before .before .before .before .before .before .before .before .before .before .before .before .before .before .pre .0 .rules) (placeAs (c .before .before .before .before .before .before .before .before .before .before .before .before .before .before .before .before .before .before .before .before .before .before .args .here)) _ _ _ _) in (omega (arith, c .before .before .before .before .before .before .meet .kept .1 .1 .1 .1 .1 .1 .1 .1 .1 .1 .1 .1 .0, c .before .before .before .before .before .before .before .before .before .before .before .before .before .before .loop .inv .0), omega (arith, u .2, c .before .before .before .before .before .before .before .before .before .before .before .before .before .before .loop .inv .1, c .before .before .before .before .before .before .before .before .before .before .before .before .before .before .loop .inv .2, c .before .before .before .before .before .before .before .before .before .before .before .before .if1 .left, c .before .before .before .before .before .before .before .before .before .before .before .before .before .loop-test .taken), omega (arith, c .before .before .before .before .before .before .before .before .before .before .before .before .if1 .left, c .before .before .before .before .before .before .before .before .before .before .before .before .before .before .loop .inv .2), u .1, λ g h rules b. loop-next (meets g rules (placeAs (c .before .before .before .before .before .before .before .before .before .before .before .before .before .before .before .before .before .before .before .before .before .before .args .here))) (c .before .before .before .before .before .before .before .before .before .before .before .before .before .before .before .before .before .before .before .before .before .before .args .ps .now) (c .before .before .before .before .before .before .before .before .before .before .before .before .before .before .before .before .before .before .before .before .before .before .args .start) (c .before .before .before .before .before .before .before .before .before .before .before .before .before .before .loop .i) (c .before .before .before .before .before .before .before .before .before .before .before .before .before .before .loop .sp) (c .before .before .before .before .before .before .before .before .before .before .before .before .before .before .loop .st) (c .before .before .before .before .before .before .before .before .before .before .before .before .before .before .loop .known) _ (c .before .before .before .before .before .before .before .before .before .before .before .before .before .before .loop .inv .4 g h rules b) (c .before .before .before .before .before .before .before .before .before .before .before .before .before .loop-test .taken) _ _ refl refl (omega (arith, c .before .before .before .before .before .before .before .before .before .before .before .before .if1 .left, c .before .before .before .before .before .before .before .before .before .before .before .before .before .before .loop .inv .2)) (c .before .before .before .before .before .before .meet .result) _ (c .before .before .before .before .before .before .meet .ensures g h rules b) (c .before .before .check2 .given .1) (meets-steady g rules (placeAs (c .before .before .before .before .before .before .before .before .before .before .before .before .before .before .before .before .before .before .before .before .before .before .args .here)) _ _ _ _) .0)
+
+add-t47 : tie.Need-add-t47 Inv-loop μ-loop
+add-t47 c = search needs
+
+same-length-3 : tie.Need-same-length-3 Inv-loop μ-loop
+same-length-3 c = search needs
+
+returns-3 : tie.Need-returns-3 Inv-loop μ-loop
+returns-3 c = λ g h rules b. loop-over (meets g rules (placeAs (c .before .before .before .before .before .before .before .before .before .before .args .here))) (c .before .before .before .before .before .before .before .before .before .before .args .ps .now) (c .before .before .before .before .before .before .before .before .before .before .args .start) (c .before .before .loop .i) (c .before .before .loop .sp) (c .before .before .loop .st) (c .before .before .loop .known) _ (c .before .before .loop .inv .4 g h rules b) (c .before .loop-test .left) (c .if2 .taken)
+
+add-t45 : tie.Need-add-t45 Inv-loop μ-loop
+add-t45 c = search needs
+
+same-length-4 : tie.Need-same-length-4 Inv-loop μ-loop
+same-length-4 c = search needs
+
+returns-4 : tie.Need-returns-4 Inv-loop μ-loop
+returns-4 c = λ g h rules b. loop-whole (meets g rules (placeAs (c .before .before .before .before .before .before .before .before .before .before .args .here))) (c .before .before .before .before .before .before .before .before .before .before .args .ps .now) (c .before .before .before .before .before .before .before .before .before .before .args .start) (c .before .before .loop .i) (c .before .before .loop .sp) (c .before .before .loop .st) (c .before .before .loop .known) _ (c .before .before .loop .inv .4 g h rules b) (c .before .loop-test .left) (c .if2 .left) (c .before .before .loop .inv .3)
+
+pub pairs-typed-spec : {M : Type 1} → statement M
+pairs-typed-spec =
+    tie.close
+    (tie.spec
+    Inv-loop
+    μ-loop
+    push-requires
+    loop-holds
+    sub-if1
+    add-t34
+    same-length
+    returns
+    mul-t
+    shared-slice-read-t
+    add-v
+    mul-v
+    shared-slice-read-v
+    sub-top
+    mul-c
+    mul-c-2
+    slice-read-c
+    mul-d
+    add-d
+    mul-d-2
+    slice-read-d
+    add-meet
+    meet-requires
+    enum-known-check
+    same-length-2
+    returns-2
+    enum-known-check-2
+    add-i
+    loop-less
+    loop-again
+    add-t47
+    same-length-3
+    returns-3
+    add-t45
+    same-length-4
+    returns-4)

@@ -1,0 +1,163 @@
+-- What the code that reads pairs keeps and hands back, and how it sees the rules: through the positions at which they stand. Assumes nothing: these are
+-- definitions.
+use Prim.Native.Nat.{ℕ, zero, suc, _+_, _*_, _≤_, _<_}
+use mathlib.Core.Path.{_≡_}
+use mathlib.Core.List.{List, [], _∷_, _++_, map}
+use mathlib.Core.Bool.{Bool, true, false}
+use mathlib.Core.Option.{none}
+use lib.ListN.{length, getD, take}
+use lib.Dec.{leb, eqb}
+use Rattle.words.specs.Reader.{Words, pick, and, between, Read, value, refused, Reader, _>>=_, _>>_}
+use Rattle.words.specs.Views.{answer}
+use Rattle.grammar.specs.Grammar.{Grammar}
+use Rattle.grammar.specs.Kinds.{children}
+use Rattle.grammar.specs.Tables.{Rows, Tables}
+use Rattle.tree.specs.Tree.{levels}
+use Rattle.tree.specs.Dues.{Next, secondWord, leaves}
+use Rattle.tree.specs.Reading.{tree, duesOf}
+use Rattle.tree.specs.Views.{level}
+use Rattle.rules.specs.Rules.{Rule, Rules}
+use Rattle.rules.specs.Layout as Layout
+use Rattle.rules.specs.Layout.{bit}
+use Rattle.rules.specs.declared.Strategy.{Strategy}
+use Rattle.rules.specs.declared.Strategy.the-variants.{RootOnly, FirstMatch, Exhaustive}
+use Rattle.rules.specs.Typing as Typing
+use Rattle.rules.specs.Typing.{Due, aTree, aChain, applicationCount, application, argument, numberArgument, Context, inPattern, inReplacement, inCondition, noRule, isSome, appliesRule, fitsScope}
+use Rattle.pairs.specs.declared.Place.{Place}
+use Rattle.pairs.specs.declared.Place.the-variants.{Pattern, Replacement, Condition}
+use Rattle.pairs.specs.declared.Ctx.{Ctx}
+use Rattle.pairs.specs.declared.Met.{Met}
+use Rattle.pairs.specs.declared.Typed.{Typed}
+
+abbrev pub placeAs : Place → Typing.Place
+placeAs Pattern = inPattern
+placeAs Replacement = inReplacement
+placeAs Condition = inCondition
+
+-- the types of the variables that are there
+abbrev pub contextOf : Ctx → Context
+contextOf c = take (c .n) (c .types)
+
+-- THE STACK
+
+-- a due, by its two words on the stack
+unfoldable pub dueOf : ℕ → ℕ → Due
+dueOf a b =
+    pick (leb a 65) (aTree (tree a b)) (pick (eqb a 100) aChain (pick (eqb a 101) (applicationCount b) (pick (eqb a 102) (application b) (pick (eqb a 103) (argument b) numberArgument))))
+
+-- the stack's dues; the top is the last
+unfoldable pub stackOf : Words → ℕ → List Due
+stackOf st zero = []
+stackOf st (suc k) = dueOf (getD st (2 * k) 0) (getD st (2 * k + 1) 0) ∷ stackOf st k
+
+-- the dues stand on top of what the stack held before
+pub record Pushed (st : Words) (sp : ℕ) (st′ : Words) (sp′ : ℕ) (ds : List Due) : Type 0 where
+  pub stack : stackOf st′ sp′ ≡ ds ++ stackOf st sp
+  pub size : sp′ ≡ length ds + sp
+
+-- children of these types, all at one nesting
+abbrev pub childrenDue : ℕ → List ℕ → List Due
+childrenDue nesting ts = map aTree (level nesting ts)
+
+-- what a node makes due
+abbrev pub nodeDue : Grammar → ℕ → ℕ → ℕ → List Due
+nodeDue g d v nesting = map aTree (duesOf (levels g d v nesting) (children g d v))
+
+-- k words from the position on; past the end they are 0
+unfoldable pub wordsAt : Words → ℕ → ℕ → Words
+wordsAt ws at zero = []
+wordsAt ws at (suc k) = getD ws at 0 ∷ wordsAt ws (at + 1) k
+
+-- the tables of children are those of a grammar
+abbrev pub AreRows : Words → Type 0
+AreRows rows = (g : Grammar) × Rows g rows
+
+-- WHAT A PAIR, AND WHAT PAIRS LEAVE
+
+-- what is known of what was read, if nothing was refused
+abbrev pub IfRead : {A : Type 0} → (A → Type 0) → Read A → Type 0
+IfRead P (value a next) = P a
+IfRead P (refused n p) = Unit {0}
+
+-- what a pair leaves that is in order
+pub record Left (m : Met) (st : Words) (sp : ℕ) (st′ : Words) (s : Next Due Context) : Type 0 where
+  pub known : contextOf (m .ctx) ≡ s .known
+  pub few : m .ctx .n ≤ 16
+  pub pushed : Pushed st sp st′ (m .sp) (s .dues)
+  pub most : m .sp ≤ sp + 8
+
+-- the pair's answer is that of the reading, and so is what it leaves
+pub record Meets (m : Met) (st : Words) (sp : ℕ) (st′ : Words) (q : Read (Next Due Context)) : Type 0 where
+  pub check : m .check ≡ answer q
+  pub left : IfRead (Left m st sp st′) q
+
+-- what a pair leaves that makes nothing due
+pub record Kept (m : Met) (sp : ℕ) (s : Next Due Context) : Type 0 where
+  pub known : contextOf (m .ctx) ≡ s .known
+  pub few : m .ctx .n ≤ 16
+  pub none : s .dues ≡ []
+  pub same : m .sp ≡ sp
+
+pub record Stays (m : Met) (sp : ℕ) (q : Read (Next Due Context)) : Type 0 where
+  pub check : m .check ≡ answer q
+  pub left : IfRead (Kept m sp) q
+
+-- what pairs leave that are in order
+pub record Knows (r : Typed) (Γ : Context) : Type 0 where
+  pub known : contextOf (r .ctx) ≡ Γ
+  pub few : r .ctx .n ≤ 16
+
+pub record TypedAs (r : Typed) (q : Read Context) : Type 0 where
+  pub check : r .check ≡ answer q
+  pub left : IfRead (Knows r) q
+
+-- THE RULES THAT ARE APPLIED
+
+-- the head that stands at the position is the rule's
+pub record Headed (types : ℕ) (ws : Words) (at : ℕ) (r : Rule) : Type 0 where
+  pub head : Layout.Head
+  pub next : ℕ
+  pub read : Layout.head types ws at ≡ value head next
+  pub target : r .target ≡ head .target
+  pub strategy : r .strategy ≡ head .strategy
+  pub parameters : r .parameters ≡ head .parameters
+  pub replaces : isSome (r .replacement) ≡ bit 3 (head .map)
+
+-- the rules of the book's words, by the positions of their heads
+pub record Book (types : ℕ) (ws starts : Words) (rules : Rules) : Type 0 where
+  pub count : length rules ≡ getD ws 0 0
+  pub heads : (a : ℕ) → a < length rules → Headed types ws (getD starts a 0) (getD rules a noRule)
+
+-- the tables of a grammar of so many types, and the positions of a book's rules
+pub record Given (types : ℕ) (heads rows ws starts : Words) : Type 0 where
+  pub grammar : Grammar
+  pub tables : Tables grammar heads rows
+  pub types-are : length grammar ≡ types
+  pub rules : Rules
+  pub book : Book types ws starts rules
+  pub few : getD ws 0 0 ≤ 64
+
+abbrev pub searchesAs : Strategy → Bool
+searchesAs RootOnly = false
+searchesAs FirstMatch = true
+searchesAs Exhaustive = true
+
+-- is a rule with this map applied here?
+abbrev pub appliesMap : Typing.Place → ℕ → Bool
+appliesMap inPattern m = false
+appliesMap inReplacement m = bit 3 m
+appliesMap inCondition m = true
+
+-- may the rule be applied here, to a scope of type s?
+abbrev pub ruleUsable : Typing.Place → Rule → ℕ → Bool
+ruleUsable here r s = and (appliesRule here r) (fitsScope r s)
+
+-- what is due after an operation
+abbrev pub operationDue : ℕ → List Due
+operationDue a = pick (between 1004 1005 a) [] (numberArgument ∷ [])
+
+-- an application's second word, where these arguments are due
+unfoldable pub argumentsCounted : List Due → Context → ℕ → Reader (Next Due Context)
+argumentsCounted ds Γ v = do
+  secondWord (eqb v (length ds)) 22
+  leaves Γ ds

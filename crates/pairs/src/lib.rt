@@ -1,0 +1,900 @@
+// The pairs of a pattern, a replacement or a condition, read against a stack of what is due (22 to 24, each with its position), in one loop.
+//
+// The grammar is seen through its tables, and a rule that is applied through the table of the positions at which the rules stand.
+use grammar::limits::HEADS;
+use grammar::limits::ROWS;
+use grammar::tables;
+use limits::DUE_APPLICATION;
+use limits::DUE_ARGUMENT;
+use limits::DUE_CHAIN;
+use limits::DUE_COUNT;
+use limits::DUE_NUMBER;
+use limits::FIRST_BARE;
+use limits::FIRST_OPERATION;
+use limits::FIRST_TEST;
+use limits::LAST_OPERATION;
+use limits::LAST_TEST;
+use limits::LAST_TREE;
+use limits::MARK_CHAIN;
+use limits::MARK_NEW;
+use limits::MARK_VARIABLE;
+use limits::MOST_APPLICATIONS;
+use limits::MOST_NESTING;
+use limits::MOST_RULES;
+use limits::MOST_VARIABLES;
+use limits::STACK;
+use rules::HeadRead;
+use rules::Strategy;
+use words::Check;
+ghost use mathlib.Core.Path.{_≡_};
+ghost use mathlib.Core.Bool.{true};
+ghost use mathlib.Core.List.{[], _∷_, _++_, map};
+ghost use Prim.Native.Nat.{_+_, _<_, _≤_, _^_};
+ghost use lib.ListN.{length, getD, replicate};
+ghost use lib.Dec.{eqb};
+ghost use Rattle.words.specs.Reader as Reader;
+ghost use Rattle.words.specs.Reader.{accepted, or};
+ghost use Rattle.words.specs.Views.{answer};
+ghost use Rattle.grammar.specs.Grammar.{Grammar};
+ghost use Rattle.grammar.specs.Kinds.{children};
+ghost use Rattle.grammar.specs.Tables.{InHeads, InRows};
+ghost use Rattle.tree.specs.Dues.{whole};
+ghost use Rattle.tree.specs.Reading.{tree};
+ghost use Rattle.tree.specs.Views.{InTables, AreTables};
+ghost use Rattle.rules.specs.Layout as Layout;
+ghost use Rattle.rules.specs.Rules.{Rule, Rules};
+ghost use Rattle.rules.specs.Typing as Typing;
+ghost use Rattle.pairs.specs.Views.{placeAs, contextOf, dueOf, Pushed, childrenDue, nodeDue, wordsAt, AreRows, Meets, Stays, TypedAs, Headed, Book, Given, searchesAs, appliesMap, ruleUsable, operationDue, argumentsCounted};
+
+pub mod limits;
+
+// Where pairs stand.
+pub enum Place {
+    Pattern,
+    Replacement,
+    Condition,
+}
+
+// The types of the n variables that are there.
+pub struct Ctx {
+    pub types: [u32; MOST_VARIABLES],
+    pub n: usize,
+}
+
+// What one pair leaves: what was found, the stack's height and the variables.
+pub struct Met {
+    pub check: Check,
+    pub sp: usize,
+    pub ctx: Ctx,
+}
+
+// What a pattern, a replacement, a condition or a part leaves: what was found, and the variables.
+pub struct Typed {
+    pub check: Check,
+    pub ctx: Ctx,
+}
+
+// THE VARIABLES
+
+// The type of variable v; 0 if it is not there.
+pub fn type_of(ctx: Ctx, v: u32) -> u32
+    requires { ⌜ ctx .n ≤ 16 ⌝ }
+    ensures { λ r. ⌜ r ≡ getD (contextOf ctx) v 0 ⌝ }
+{
+    let x = words::wide(v);
+    let n = ctx.n;
+    if n <= x {
+        return 0;
+    }
+    let types = ctx.types;
+    types[x]
+}
+
+// Is variable v there?
+fn there(ctx: Ctx, v: u32, at: usize) -> Check
+    requires { ⌜ (ctx .n ≤ 16) × (at < 2 ^ 40) ⌝ }
+    ensures { λ r. ⌜ r ≡ answer (Typing.there (contextOf ctx) v at) ⌝ }
+{
+    let x = words::wide(v);
+    let n = ctx.n;
+    if n <= x {
+        return Check::Refused(22, at + 1);
+    }
+    Check::Passed(at)
+}
+
+// Is variable v there, and of type d?
+fn of_type(ctx: Ctx, v: u32, d: u32, at: usize) -> Check
+    requires { ⌜ (ctx .n ≤ 16) × (at < 2 ^ 40) ⌝ }
+    ensures { λ r. ⌜ r ≡ answer (Typing.ofType (contextOf ctx) v d at) ⌝ }
+{
+    let c = there(ctx, v, at);
+    match c {
+        Check::Refused(no, p) => Check::Refused(no, p),
+        Check::Passed(p) => {
+            let t = type_of(ctx, v);
+            if t != d {
+                return Check::Refused(23, at + 1);
+            }
+            Check::Passed(p)
+        }
+    }
+}
+
+// One variable more, of type d.
+pub fn extended(ctx: Ctx, d: u32) -> Ctx
+    requires { ⌜ ctx .n < 16 ⌝ }
+    ensures { λ r. ⌜ (contextOf r ≡ contextOf ctx ++ d ∷ []) × (r .n ≤ 16) ⌝ }
+{
+    let n = ctx.n;
+    let mut types = ctx.types;
+    types[n] = d;
+    Ctx { types, n: n + 1 }
+}
+
+// THE STACK OF DUES
+
+// Puts a due on the stack.
+fn push(st: &mut [u32], sp: usize, a: u32, b: u32)
+    requires { ⌜ (sp < 1000) × (length (now st) ≡ 2048) ⌝ }
+    ensures { λ _. ⌜ Pushed (now (st .entry)) sp (now (st .exit)) (sp + 1) (dueOf a b ∷ []) ⌝ }
+{
+    let i = 2 * sp;
+    st[i] = a;
+    st[i + 1] = b;
+}
+
+// Puts the children of a node (t, v) on the stack, all at one nesting, the first on top.
+fn push_level(rows: &[u8; ROWS], t: u32, v: u32, nesting: u32, st: &mut [u32], from: usize) -> usize
+    requires { ⌜ AreRows (now rows) × (nesting ≤ 65) × (from < 900) × (length (now st) ≡ 2048) ⌝ }
+    ensures { λ r. ⌜ InRows (now (rows .entry)) (λ g. Pushed (now (st .entry)) from (now (st .exit)) r (childrenDue nesting (children g t v))) ⌝ }
+{
+    let mut i = tables::child_count(rows, t, v);
+    let mut sp = from;
+    while 0 < i {
+        i = i - 1;
+        let e = tables::child(rows, t, v, i);
+        push(st, sp, nesting, e);
+        sp = sp + 1;
+    }
+    sp
+}
+
+// Puts what a node of type d with the value v makes due on the stack: the rest of a sequence stands on its parent's nesting.
+fn push_children(
+    heads: &[u32; HEADS],
+    rows: &[u8; ROWS],
+    d: u32,
+    v: u32,
+    nesting: u32,
+    st: &mut [u32],
+    sp: usize,
+) -> usize
+    requires { ⌜ AreTables (now heads) (now rows) × (nesting ≤ 64) × (sp < 890) × (length (now st) ≡ 2048) ⌝ }
+    ensures { λ r. ⌜ InTables (now (heads .entry)) (now (rows .entry)) (λ g. Pushed (now (st .entry)) sp (now (st .exit)) r (nodeDue g d v nesting)) ⌝ }
+{
+    let b = tables::is_sequence(heads, d);
+    if !b {
+        return push_level(rows, d, v, nesting + 1, st, sp);
+    }
+    if v != 0 {
+        return sp;
+    }
+    let e = tables::child(rows, d, 0, 0);
+    push(st, sp, nesting, d);
+    push(st, sp + 1, nesting + 1, e);
+    sp + 2
+}
+
+// Puts k applications to a scope of type s on the stack.
+fn push_applications(k: u32, s: u32, st: &mut [u32], from: usize) -> usize
+    requires { ⌜ (k ≤ 4) × (from < 900) × (length (now st) ≡ 2048) ⌝ }
+    ensures { λ r. ⌜ Pushed (now (st .entry)) from (now (st .exit)) r (replicate k (Typing.application s)) ⌝ }
+{
+    let mut left = k;
+    let mut sp = from;
+    while 0 < left {
+        left = left - 1;
+        push(st, sp, DUE_APPLICATION, s);
+        sp = sp + 1;
+    }
+    sp
+}
+
+// Puts arguments on the stack, of the k types that stand from `first` on.
+fn push_arguments(ws: &[u32], first: usize, k: u32, st: &mut [u32], from: usize) -> usize
+    requires { ⌜ (k ≤ 4) × (first < 2 ^ 40) × (from < 900) × (length (now st) ≡ 2048) ⌝ }
+    ensures { λ r. ⌜ Pushed (now (st .entry)) from (now (st .exit)) r (map Typing.argument (wordsAt (now (ws .entry)) first k)) ⌝ }
+{
+    let mut left = k;
+    let mut sp = from;
+    while 0 < left {
+        left = left - 1;
+        let e = words::word(ws, first + words::wide(left));
+        push(st, sp, DUE_ARGUMENT, e);
+        sp = sp + 1;
+    }
+    sp
+}
+
+// A PAIR WHERE A TREE IS DUE
+
+// Is the word one of the three?
+fn one_of(t: u32, a: u32, b: u32, c: u32) -> bool
+    ensures { λ r. ⌜ r ≡ or (eqb t a) (or (eqb t b) (eqb t c)) ⌝ }
+{
+    if t == a {
+        return true;
+    }
+    if t == b {
+        return true;
+    }
+    t == c
+}
+
+// May the first word t stand where a tree of type d is due?
+fn may_stand(here: Place, d: u32, t: u32) -> bool
+    ensures { λ r. ⌜ r ≡ Typing.mayStand (placeAs here) d t ⌝ }
+{
+    match here {
+        Place::Pattern => one_of(t, d, MARK_NEW, MARK_VARIABLE),
+        Place::Replacement => one_of(t, d, MARK_VARIABLE, MARK_CHAIN),
+        Place::Condition => false,
+    }
+}
+
+// A node (d, v).
+fn meet_node(
+    heads: &[u32; HEADS],
+    rows: &[u8; ROWS],
+    nesting: u32,
+    d: u32,
+    v: u32,
+    ctx: Ctx,
+    at: usize,
+    st: &mut [u32],
+    sp: usize,
+) -> Met
+    requires { ⌜ AreTables (now heads) (now rows) × (nesting ≤ 64) × (sp < 890) × (at < 2 ^ 40) × (ctx .n ≤ 16) × (length (now st) ≡ 2048) ⌝ }
+    ensures { λ r. ⌜ InTables (now (heads .entry)) (now (rows .entry)) (λ g. Meets r (now (st .entry)) sp (now (st .exit)) (Typing.node g nesting d (contextOf ctx) v at)) ⌝ }
+{
+    let ok = tables::is_allowed(heads, d, v);
+    if !ok {
+        return Met {
+            check: Check::Refused(23, at + 1),
+            sp,
+            ctx,
+        };
+    }
+    let top = push_children(heads, rows, d, v, nesting, st, sp);
+    Met {
+        check: Check::Passed(at + 2),
+        sp: top,
+        ctx,
+    }
+}
+
+// A new variable (64, v).
+fn meet_new(d: u32, v: u32, ctx: Ctx, at: usize, sp: usize) -> Met
+    requires { ⌜ (at < 2 ^ 40) × (ctx .n ≤ 16) ⌝ }
+    ensures { λ r. ⌜ Stays r sp (Typing.newVariable d (contextOf ctx) v at) ⌝ }
+{
+    if v != d {
+        return Met {
+            check: Check::Refused(23, at + 1),
+            sp,
+            ctx,
+        };
+    }
+    let n = ctx.n;
+    if MOST_VARIABLES <= n {
+        return Met {
+            check: Check::Refused(24, at + 1),
+            sp,
+            ctx,
+        };
+    }
+    let next = extended(ctx, d);
+    Met {
+        check: Check::Passed(at + 2),
+        sp,
+        ctx: next,
+    }
+}
+
+// A variable (65, v).
+fn meet_variable(d: u32, v: u32, ctx: Ctx, at: usize, sp: usize) -> Met
+    requires { ⌜ (at < 2 ^ 40) × (ctx .n ≤ 16) ⌝ }
+    ensures { λ r. ⌜ Stays r sp (Typing.variable d (contextOf ctx) v at) ⌝ }
+{
+    let c = of_type(ctx, v, d, at);
+    match c {
+        Check::Refused(no, p) => Met {
+            check: Check::Refused(no, p),
+            sp,
+            ctx,
+        },
+        Check::Passed(p) => Met {
+            check: Check::Passed(at + 2),
+            sp,
+            ctx,
+        },
+    }
+}
+
+// A chain (66, v) in a replacement.
+fn meet_chain(d: u32, v: u32, ctx: Ctx, at: usize, st: &mut [u32], sp: usize) -> Met
+    requires { ⌜ (sp < 890) × (at < 2 ^ 40) × (ctx .n ≤ 16) × (length (now st) ≡ 2048) ⌝ }
+    ensures { λ r. ⌜ Meets r (now (st .entry)) sp (now (st .exit)) (Typing.chain d (contextOf ctx) v at) ⌝ }
+{
+    let c = of_type(ctx, v, d, at);
+    match c {
+        Check::Refused(no, p) => Met {
+            check: Check::Refused(no, p),
+            sp,
+            ctx,
+        },
+        Check::Passed(p) => {
+            push(st, sp, DUE_COUNT, d);
+            Met {
+                check: Check::Passed(at + 2),
+                sp: sp + 1,
+                ctx,
+            }
+        }
+    }
+}
+
+// A pair (t, v) where a tree of type d is due at a nesting.
+fn meet_tree(
+    here: Place,
+    heads: &[u32; HEADS],
+    rows: &[u8; ROWS],
+    nesting: u32,
+    d: u32,
+    t: u32,
+    v: u32,
+    ctx: Ctx,
+    at: usize,
+    st: &mut [u32],
+    sp: usize,
+) -> Met
+    requires { ⌜ AreTables (now heads) (now rows) × (sp < 890) × (at < 2 ^ 40) × (ctx .n ≤ 16) × (length (now st) ≡ 2048) ⌝ }
+    ensures { λ r. ⌜ InTables (now (heads .entry)) (now (rows .entry)) (λ g. (rules : Rules) → Meets r (now (st .entry)) sp (now (st .exit)) (Typing.meets g rules (placeAs here) (Typing.aTree (tree nesting d)) (contextOf ctx) t v at)) ⌝ }
+{
+    let ok = may_stand(here, d, t);
+    if !ok {
+        return Met {
+            check: Check::Refused(23, at),
+            sp,
+            ctx,
+        };
+    }
+    if MOST_NESTING < nesting {
+        return Met {
+            check: Check::Refused(24, at),
+            sp,
+            ctx,
+        };
+    }
+    if t == d {
+        return meet_node(heads, rows, nesting, d, v, ctx, at, st, sp);
+    }
+    if t == MARK_NEW {
+        return meet_new(d, v, ctx, at, sp);
+    }
+    if t == MARK_VARIABLE {
+        return meet_variable(d, v, ctx, at, sp);
+    }
+    meet_chain(d, v, ctx, at, st, sp)
+}
+
+// THE PAIRS OF A CHAIN
+
+// The first pair of a condition's chain.
+fn meet_start(t: u32, v: u32, ctx: Ctx, at: usize, st: &mut [u32], sp: usize) -> Met
+    requires { ⌜ (sp < 890) × (at < 2 ^ 40) × (ctx .n ≤ 16) × (length (now st) ≡ 2048) ⌝ }
+    ensures { λ r. ⌜ ((g : Grammar) (rules : Rules) (here : Typing.Place) → Meets r (now (st .entry)) sp (now (st .exit)) (Typing.meets g rules here Typing.aChain (contextOf ctx) t v at)) ⌝ }
+{
+    if t != MARK_CHAIN {
+        return Met {
+            check: Check::Refused(23, at),
+            sp,
+            ctx,
+        };
+    }
+    let c = there(ctx, v, at);
+    match c {
+        Check::Refused(no, p) => Met {
+            check: Check::Refused(no, p),
+            sp,
+            ctx,
+        },
+        Check::Passed(p) => {
+            let s = type_of(ctx, v);
+            push(st, sp, DUE_COUNT, s);
+            Met {
+                check: Check::Passed(at + 2),
+                sp: sp + 1,
+                ctx,
+            }
+        }
+    }
+}
+
+// A chain's count of applications, (K, 0).
+fn meet_count(s: u32, t: u32, v: u32, ctx: Ctx, at: usize, st: &mut [u32], sp: usize) -> Met
+    requires { ⌜ (sp < 890) × (at < 2 ^ 40) × (ctx .n ≤ 16) × (length (now st) ≡ 2048) ⌝ }
+    ensures { λ r. ⌜ ((g : Grammar) (rules : Rules) (here : Typing.Place) → Meets r (now (st .entry)) sp (now (st .exit)) (Typing.meets g rules here (Typing.applicationCount s) (contextOf ctx) t v at)) ⌝ }
+{
+    if t < 1 {
+        return Met {
+            check: Check::Refused(23, at),
+            sp,
+            ctx,
+        };
+    }
+    if MOST_APPLICATIONS < t {
+        return Met {
+            check: Check::Refused(23, at),
+            sp,
+            ctx,
+        };
+    }
+    if v != 0 {
+        return Met {
+            check: Check::Refused(23, at + 1),
+            sp,
+            ctx,
+        };
+    }
+    let top = push_applications(t, s, st, sp);
+    Met {
+        check: Check::Passed(at + 2),
+        sp: top,
+        ctx,
+    }
+}
+
+// An argument of type d.
+fn meet_argument(d: u32, t: u32, v: u32, ctx: Ctx, at: usize, sp: usize) -> Met
+    requires { ⌜ (at < 2 ^ 40) × (ctx .n ≤ 16) ⌝ }
+    ensures { λ r. ⌜ ((g : Grammar) (rules : Rules) (here : Typing.Place) → Stays r sp (Typing.meets g rules here (Typing.argument d) (contextOf ctx) t v at)) ⌝ }
+{
+    if t != MARK_VARIABLE {
+        return Met {
+            check: Check::Refused(23, at),
+            sp,
+            ctx,
+        };
+    }
+    meet_variable(d, v, ctx, at, sp)
+}
+
+// An argument that is a number token.
+fn meet_number(heads: &[u32; HEADS], t: u32, v: u32, ctx: Ctx, at: usize, sp: usize) -> Met
+    requires { ⌜ (at < 2 ^ 40) × (ctx .n ≤ 16) ⌝ }
+    ensures { λ r. ⌜ InHeads (now (heads .entry)) (λ g. (rules : Rules) (here : Typing.Place) → Stays r sp (Typing.meets g rules here Typing.numberArgument (contextOf ctx) t v at)) ⌝ }
+{
+    if t != MARK_VARIABLE {
+        return Met {
+            check: Check::Refused(23, at),
+            sp,
+            ctx,
+        };
+    }
+    let c = there(ctx, v, at);
+    match c {
+        Check::Refused(no, p) => Met {
+            check: Check::Refused(no, p),
+            sp,
+            ctx,
+        },
+        Check::Passed(p) => {
+            let s = type_of(ctx, v);
+            let ok = tables::is_number(heads, s);
+            if !ok {
+                return Met {
+                    check: Check::Refused(23, at + 1),
+                    sp,
+                    ctx,
+                };
+            }
+            Met {
+                check: Check::Passed(at + 2),
+                sp,
+                ctx,
+            }
+        }
+    }
+}
+
+// WHAT IS APPLIED
+
+// Where rule a stands.
+pub fn start_of(starts: &[usize; MOST_RULES], a: u32) -> usize
+    requires { ⌜ a < 64 ⌝ }
+    ensures { λ r. ⌜ r ≡ getD (now (starts .entry)) a 0 ⌝ }
+{
+    let i = words::wide(a);
+    starts[i]
+}
+
+// Is a rule with this map applied here? In a replacement it needs one itself.
+fn applies_rule(here: Place, map: u32) -> bool
+    ensures { λ r. ⌜ r ≡ appliesMap (placeAs here) map ⌝ }
+{
+    match here {
+        Place::Pattern => false,
+        Place::Replacement => map / 8 % 2 == 1,
+        Place::Condition => true,
+    }
+}
+
+// Is the word from low to high?
+fn between(low: u32, high: u32, w: u32) -> bool
+    ensures { λ r. ⌜ r ≡ Reader.between low high w ⌝ }
+{
+    if w < low {
+        return false;
+    }
+    w <= high
+}
+
+// Is the operation applied here?
+fn applies_operation(here: Place, o: u32) -> bool
+    ensures { λ r. ⌜ r ≡ Typing.appliesOperation (placeAs here) o ⌝ }
+{
+    match here {
+        Place::Pattern => false,
+        Place::Replacement => between(FIRST_OPERATION, LAST_OPERATION, o),
+        Place::Condition => between(FIRST_TEST, LAST_TEST, o),
+    }
+}
+
+// May a rule be applied to a scope of type s? Without a reach only where that is its target.
+pub fn fits_scope(strategy: Strategy, target: u32, s: u32) -> bool
+    ensures { λ r. ⌜ r ≡ or (searchesAs strategy) (eqb target s) ⌝ }
+{
+    match strategy {
+        Strategy::RootOnly => target == s,
+        Strategy::FirstMatch => true,
+        Strategy::Exhaustive => true,
+    }
+}
+
+// May rule a be applied here, to a scope of type s?
+fn rule_usable(
+    here: Place,
+    types: u32,
+    ws: &[u32],
+    starts: &[usize; MOST_RULES],
+    s: u32,
+    a: u32,
+) -> bool
+    requires { ⌜ (1 ≤ types) × (a < 64) ⌝ }
+    ensures { λ r. ⌜ ((rule : Rule) → Headed types (now (ws .entry)) (getD (now (starts .entry)) a 0) rule → r ≡ ruleUsable (placeAs here) rule s) ⌝ }
+{
+    let at = start_of(starts, a);
+    let h = rules::read_head(types, ws, at);
+    match h {
+        HeadRead::NoHead(no, p) => false,
+        HeadRead::Header(head) => {
+            let b = applies_rule(here, head.map);
+            if !b {
+                return false;
+            }
+            let strategy = head.strategy;
+            fits_scope(strategy, head.target, s)
+        }
+    }
+}
+
+// May the rule or operation a be applied here, to a scope of type s?
+fn usable(
+    here: Place,
+    heads: &[u32; HEADS],
+    types: u32,
+    ws: &[u32],
+    starts: &[usize; MOST_RULES],
+    s: u32,
+    a: u32,
+) -> bool
+    requires { ⌜ (1 ≤ types) × (getD (now ws) 0 0 ≤ 64) ⌝ }
+    ensures { λ r. ⌜ InHeads (now (heads .entry)) (λ g. (rules : Rules) → Book types (now (ws .entry)) (now (starts .entry)) rules → r ≡ Typing.usable g rules (placeAs here) s a) ⌝ }
+{
+    let n = words::word(ws, 0);
+    if a < n {
+        return rule_usable(here, types, ws, starts, s, a);
+    }
+    let b = applies_operation(here, a);
+    if !b {
+        return false;
+    }
+    tables::is_number(heads, s)
+}
+
+// The pair of a rule that is usable: its count of arguments, and what they are.
+fn meet_rule(
+    types: u32,
+    ws: &[u32],
+    starts: &[usize; MOST_RULES],
+    t: u32,
+    v: u32,
+    ctx: Ctx,
+    at: usize,
+    st: &mut [u32],
+    sp: usize,
+) -> Met
+    requires { ⌜ (1 ≤ types) × (t < 64) × (length (now ws) < 2 ^ 32) × (sp < 890) × (at < 2 ^ 40) × (ctx .n ≤ 16) × (length (now st) ≡ 2048) ⌝ }
+    ensures { λ r. ⌜ ((rule : Rule) → Headed types (now (ws .entry)) (getD (now (starts .entry)) t 0) rule → Meets r (now (st .entry)) sp (now (st .exit)) (argumentsCounted (map Typing.argument (rule .parameters)) (contextOf ctx) v at)) ⌝ }
+{
+    let start = start_of(starts, t);
+    let h = rules::read_head(types, ws, start);
+    match h {
+        HeadRead::NoHead(no, p) => Met {
+            check: Check::Refused(no, p),
+            sp,
+            ctx,
+        },
+        HeadRead::Header(head) => {
+            if v != head.count {
+                return Met {
+                    check: Check::Refused(22, at + 1),
+                    sp,
+                    ctx,
+                };
+            }
+            let top = push_arguments(ws, head.parameters, head.count, st, sp);
+            Met {
+                check: Check::Passed(at + 2),
+                sp: top,
+                ctx,
+            }
+        }
+    }
+}
+
+// The pair of an operation that is usable.
+fn meet_operation(t: u32, v: u32, ctx: Ctx, at: usize, st: &mut [u32], sp: usize) -> Met
+    requires { ⌜ (sp < 890) × (at < 2 ^ 40) × (ctx .n ≤ 16) × (length (now st) ≡ 2048) ⌝ }
+    ensures { λ r. ⌜ Meets r (now (st .entry)) sp (now (st .exit)) (argumentsCounted (operationDue t) (contextOf ctx) v at) ⌝ }
+{
+    let bare = between(FIRST_BARE, LAST_OPERATION, t);
+    if bare {
+        if v != 0 {
+            return Met {
+                check: Check::Refused(22, at + 1),
+                sp,
+                ctx,
+            };
+        }
+        return Met {
+            check: Check::Passed(at + 2),
+            sp,
+            ctx,
+        };
+    }
+    if v != 1 {
+        return Met {
+            check: Check::Refused(22, at + 1),
+            sp,
+            ctx,
+        };
+    }
+    push(st, sp, DUE_NUMBER, 0);
+    Met {
+        check: Check::Passed(at + 2),
+        sp: sp + 1,
+        ctx,
+    }
+}
+
+// An application of t, with v arguments, to a scope of type s.
+fn meet_application(
+    here: Place,
+    heads: &[u32; HEADS],
+    types: u32,
+    ws: &[u32],
+    starts: &[usize; MOST_RULES],
+    s: u32,
+    t: u32,
+    v: u32,
+    ctx: Ctx,
+    at: usize,
+    st: &mut [u32],
+    sp: usize,
+) -> Met
+    requires { ⌜ (1 ≤ types) × (getD (now ws) 0 0 ≤ 64) × (length (now ws) < 2 ^ 32) × (sp < 890) × (at < 2 ^ 40) × (ctx .n ≤ 16) × (length (now st) ≡ 2048) ⌝ }
+    ensures { λ r. ⌜ InHeads (now (heads .entry)) (λ g. (rules : Rules) → Book types (now (ws .entry)) (now (starts .entry)) rules → Meets r (now (st .entry)) sp (now (st .exit)) (Typing.meets g rules (placeAs here) (Typing.application s) (contextOf ctx) t v at)) ⌝ }
+{
+    let ok = usable(here, heads, types, ws, starts, s, t);
+    if !ok {
+        return Met {
+            check: Check::Refused(22, at),
+            sp,
+            ctx,
+        };
+    }
+    let n = words::word(ws, 0);
+    if t < n {
+        return meet_rule(types, ws, starts, t, v, ctx, at, st, sp);
+    }
+    meet_operation(t, v, ctx, at, st, sp)
+}
+
+// ALL THE PAIRS
+
+// A pair (t, v) where the due (a, b) of the stack is to be met, which is no tree's.
+fn meet_link(
+    here: Place,
+    heads: &[u32; HEADS],
+    types: u32,
+    ws: &[u32],
+    starts: &[usize; MOST_RULES],
+    a: u32,
+    b: u32,
+    t: u32,
+    v: u32,
+    ctx: Ctx,
+    at: usize,
+    st: &mut [u32],
+    sp: usize,
+) -> Met
+    requires { ⌜ (1 ≤ types) × (getD (now ws) 0 0 ≤ 64) × (length (now ws) < 2 ^ 32) × (65 < a) × (sp < 890) × (at < 2 ^ 40) × (ctx .n ≤ 16) × (length (now st) ≡ 2048) ⌝ }
+    ensures { λ r. ⌜ InHeads (now (heads .entry)) (λ g. (rules : Rules) → Book types (now (ws .entry)) (now (starts .entry)) rules → Meets r (now (st .entry)) sp (now (st .exit)) (Typing.meets g rules (placeAs here) (dueOf a b) (contextOf ctx) t v at)) ⌝ }
+{
+    if a == DUE_CHAIN {
+        return meet_start(t, v, ctx, at, st, sp);
+    }
+    if a == DUE_COUNT {
+        return meet_count(b, t, v, ctx, at, st, sp);
+    }
+    if a == DUE_APPLICATION {
+        return meet_application(here, heads, types, ws, starts, b, t, v, ctx, at, st, sp);
+    }
+    if a == DUE_ARGUMENT {
+        return meet_argument(b, t, v, ctx, at, sp);
+    }
+    meet_number(heads, t, v, ctx, at, sp)
+}
+
+// A pair (t, v) where the due (a, b) of the stack is to be met.
+fn meet(
+    here: Place,
+    heads: &[u32; HEADS],
+    rows: &[u8; ROWS],
+    types: u32,
+    ws: &[u32],
+    starts: &[usize; MOST_RULES],
+    a: u32,
+    b: u32,
+    t: u32,
+    v: u32,
+    ctx: Ctx,
+    at: usize,
+    st: &mut [u32],
+    sp: usize,
+) -> Met
+    requires { ⌜ AreTables (now heads) (now rows) × (1 ≤ types) × (getD (now ws) 0 0 ≤ 64) × (length (now ws) < 2 ^ 32) × (sp < 890) × (at < 2 ^ 40) × (ctx .n ≤ 16) × (length (now st) ≡ 2048) ⌝ }
+    ensures { λ r. ⌜ InTables (now (heads .entry)) (now (rows .entry)) (λ g. (rules : Rules) → Book types (now (ws .entry)) (now (starts .entry)) rules → Meets r (now (st .entry)) sp (now (st .exit)) (Typing.meets g rules (placeAs here) (dueOf a b) (contextOf ctx) t v at)) ⌝ }
+{
+    if a <= LAST_TREE {
+        return meet_tree(here, heads, rows, a, b, t, v, ctx, at, st, sp);
+    }
+    meet_link(here, heads, types, ws, starts, a, b, t, v, ctx, at, st, sp)
+}
+
+// The pairs ps, which begin at `start`, against the due (a, b): one loop over the stack of what is due.
+fn pairs_typed(
+    here: Place,
+    heads: &[u32; HEADS],
+    rows: &[u8; ROWS],
+    types: u32,
+    ws: &[u32],
+    starts: &[usize; MOST_RULES],
+    ps: &[u32],
+    start: usize,
+    a: u32,
+    b: u32,
+    ctx: Ctx,
+    st: &mut [u32],
+) -> Typed
+    requires { ⌜ Given types (now heads) (now rows) (now ws) (now starts) × (1 ≤ types) × (getD (now ws) 0 0 ≤ 64) × (length (now ws) < 2 ^ 32) × (length (now ps) ≤ 256) × (start < 2 ^ 33) × (ctx .n ≤ 16) × (length (now st) ≡ 2048) ⌝ }
+    ensures { λ r. ⌜ InTables (now (heads .entry)) (now (rows .entry)) (λ g. (rules : Rules) → Book types (now (ws .entry)) (now (starts .entry)) rules → TypedAs r (whole (Typing.meets g rules (placeAs here)) 23 (now (ps .entry)) (dueOf a b ∷ []) (contextOf ctx) start)) ⌝ }
+{
+    push(st, 0, a, b);
+    let mut sp: usize = 1;
+    let mut i: usize = 0;
+    let mut known = ctx;
+    while 0 < sp {
+        if ps.len() - i < 2 {
+            return Typed {
+                check: Check::Refused(23, start + ps.len()),
+                ctx: known,
+            };
+        }
+        let t = ps[i];
+        let v = ps[i + 1];
+        let top = sp - 1;
+        let c = st[2 * top];
+        let d = st[2 * top + 1];
+        let m = meet(
+            here,
+            heads,
+            rows,
+            types,
+            ws,
+            starts,
+            c,
+            d,
+            t,
+            v,
+            known,
+            start + i,
+            st,
+            top,
+        );
+        let check = m.check;
+        match check {
+            Check::Refused(no, p) => {
+                return Typed {
+                    check: Check::Refused(no, p),
+                    ctx: known,
+                };
+            }
+            Check::Passed(p) => {
+                sp = m.sp;
+                let next = m.ctx;
+                known = next;
+                i = i + 2;
+            }
+        }
+    }
+    if i < ps.len() {
+        return Typed {
+            check: Check::Refused(23, start + i),
+            ctx: known,
+        };
+    }
+    Typed {
+        check: Check::Passed(start + i),
+        ctx: known,
+    }
+}
+
+// The pairs whose count stands at a position, against the due (a, b).
+pub fn stretch_typed(
+    here: Place,
+    heads: &[u32; HEADS],
+    rows: &[u8; ROWS],
+    types: u32,
+    ws: &[u32],
+    starts: &[usize; MOST_RULES],
+    a: u32,
+    b: u32,
+    ctx: Ctx,
+    at: usize,
+    st: &mut [u32],
+) -> Typed
+    requires { ⌜ Given types (now heads) (now rows) (now ws) (now starts) × (1 ≤ types) × (getD (now ws) 0 0 ≤ 64) × (length (now ws) < 2 ^ 32) × (accepted (Layout.pairs (now ws) at) ≡ true) × (ctx .n ≤ 16) × (length (now st) ≡ 2048) ⌝ }
+    ensures { λ r. ⌜ InTables (now (heads .entry)) (now (rows .entry)) (λ g. (rules : Rules) → Book types (now (ws .entry)) (now (starts .entry)) rules → TypedAs r (Typing.typed g rules (now (ws .entry)) (placeAs here) (dueOf a b) (contextOf ctx) at)) ⌝ }
+{
+    let k = words::word(ws, at);
+    let start = at + 1;
+    let end = start + 2 * words::wide(k);
+    pairs_typed(
+        here,
+        heads,
+        rows,
+        types,
+        ws,
+        starts,
+        &ws[start..end],
+        start,
+        a,
+        b,
+        ctx,
+        st,
+    )
+}

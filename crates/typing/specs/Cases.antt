@@ -1,0 +1,186 @@
+-- Rule books with what their single check finds, by the readings T1 to T18 of document 01's words: one table, one proof. Assumes nothing.
+use Prim.Native.Nat.{ℕ, zero, suc}
+use mathlib.Core.Path.{_≡_, refl}
+use mathlib.Core.List.{List, [], _∷_, _++_}
+use Rattle.words.specs.Reader.{Words, word, wordIn, many, end}
+use Rattle.words.specs.Views.{answer}
+use Rattle.words.specs.declared.Check.{Check}
+use Rattle.words.specs.declared.Check.the-variants.{Passed, Refused}
+use Rattle.grammar.specs.Grammar.{typesOf, field as grammarField, element, form, kind, grammar, all, any, finishes, round, rounds, finite, finiteRecords, readGrammar, grammarFits}
+use Rattle.grammar.specs.Kinds.{kindOf, allows, allowed, childrenOf, children, isNumberKind, isNumber}
+use Rattle.tree.specs.Tree.{levelsOf, levels}
+use Rattle.tree.specs.Dues.{pairs as pairsRead, whole}
+use Rattle.tree.specs.Reading.{duesOf}
+use Rattle.rules.specs.Rules.{operations, applied, shapes, arguments, applications, pairsIn, argumentsWritten, applicationsWritten, chainWritten, unreadable, chainOf, conditionOf, piecesAfter, pieces}
+use Rattle.rules.specs.Layout.{strategyOf, stretch, field, pairs, variableAt, deconstructFields, conditionFields, partOf, reach, replacement, mainFits, mainBits, typeField, searchFields, constructFields, partAt, part, parameters, headFields, head, parts, rule, layout, readLayout, rulesFit}
+use Rattle.rules.specs.Typing.{mayStand, isSome, appliesRule, appliesOperation, fitsScope, usable, argumentsDue, newVariable, variable, chain, node, meets, typed, variableThere, partTyped, partsTyped, ruleTyped, mainTarget, rulesTyped, readRules, checkRules}
+
+-- program of repeat number: the root, the sequence, the number
+numbers : Words
+numbers = 3 ∷ 8 ∷ 1 ∷ 1 ∷ 1 ∷ 4 ∷ 2 ∷ 1 ∷ 2 ∷ []
+
+-- a form with a literal before its one type, an opt of the root: it nests
+nests : Words
+nests = 2 ∷ 8 ∷ 1 ∷ 2 ∷ 65536 ∷ 1 ∷ 2 ∷ 0 ∷ []
+
+-- two of one number type; two number types
+twos : Words
+twos = 2 ∷ 8 ∷ 1 ∷ 2 ∷ 1 ∷ 1 ∷ 1 ∷ 2 ∷ []
+
+sums : Words
+sums = 3 ∷ 8 ∷ 1 ∷ 2 ∷ 1 ∷ 2 ∷ 1 ∷ 2 ∷ 1 ∷ 2 ∷ []
+
+-- a root of two nodes of eight numbers
+leaves : Words
+leaves = 3 ∷ 8 ∷ 1 ∷ 2 ∷ 1 ∷ 1 ∷ 8 ∷ 1 ∷ 8 ∷ 2 ∷ 2 ∷ 2 ∷ 2 ∷ 2 ∷ 2 ∷ 2 ∷ 2 ∷ 1 ∷ 2 ∷ []
+
+-- n times the words, then the others
+times : ℕ → Words → Words → Words
+times zero a b = b
+times (suc n) a b = a ++ times n a b
+
+-- 2 n nodes of `nests`, one in the other
+deep : ℕ → Words → Words
+deep n b = times n (0 ∷ 0 ∷ 1 ∷ 0 ∷ []) b
+
+-- a main rule, then a condition whose pattern has this leaf and 15 new variables, up to the count of its parts
+withLeaf : Words → Words
+withLeaf a = 2 ∷ 8 ∷ 0 ∷ 1 ∷ 64 ∷ 0 ∷ 1 ∷ 65 ∷ 0 ∷ 4 ∷ 0 ∷ 19 ∷ 0 ∷ 0 ∷ 1 ∷ 0 ∷ (a ++ times 7 (64 ∷ 2 ∷ []) (1 ∷ 0 ∷ times 8 (64 ∷ 2 ∷ []) []))
+
+sixteen : Words
+sixteen = withLeaf (64 ∷ 2 ∷ [])
+
+fifteen : Words
+fifteen = withLeaf (2 ∷ 5 ∷ [])
+
+-- a grammar's words, a book's, and the answer
+data Case : Type 0 where
+  case : Words → Words → Check → Case
+
+table : List Case
+table =
+    -- "Book 1 9 2 2 1 2 200 1 2 4200"; "replacement 1 1: refused 23 at 8"
+    case numbers (1 ∷ 9 ∷ 2 ∷ 2 ∷ 1 ∷ 2 ∷ 200 ∷ 1 ∷ 2 ∷ 4200 ∷ []) (Passed 10)
+    ∷ case numbers (1 ∷ 9 ∷ 2 ∷ 2 ∷ 1 ∷ 2 ∷ 200 ∷ 1 ∷ 1 ∷ 1 ∷ []) (Refused 23 8)
+    -- the grammar's refusals, then the layout's, come first
+    ∷ case (1 ∷ 8 ∷ 1 ∷ 1 ∷ 0 ∷ []) (1 ∷ 9 ∷ 2 ∷ 2 ∷ 1 ∷ 99 ∷ 99 ∷ 0 ∷ []) (Refused 12 1)
+    ∷ case (3 ∷ 8 ∷ 1 ∷ 1 ∷ 1 ∷ 4 ∷ 2 ∷ 1 ∷ []) (1 ∷ 9 ∷ 2 ∷ 2 ∷ 1 ∷ 2 ∷ 200 ∷ 1 ∷ 2 ∷ 4200 ∷ []) (Refused 10 8)
+    ∷ case numbers (1 ∷ 9 ∷ 2 ∷ 2 ∷ 1 ∷ 99 ∷ 99 ∷ 0 ∷ []) (Refused 21 7)
+    ∷ case numbers [] (Refused 20 0)
+    -- T1: the main rule without reach has type 0, before its pattern; other rules may have any target
+    ∷ case numbers (1 ∷ 8 ∷ 0 ∷ 1 ∷ 64 ∷ 0 ∷ 1 ∷ 65 ∷ 0 ∷ []) (Passed 9)
+    ∷ case numbers (1 ∷ 8 ∷ 2 ∷ 1 ∷ 64 ∷ 2 ∷ 1 ∷ 65 ∷ 0 ∷ []) (Refused 23 2)
+    ∷ case numbers (1 ∷ 8 ∷ 2 ∷ 1 ∷ 64 ∷ 9 ∷ 1 ∷ 65 ∷ 0 ∷ []) (Refused 23 2)
+    ∷ case numbers (2 ∷ 8 ∷ 0 ∷ 1 ∷ 64 ∷ 0 ∷ 1 ∷ 65 ∷ 0 ∷ 0 ∷ 2 ∷ 1 ∷ 64 ∷ 2 ∷ []) (Passed 14)
+    -- T2: every rule is typed, applied or not
+    ∷ case numbers (2 ∷ 8 ∷ 0 ∷ 1 ∷ 64 ∷ 0 ∷ 1 ∷ 65 ∷ 0 ∷ 0 ∷ 2 ∷ 1 ∷ 64 ∷ 1 ∷ []) (Refused 23 13)
+    -- T3: a first word that is no kind for its place; no type stands for another
+    ∷ case numbers (1 ∷ 9 ∷ 2 ∷ 2 ∷ 1 ∷ 2 ∷ 200 ∷ 1 ∷ 64 ∷ 2 ∷ []) (Refused 23 8)
+    ∷ case numbers (1 ∷ 9 ∷ 2 ∷ 2 ∷ 1 ∷ 66 ∷ 0 ∷ 1 ∷ 2 ∷ 4200 ∷ []) (Refused 23 5)
+    ∷ case numbers (1 ∷ 9 ∷ 2 ∷ 2 ∷ 1 ∷ 67 ∷ 0 ∷ 1 ∷ 2 ∷ 4200 ∷ []) (Refused 23 5)
+    ∷ case numbers (1 ∷ 9 ∷ 2 ∷ 2 ∷ 1 ∷ 3 ∷ 0 ∷ 1 ∷ 2 ∷ 4200 ∷ []) (Refused 23 5)
+    ∷ case numbers (1 ∷ 9 ∷ 2 ∷ 2 ∷ 1 ∷ 1 ∷ 1 ∷ 1 ∷ 2 ∷ 4200 ∷ []) (Refused 23 5)
+    ∷ case numbers (1 ∷ 9 ∷ 1 ∷ 2 ∷ 1 ∷ 2 ∷ 200 ∷ 1 ∷ 1 ∷ 1 ∷ []) (Refused 23 5)
+    -- T4: a new variable's type
+    ∷ case numbers (1 ∷ 9 ∷ 2 ∷ 2 ∷ 1 ∷ 64 ∷ 2 ∷ 1 ∷ 2 ∷ 4200 ∷ []) (Passed 10)
+    ∷ case numbers (1 ∷ 9 ∷ 2 ∷ 2 ∷ 1 ∷ 64 ∷ 1 ∷ 1 ∷ 2 ∷ 4200 ∷ []) (Refused 23 6)
+    ∷ case numbers (1 ∷ 9 ∷ 2 ∷ 2 ∷ 1 ∷ 64 ∷ 9 ∷ 1 ∷ 2 ∷ 4200 ∷ []) (Refused 23 6)
+    -- T5: 22 where the variable is not there, 23 where its type is not due; a new variable of another type and the 17th: 23
+    ∷ case numbers (1 ∷ 9 ∷ 2 ∷ 2 ∷ 1 ∷ 64 ∷ 2 ∷ 1 ∷ 65 ∷ 0 ∷ []) (Passed 10)
+    ∷ case numbers (1 ∷ 9 ∷ 2 ∷ 2 ∷ 1 ∷ 64 ∷ 2 ∷ 1 ∷ 65 ∷ 1 ∷ []) (Refused 22 9)
+    ∷ case numbers (1 ∷ 12 ∷ 0 ∷ 1 ∷ 64 ∷ 0 ∷ 1 ∷ 4 ∷ 2 ∷ 1 ∷ 65 ∷ 0 ∷ 1 ∷ 65 ∷ 0 ∷ []) (Refused 23 11)
+    ∷ case numbers (1 ∷ 12 ∷ 0 ∷ 1 ∷ 64 ∷ 0 ∷ 1 ∷ 4 ∷ 2 ∷ 1 ∷ 65 ∷ 4 ∷ 1 ∷ 65 ∷ 0 ∷ []) (Refused 22 11)
+    ∷ case leaves (sixteen ++ 1 ∷ 1 ∷ 0 ∷ 1 ∷ 64 ∷ 1 ∷ []) (Refused 23 55)
+    -- the 17th variable; T6: a 17th that is built is refused at the part's map, before its own words, but after pairs short at that word
+    ∷ case leaves (sixteen ++ 1 ∷ 1 ∷ 0 ∷ 1 ∷ 65 ∷ 0 ∷ []) (Passed 56)
+    ∷ case leaves (sixteen ++ 1 ∷ 1 ∷ 0 ∷ 1 ∷ 64 ∷ 2 ∷ []) (Refused 24 55)
+    ∷ case leaves (sixteen ++ 1 ∷ 4 ∷ 2 ∷ 1 ∷ 2 ∷ 7 ∷ []) (Refused 24 51)
+    ∷ case leaves (sixteen ++ 1 ∷ 4 ∷ 2 ∷ 1 ∷ 9 ∷ 9 ∷ []) (Refused 24 51)
+    ∷ case leaves (sixteen ++ 2 ∷ 3 ∷ 1 ∷ 0 ∷ 1 ∷ 1 ∷ 0 ∷ 4 ∷ 2 ∷ 1 ∷ 2 ∷ 7 ∷ []) (Refused 23 57)
+    ∷ case leaves (fifteen ++ 1 ∷ 4 ∷ 2 ∷ 1 ∷ 2 ∷ 7 ∷ []) (Passed 56)
+    ∷ case leaves (fifteen ++ 2 ∷ 4 ∷ 2 ∷ 1 ∷ 2 ∷ 7 ∷ 4 ∷ 2 ∷ 1 ∷ 2 ∷ 7 ∷ []) (Refused 24 56)
+    -- T7: nesting 64; a variable at 65; another kind at 65; pairs short at 65
+    ∷ case nests (1 ∷ 8 ∷ 0 ∷ 64 ∷ deep 31 (0 ∷ 0 ∷ 64 ∷ 1 ∷ 2 ∷ 0 ∷ 0 ∷ 65 ∷ 0 ∷ [])) (Passed 137)
+    ∷ case nests (1 ∷ 8 ∷ 0 ∷ 65 ∷ deep 32 (64 ∷ 0 ∷ 1 ∷ 65 ∷ 0 ∷ [])) (Refused 24 132)
+    ∷ case nests (1 ∷ 8 ∷ 0 ∷ 65 ∷ deep 32 (0 ∷ 0 ∷ 1 ∷ 65 ∷ 0 ∷ [])) (Refused 24 132)
+    ∷ case nests (1 ∷ 8 ∷ 0 ∷ 65 ∷ deep 32 (1 ∷ 0 ∷ 1 ∷ 65 ∷ 0 ∷ [])) (Refused 23 132)
+    ∷ case nests (1 ∷ 8 ∷ 0 ∷ 64 ∷ deep 32 (1 ∷ 65 ∷ 0 ∷ [])) (Refused 23 132)
+    -- T8: K is 1 to 4 and stands before a 0
+    ∷ case numbers (1 ∷ 8 ∷ 0 ∷ 1 ∷ 64 ∷ 0 ∷ 3 ∷ 66 ∷ 0 ∷ 1 ∷ 0 ∷ 0 ∷ 0 ∷ []) (Passed 13)
+    ∷ case numbers (1 ∷ 8 ∷ 0 ∷ 1 ∷ 64 ∷ 0 ∷ 6 ∷ 66 ∷ 0 ∷ 4 ∷ 0 ∷ 0 ∷ 0 ∷ 0 ∷ 0 ∷ 0 ∷ 0 ∷ 0 ∷ 0 ∷ []) (Passed 19)
+    ∷ case numbers (1 ∷ 8 ∷ 0 ∷ 1 ∷ 64 ∷ 0 ∷ 3 ∷ 66 ∷ 0 ∷ 0 ∷ 0 ∷ 0 ∷ 0 ∷ []) (Refused 23 9)
+    ∷ case numbers (1 ∷ 8 ∷ 0 ∷ 1 ∷ 64 ∷ 0 ∷ 7 ∷ 66 ∷ 0 ∷ 5 ∷ 0 ∷ 0 ∷ 0 ∷ 0 ∷ 0 ∷ 0 ∷ 0 ∷ 0 ∷ 0 ∷ 0 ∷ 0 ∷ []) (Refused 23 9)
+    ∷ case numbers (1 ∷ 8 ∷ 0 ∷ 1 ∷ 64 ∷ 0 ∷ 3 ∷ 66 ∷ 0 ∷ 1 ∷ 1 ∷ 0 ∷ 0 ∷ []) (Refused 23 10)
+    -- T9: a rule or operation that is not there, or not usable here or on its scope
+    ∷ case numbers (1 ∷ 8 ∷ 0 ∷ 1 ∷ 64 ∷ 0 ∷ 3 ∷ 66 ∷ 0 ∷ 1 ∷ 0 ∷ 1 ∷ 0 ∷ []) (Refused 22 11)
+    ∷ case numbers (1 ∷ 8 ∷ 0 ∷ 1 ∷ 64 ∷ 0 ∷ 3 ∷ 66 ∷ 0 ∷ 1 ∷ 0 ∷ 999 ∷ 0 ∷ []) (Refused 22 11)
+    ∷ case numbers (2 ∷ 8 ∷ 0 ∷ 1 ∷ 64 ∷ 0 ∷ 3 ∷ 66 ∷ 0 ∷ 1 ∷ 0 ∷ 1 ∷ 0 ∷ 0 ∷ 0 ∷ 1 ∷ 64 ∷ 0 ∷ []) (Refused 22 11)
+    ∷ case numbers (2 ∷ 8 ∷ 0 ∷ 1 ∷ 64 ∷ 0 ∷ 3 ∷ 66 ∷ 0 ∷ 1 ∷ 0 ∷ 1 ∷ 0 ∷ 8 ∷ 0 ∷ 1 ∷ 64 ∷ 0 ∷ 1 ∷ 65 ∷ 0 ∷ []) (Passed 21)
+    ∷ case numbers (2 ∷ 8 ∷ 0 ∷ 1 ∷ 64 ∷ 0 ∷ 3 ∷ 66 ∷ 0 ∷ 1 ∷ 0 ∷ 1 ∷ 0 ∷ 8 ∷ 2 ∷ 1 ∷ 64 ∷ 2 ∷ 1 ∷ 65 ∷ 0 ∷ []) (Refused 22 11)
+    ∷ case numbers (2 ∷ 8 ∷ 0 ∷ 1 ∷ 64 ∷ 0 ∷ 3 ∷ 66 ∷ 0 ∷ 1 ∷ 0 ∷ 1 ∷ 0 ∷ 9 ∷ 2 ∷ 1 ∷ 1 ∷ 64 ∷ 2 ∷ 1 ∷ 65 ∷ 0 ∷ []) (Passed 22)
+    ∷ case numbers (1 ∷ 9 ∷ 2 ∷ 2 ∷ 1 ∷ 64 ∷ 2 ∷ 4 ∷ 66 ∷ 0 ∷ 1 ∷ 0 ∷ 1000 ∷ 1 ∷ 65 ∷ 0 ∷ []) (Passed 16)
+    ∷ case numbers (1 ∷ 9 ∷ 2 ∷ 2 ∷ 1 ∷ 64 ∷ 2 ∷ 4 ∷ 66 ∷ 0 ∷ 1 ∷ 0 ∷ 1006 ∷ 1 ∷ 65 ∷ 0 ∷ []) (Refused 22 12)
+    ∷ case numbers (1 ∷ 9 ∷ 2 ∷ 2 ∷ 1 ∷ 64 ∷ 2 ∷ 4 ∷ 66 ∷ 0 ∷ 1 ∷ 0 ∷ 1008 ∷ 1 ∷ 65 ∷ 0 ∷ []) (Refused 22 12)
+    ∷ case numbers (1 ∷ 8 ∷ 0 ∷ 1 ∷ 64 ∷ 0 ∷ 4 ∷ 66 ∷ 0 ∷ 1 ∷ 0 ∷ 1000 ∷ 1 ∷ 65 ∷ 0 ∷ []) (Refused 22 11)
+    ∷ case numbers (1 ∷ 13 ∷ 2 ∷ 2 ∷ 1 ∷ 64 ∷ 2 ∷ 1 ∷ 8 ∷ 4 ∷ 66 ∷ 0 ∷ 1 ∷ 0 ∷ 1008 ∷ 1 ∷ 65 ∷ 0 ∷ 1 ∷ 65 ∷ 0 ∷ []) (Passed 21)
+    ∷ case numbers (1 ∷ 13 ∷ 2 ∷ 2 ∷ 1 ∷ 64 ∷ 2 ∷ 1 ∷ 24 ∷ 4 ∷ 66 ∷ 0 ∷ 1 ∷ 0 ∷ 1009 ∷ 1 ∷ 65 ∷ 0 ∷ 1 ∷ 65 ∷ 0 ∷ []) (Passed 21)
+    ∷ case numbers (1 ∷ 13 ∷ 2 ∷ 2 ∷ 1 ∷ 64 ∷ 2 ∷ 1 ∷ 8 ∷ 4 ∷ 66 ∷ 0 ∷ 1 ∷ 0 ∷ 1000 ∷ 1 ∷ 65 ∷ 0 ∷ 1 ∷ 65 ∷ 0 ∷ []) (Refused 22 14)
+    ∷ case numbers (1 ∷ 13 ∷ 2 ∷ 2 ∷ 1 ∷ 64 ∷ 2 ∷ 1 ∷ 8 ∷ 4 ∷ 66 ∷ 0 ∷ 1 ∷ 0 ∷ 1007 ∷ 1 ∷ 65 ∷ 0 ∷ 1 ∷ 65 ∷ 0 ∷ []) (Refused 22 14)
+    ∷ case numbers (2 ∷ 12 ∷ 0 ∷ 1 ∷ 64 ∷ 0 ∷ 1 ∷ 8 ∷ 3 ∷ 66 ∷ 0 ∷ 1 ∷ 0 ∷ 1 ∷ 0 ∷ 1 ∷ 65 ∷ 0 ∷ 0 ∷ 0 ∷ 1 ∷ 64 ∷ 0 ∷ []) (Passed 23)
+    ∷ case numbers (2 ∷ 12 ∷ 0 ∷ 1 ∷ 64 ∷ 0 ∷ 1 ∷ 8 ∷ 3 ∷ 66 ∷ 0 ∷ 1 ∷ 0 ∷ 1 ∷ 0 ∷ 1 ∷ 65 ∷ 0 ∷ 0 ∷ 2 ∷ 1 ∷ 64 ∷ 2 ∷ []) (Refused 22 13)
+    -- T10: the argument count, before the arguments
+    ∷ case numbers (1 ∷ 9 ∷ 2 ∷ 2 ∷ 1 ∷ 64 ∷ 2 ∷ 3 ∷ 66 ∷ 0 ∷ 1 ∷ 0 ∷ 1005 ∷ 0 ∷ []) (Passed 14)
+    ∷ case numbers (1 ∷ 9 ∷ 2 ∷ 2 ∷ 1 ∷ 64 ∷ 2 ∷ 4 ∷ 66 ∷ 0 ∷ 1 ∷ 0 ∷ 1004 ∷ 1 ∷ 65 ∷ 0 ∷ []) (Refused 22 13)
+    ∷ case numbers (1 ∷ 9 ∷ 2 ∷ 2 ∷ 1 ∷ 64 ∷ 2 ∷ 3 ∷ 66 ∷ 0 ∷ 1 ∷ 0 ∷ 1000 ∷ 0 ∷ []) (Refused 22 13)
+    ∷ case numbers (1 ∷ 9 ∷ 2 ∷ 2 ∷ 1 ∷ 64 ∷ 2 ∷ 4 ∷ 66 ∷ 0 ∷ 1 ∷ 0 ∷ 1000 ∷ 2 ∷ 9 ∷ 9 ∷ []) (Refused 22 13)
+    -- T11: an argument's first word, its variable, its type: a parameter's very type, or for an operation a number token
+    ∷ case numbers (1 ∷ 9 ∷ 2 ∷ 2 ∷ 1 ∷ 64 ∷ 2 ∷ 4 ∷ 66 ∷ 0 ∷ 1 ∷ 0 ∷ 1000 ∷ 1 ∷ 2 ∷ 0 ∷ []) (Refused 23 14)
+    ∷ case numbers (1 ∷ 9 ∷ 2 ∷ 2 ∷ 1 ∷ 64 ∷ 2 ∷ 4 ∷ 66 ∷ 0 ∷ 1 ∷ 0 ∷ 1000 ∷ 1 ∷ 65 ∷ 1 ∷ []) (Refused 22 15)
+    ∷ case numbers (1 ∷ 12 ∷ 0 ∷ 1 ∷ 64 ∷ 0 ∷ 2 ∷ 4 ∷ 2 ∷ 1 ∷ 2 ∷ 100 ∷ 4 ∷ 2 ∷ 4 ∷ 66 ∷ 1 ∷ 1 ∷ 0 ∷ 1000 ∷ 1 ∷ 65 ∷ 1 ∷ 1 ∷ 65 ∷ 0 ∷ []) (Passed 26)
+    ∷ case numbers (1 ∷ 12 ∷ 0 ∷ 1 ∷ 64 ∷ 0 ∷ 2 ∷ 4 ∷ 2 ∷ 1 ∷ 2 ∷ 100 ∷ 4 ∷ 2 ∷ 4 ∷ 66 ∷ 1 ∷ 1 ∷ 0 ∷ 1000 ∷ 1 ∷ 65 ∷ 0 ∷ 1 ∷ 65 ∷ 0 ∷ []) (Refused 23 22)
+    ∷ case numbers (2 ∷ 8 ∷ 0 ∷ 1 ∷ 64 ∷ 0 ∷ 4 ∷ 66 ∷ 0 ∷ 1 ∷ 0 ∷ 1 ∷ 1 ∷ 65 ∷ 0 ∷ 10 ∷ 0 ∷ 1 ∷ 0 ∷ 1 ∷ 64 ∷ 0 ∷ 1 ∷ 65 ∷ 1 ∷ []) (Passed 25)
+    ∷ case numbers (2 ∷ 8 ∷ 0 ∷ 1 ∷ 64 ∷ 0 ∷ 4 ∷ 66 ∷ 0 ∷ 1 ∷ 0 ∷ 1 ∷ 1 ∷ 65 ∷ 0 ∷ 10 ∷ 0 ∷ 1 ∷ 2 ∷ 1 ∷ 64 ∷ 0 ∷ 1 ∷ 65 ∷ 1 ∷ []) (Refused 23 14)
+    ∷ case sums (1 ∷ 8 ∷ 0 ∷ 3 ∷ 0 ∷ 0 ∷ 64 ∷ 1 ∷ 64 ∷ 2 ∷ 6 ∷ 0 ∷ 0 ∷ 66 ∷ 0 ∷ 1 ∷ 0 ∷ 1000 ∷ 1 ∷ 65 ∷ 1 ∷ 65 ∷ 1 ∷ []) (Passed 23)
+    -- T12: a variable is there right after its pair; a built one after its part
+    ∷ case twos (1 ∷ 8 ∷ 0 ∷ 3 ∷ 0 ∷ 0 ∷ 64 ∷ 1 ∷ 65 ∷ 0 ∷ 3 ∷ 0 ∷ 0 ∷ 65 ∷ 0 ∷ 65 ∷ 0 ∷ []) (Passed 17)
+    ∷ case twos (1 ∷ 8 ∷ 0 ∷ 3 ∷ 0 ∷ 0 ∷ 65 ∷ 0 ∷ 64 ∷ 1 ∷ 3 ∷ 0 ∷ 0 ∷ 65 ∷ 0 ∷ 65 ∷ 0 ∷ []) (Refused 22 7)
+    ∷ case numbers (1 ∷ 12 ∷ 0 ∷ 1 ∷ 64 ∷ 0 ∷ 1 ∷ 4 ∷ 2 ∷ 1 ∷ 65 ∷ 1 ∷ 1 ∷ 65 ∷ 0 ∷ []) (Refused 22 11)
+    -- T13: pairs short, at the word after the last, in a chain too, unless a count before is at fault
+    ∷ case numbers (1 ∷ 8 ∷ 0 ∷ 1 ∷ 0 ∷ 0 ∷ 1 ∷ 65 ∷ 0 ∷ []) (Refused 23 6)
+    ∷ case numbers (1 ∷ 8 ∷ 0 ∷ 1 ∷ 64 ∷ 0 ∷ 1 ∷ 0 ∷ 0 ∷ []) (Refused 23 9)
+    ∷ case numbers (1 ∷ 8 ∷ 0 ∷ 1 ∷ 64 ∷ 0 ∷ 2 ∷ 66 ∷ 0 ∷ 1 ∷ 0 ∷ []) (Refused 23 11)
+    ∷ case numbers (1 ∷ 8 ∷ 0 ∷ 1 ∷ 64 ∷ 0 ∷ 3 ∷ 66 ∷ 0 ∷ 1 ∷ 0 ∷ 0 ∷ 7 ∷ []) (Refused 22 12)
+    -- T14: pairs over, at the first left over
+    ∷ case numbers (1 ∷ 9 ∷ 2 ∷ 2 ∷ 2 ∷ 2 ∷ 200 ∷ 9 ∷ 9 ∷ 1 ∷ 2 ∷ 4200 ∷ []) (Refused 23 7)
+    ∷ case numbers (1 ∷ 9 ∷ 2 ∷ 2 ∷ 1 ∷ 2 ∷ 200 ∷ 2 ∷ 2 ∷ 4200 ∷ 65 ∷ 0 ∷ []) (Refused 23 10)
+    -- T15: a condition is one chain, from any variable
+    ∷ case numbers (1 ∷ 13 ∷ 2 ∷ 2 ∷ 1 ∷ 64 ∷ 2 ∷ 1 ∷ 8 ∷ 1 ∷ 65 ∷ 0 ∷ 1 ∷ 65 ∷ 0 ∷ []) (Refused 23 10)
+    ∷ case numbers (1 ∷ 13 ∷ 2 ∷ 2 ∷ 1 ∷ 64 ∷ 2 ∷ 1 ∷ 8 ∷ 4 ∷ 66 ∷ 1 ∷ 1 ∷ 0 ∷ 1008 ∷ 1 ∷ 65 ∷ 0 ∷ 1 ∷ 65 ∷ 0 ∷ []) (Refused 22 11)
+    ∷ case numbers (1 ∷ 13 ∷ 2 ∷ 2 ∷ 1 ∷ 64 ∷ 2 ∷ 1 ∷ 8 ∷ 5 ∷ 66 ∷ 0 ∷ 1 ∷ 0 ∷ 1008 ∷ 1 ∷ 65 ∷ 0 ∷ 65 ∷ 0 ∷ 1 ∷ 65 ∷ 0 ∷ []) (Refused 23 18)
+    -- T16: a chain whose variable's type is not due
+    ∷ case sums (1 ∷ 8 ∷ 0 ∷ 3 ∷ 0 ∷ 0 ∷ 64 ∷ 1 ∷ 64 ∷ 2 ∷ 6 ∷ 0 ∷ 0 ∷ 66 ∷ 1 ∷ 1 ∷ 0 ∷ 1000 ∷ 1 ∷ 65 ∷ 1 ∷ 65 ∷ 1 ∷ []) (Refused 23 14)
+    -- T17: the main rule may be applied, without arguments
+    ∷ case numbers (1 ∷ 8 ∷ 0 ∷ 1 ∷ 64 ∷ 0 ∷ 4 ∷ 66 ∷ 0 ∷ 1 ∷ 0 ∷ 0 ∷ 1 ∷ 65 ∷ 0 ∷ []) (Refused 22 12)
+    -- T18: a node's value
+    ∷ case numbers (1 ∷ 9 ∷ 2 ∷ 2 ∷ 1 ∷ 2 ∷ 999999999 ∷ 1 ∷ 2 ∷ 0 ∷ []) (Passed 10)
+    ∷ case numbers (1 ∷ 9 ∷ 2 ∷ 2 ∷ 1 ∷ 2 ∷ 1000000000 ∷ 1 ∷ 2 ∷ 0 ∷ []) (Refused 23 6)
+    ∷ case numbers (1 ∷ 9 ∷ 1 ∷ 1 ∷ 1 ∷ 1 ∷ 2 ∷ 1 ∷ 1 ∷ 1 ∷ []) (Refused 23 6)
+    ∷ case numbers (1 ∷ 8 ∷ 0 ∷ 1 ∷ 0 ∷ 1 ∷ 1 ∷ 65 ∷ 0 ∷ []) (Refused 23 5)
+    -- the variable to take apart, and the searched type
+    ∷ case numbers (1 ∷ 12 ∷ 0 ∷ 1 ∷ 64 ∷ 0 ∷ 1 ∷ 1 ∷ 0 ∷ 1 ∷ 64 ∷ 0 ∷ 1 ∷ 65 ∷ 0 ∷ []) (Passed 15)
+    ∷ case numbers (1 ∷ 12 ∷ 0 ∷ 1 ∷ 64 ∷ 0 ∷ 1 ∷ 1 ∷ 1 ∷ 1 ∷ 64 ∷ 0 ∷ 1 ∷ 65 ∷ 0 ∷ []) (Refused 22 8)
+    ∷ case numbers (1 ∷ 12 ∷ 0 ∷ 1 ∷ 64 ∷ 0 ∷ 1 ∷ 3 ∷ 2 ∷ 0 ∷ 1 ∷ 64 ∷ 2 ∷ 1 ∷ 65 ∷ 0 ∷ []) (Passed 16)
+    ∷ case numbers (1 ∷ 12 ∷ 0 ∷ 1 ∷ 64 ∷ 0 ∷ 1 ∷ 3 ∷ 2 ∷ 0 ∷ 1 ∷ 64 ∷ 0 ∷ 1 ∷ 65 ∷ 0 ∷ []) (Refused 23 12)
+    ∷ []
+
+given : List Case → List Check
+given [] = []
+given (case gs ws c ∷ cs) = c ∷ given cs
+
+found : List Case → List Check
+found [] = []
+found (case gs ws c ∷ cs) = answer (checkRules gs ws) ∷ found cs
+
+right : found table ≡ given table
+unfolding numbers nests twos sums leaves times deep withLeaf sixteen fifteen table given found word wordIn many end typesOf grammarField element form kind grammar all any finishes round rounds finite finiteRecords readGrammar grammarFits kindOf allows allowed childrenOf children isNumberKind isNumber levelsOf levels pairsRead whole duesOf operations applied shapes arguments applications pairsIn argumentsWritten applicationsWritten chainWritten unreadable chainOf conditionOf piecesAfter pieces strategyOf stretch field pairs variableAt deconstructFields conditionFields partOf reach replacement mainFits mainBits typeField searchFields constructFields partAt part parameters headFields head parts rule layout readLayout rulesFit mayStand isSome appliesRule appliesOperation fitsScope usable argumentsDue newVariable variable chain node meets typed variableThere partTyped partsTyped ruleTyped mainTarget rulesTyped readRules checkRules
+right = refl
