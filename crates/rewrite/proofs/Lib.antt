@@ -8,3 +8,4 @@ pub mod Finding
 pub mod Numbers
 pub mod Putting
 pub mod Writing
+pub mod Descent

@@ -31,32 +31,32 @@ type-there g t v a = go (length g - t) refl
 
 -- HOW MUCH DEEPER EACH CHILD NESTS
 
-forms-level : (es : List ℕ) (i : ℕ) → i < length es → _≡_ {A = ℕ} (getD (map (λ e. 2) es) i 0) 2
-forms-level [] i h = absurd (omega arith)
-forms-level (e ∷ es) zero h = refl
-forms-level (e ∷ es) (suc i) h = forms-level es i (omega arith)
+forms-level : (es : List ℕ) (k i : ℕ) → i < length es → getD (map (λ e. suc k) es) i 0 ≡ suc k
+forms-level [] k i h = absurd (omega arith)
+forms-level (e ∷ es) k zero h = refl
+forms-level (e ∷ es) k (suc i) h = forms-level es k i (omega arith)
 
-kind-level : (kd : Kind) (t v i : ℕ) → i < length (childrenOf kd t v) → getD (levelsOf kd v 1) i 0 ≡ 1 + pick (and (isSequenceKind kd) (eqb i 1)) 0 1
+kind-level : (kd : Kind) (t v k i : ℕ) → i < length (childrenOf kd t v) → getD (levelsOf kd v k) i 0 ≡ k + pick (and (isSequenceKind kd) (eqb i 1)) 0 1
 unfolding levelsOf childrenOf isSequenceKind
-kind-level (token c) t v i h = absurd (omega arith)
-kind-level (opt e) t v i h = go (eqb v 0) i h
+kind-level (token c) t v k i h = absurd (omega arith)
+kind-level (opt e) t v k i h = go (eqb v 0) i h
   where
-    go : (b : Bool) (i : ℕ) → i < length (pick b (e ∷ []) []) → _≡_ {A = ℕ} (getD (pick b (2 ∷ []) []) i 0) 2
-    go true zero h = refl
+    go : (b : Bool) (i : ℕ) → i < length (pick b (e ∷ []) []) → getD (pick b (suc k ∷ []) []) i 0 ≡ k + 1
+    go true zero h = omega arith
     go true (suc i) h = absurd (omega arith)
     go false i h = absurd (omega arith)
-kind-level (sequence e) t v i h = go (eqb v 0) i h
+kind-level (sequence e) t v k i h = go (eqb v 0) i h
   where
-    go : (b : Bool) (i : ℕ) → i < length (pick b (e ∷ t ∷ []) []) → _≡_ {A = ℕ} (getD (pick b (2 ∷ 1 ∷ []) []) i 0) (1 + pick (eqb i 1) 0 1)
-    go true zero h = refl
-    go true (suc zero) h = refl
+    go : (b : Bool) (i : ℕ) → i < length (pick b (e ∷ t ∷ []) []) → getD (pick b (suc k ∷ k ∷ []) []) i 0 ≡ k + pick (eqb i 1) 0 1
+    go true zero h = let z : _≡_ {A = ℕ} (pick (eqb 0 1) 0 1) 1 = refl in omega arith
+    go true (suc zero) h = let z : _≡_ {A = ℕ} (pick (eqb 1 1) 0 1) 0 = refl in omega arith
     go true (suc (suc i)) h = absurd (omega arith)
     go false i h = absurd (omega arith)
-kind-level (forms fs) t v i h = forms-level (getD fs v []) i h
+kind-level (forms fs) t v k i h = let z = forms-level (getD fs v []) k i h in omega arith
 
-level-at : (g : Grammar) (t v i : ℕ) → i < length (children g t v) → getD (levels g t v 1) i 0 ≡ 1 + pick (and (isSequence g t) (eqb i 1)) 0 1
+pub level-at : (g : Grammar) (t v k i : ℕ) → i < length (children g t v) → getD (levels g t v k) i 0 ≡ k + pick (and (isSequence g t) (eqb i 1)) 0 1
 unfolding levels children isSequence
-level-at g t v i h = kind-level (kindOf g t) t v i h
+level-at g t v k i h = kind-level (kindOf g t) t v k i h
 
 -- THE LOOP
 
@@ -68,7 +68,7 @@ record Run (g : Grammar) (t v : ℕ) (ws : Words) (ts : List ℕ) (n k at i : �
   half : ℕ
   even : at ≡ 2 * half
 
-first-one : (g : Grammar) (t v : ℕ) (ws : Words) → firstTree g (t ∷ v ∷ ws) ≡ t ∷ v ∷ first g ws (length (children g t v))
+pub first-one : (g : Grammar) (t v : ℕ) (ws : Words) → firstTree g (t ∷ v ∷ ws) ≡ t ∷ v ∷ first g ws (length (children g t v))
 unfolding first
 first-one g t v ws = let z : length (children g t v) + 0 ≡ length (children g t v) = omega arith in rw z
 
@@ -149,7 +149,7 @@ run-step g t v ws ts n k at i w d r h l s ew ed =
     stepped q =
         let len : length (firstTree g x) ≡ 2 * sizeIn w = first-even g x 1 ∙ ap (λ m. 2 * m) (sym (q .counted)) in
         let on : after g x 1 ≡ drop (at + 2 * sizeIn w) ws = after-drop g x 1 ∙ drop-drop (length (firstTree g x)) at ws ∙ ap (λ m. drop (at + m) ws) len in
-        let lev : k′ ≡ 1 + d = level-at g t v i h ∙ ap (λ m. 1 + m) (sym ed) in
+        let lev : k′ ≡ 1 + d = level-at g t v 1 i h ∙ ap (λ m. 1 + m) (sym ed) in
         let deep : nestingFrom g (firstTree g x) (k′ ∷ []) ≡ nestingIn w + d = ap (λ m. nestingFrom g (firstTree g x) (m ∷ [])) lev ∙ tree-deeper (firstTree g x) (q .tree) d ∙ ap (λ m. m + d) (sym (q .nested)) in
         let nest : nestingFrom g (first g x (length (drop i (children g t v)))) (drop i (levels g t v 1)) ≡ max (nestingFrom g (firstTree g x) (k′ ∷ [])) (nestingFrom g (first g (after g x 1) (length cs)) ls) =
         ap₂ (nestingFrom g) both levels-due ∙ nesting-append (q .tree) (first g (after g x 1) (length cs)) (k′ ∷ []) ls refl in

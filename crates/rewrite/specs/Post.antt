@@ -7,9 +7,9 @@ use lib.ListN.{length, take, drop}
 use Rattle.words.specs.Reader.{Words}
 use Rattle.grammar.specs.Grammar.{Grammar}
 use Rattle.grammar.specs.Kinds.{allowed, children}
-use Rattle.grammar.specs.Tables.{Tables}
+use Rattle.grammar.specs.Tables.{Heads, Tables}
 use Rattle.tree.specs.Limits.{mostNodes}
-use Rattle.tree.specs.Tree.{Trees, size, firstTree}
+use Rattle.tree.specs.Tree.{Trees, size, nestingAt, firstTree}
 use Rattle.words.specs.Views.{equalWords}
 use Rattle.grammar.specs.Limits.{mostTypes}
 use Rattle.rewrite.specs.Marked.{markOf, marked, unmarked}
@@ -68,3 +68,7 @@ pub record InPlace (heads rows w w′ : Words) (base place end from n : ℕ) : T
 pub record Written (part r r′ : Words) : Type 0 where
   pub long : length r′ ≡ length r
   pub words : (half : ℕ) → length part ≡ 2 * half → r′ ≡ unmarked part ++ drop (length part) r
+
+-- r is the nesting of the node at q in the marked tree that the part is
+abbrev pub NestingOf : Words → Words → ℕ → ℕ → Type 0
+NestingOf heads part q r = (g : Grammar) (t : ℕ) (ws : Words) (half : ℕ) → Heads g heads → Trees g (t ∷ []) ws → size ws ≤ mostNodes → part ≡ marked g ws → q ≡ 2 * half → r ≡ nestingAt g ws (1 ∷ []) q

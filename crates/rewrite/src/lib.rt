@@ -9,7 +9,7 @@ ghost use Rattle.words.specs.Reader.{pick, and};
 ghost use lib.Dec.{eqb};
 ghost use lib.ListN.{length};
 ghost use Rattle.rewrite.specs.Marked.{mark, typeIn, sizeIn, nestingIn};
-ghost use Rattle.rewrite.specs.Post.{MarkMade, TreeMarked, InPlace, Written, SameTree};
+ghost use Rattle.rewrite.specs.Post.{MarkMade, TreeMarked, InPlace, NestingOf, Written, SameTree};
 ghost use Rattle.rewrite.specs.Vars.{bound, startAt, Sound};
 ghost use Rattle.rewrite.specs.Matching.{newMatched, MatchAnswers, FirstAnswers};
 ghost use Rattle.rewrite.specs.declared.Verdict as Verdict;
@@ -159,6 +159,35 @@ pub fn put_in_place(
         let top = place + (n + rest);
         mark_tree(heads, rows, w, base, place, top);
     }
+}
+
+// How deep the node at q of the part's tree is nested: from the root down, trees that end before it are stepped over.
+pub fn nesting_at(heads: &[u32; HEADS], part: &[u32], q: usize) -> usize
+    requires { ⌜ q < length (now part) ⌝ }
+    ensures { λ r. ⌜ NestingOf (now (heads .entry)) (now (part .entry)) q r ⌝ }
+{
+    let mut p: usize = 0;
+    let mut above: usize = 0;
+    let mut sequence = false;
+    let mut i: usize = 0;
+    while p < q {
+        let w = part[p];
+        let n = size_in(w);
+        let end = p + 2 * n;
+        if n == 0 {
+            return 0;
+        }
+        if end <= q {
+            p = end;
+            i = i + 1;
+        } else {
+            above = above + level(sequence, i);
+            sequence = tables::is_sequence(heads, type_in(w));
+            i = 0;
+            p = p + 2;
+        }
+    }
+    above + level(sequence, i)
 }
 
 // Writes the tree of the part to the result, without marks.

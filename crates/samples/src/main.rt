@@ -1,4 +1,4 @@
-// Runs the checks of a grammar and of a tree on document 01's examples and on damaged ones, and prints each answer on a line.
+// Runs the checks of a grammar, a tree and a rule book on document 01's examples and on damaged ones, and prints each answer on a line.
 use words::Check;
 
 // `accepted`, or `refused`, the number and the position.
@@ -71,9 +71,28 @@ fn nested() {
     print_answer(d);
 }
 
+// A rule book for the paper's grammar.
+fn check_rules(ws: &[u32]) {
+    let c = typing::check_rules(&[3, 8, 1, 1, 1, 4, 2, 1, 2], ws);
+    print_answer(c);
+}
+
+// The paper's rule book, which makes 42.00 of 2.00, and damaged in each way that its rows name; one word more than a rule book may have.
+fn books() {
+    check_rules(&[1, 9, 2, 2, 1, 2, 200, 1, 2, 4200]);
+    check_rules(&[1, 9, 2, 2, 1, 2, 200, 1, 1, 1]);
+    check_rules(&[1, 9, 2, 2, 1, 2, 200, 1, 2]);
+    check_rules(&[1, 1, 2, 2, 1, 2, 200]);
+    check_rules(&[1, 9, 2, 2, 1, 64, 2, 1, 65, 1]);
+    check_rules(&[1, 8, 2, 1, 2, 200, 1, 2, 4200]);
+    let long = [1u32; 16385];
+    check_rules(&long);
+}
+
 fn main() {
     paper();
     others();
     trees();
     nested();
+    books();
 }
