@@ -1,4 +1,4 @@
-//! Helpers of the tests: the paper's bench example and short ways to write
+//! What the tests share: the paper's bench example and short ways to write
 //! other inputs.
 #![allow(dead_code)]
 
