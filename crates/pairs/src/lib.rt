@@ -15,16 +15,16 @@ use limits::FIRST_TEST;
 use limits::LAST_OPERATION;
 use limits::LAST_TEST;
 use limits::LAST_TREE;
-use limits::MARK_CHAIN;
-use limits::MARK_NEW;
-use limits::MARK_VARIABLE;
-use limits::MOST_APPLICATIONS;
 use limits::MOST_NESTING;
-use limits::MOST_RULES;
-use limits::MOST_VARIABLES;
 use limits::STACK;
+use limits::STARTS;
 use rules::HeadRead;
 use rules::Strategy;
+use rules::limits::MARK_CHAIN;
+use rules::limits::MARK_NEW;
+use rules::limits::MARK_VARIABLE;
+use rules::limits::MOST_APPLICATIONS;
+use rules::limits::MOST_VARIABLES;
 use words::Check;
 ghost use mathlib.Core.Path.{_≡_};
 ghost use mathlib.Core.Bool.{true};
@@ -512,7 +512,7 @@ fn meet_number(heads: &[u32; HEADS], t: u32, v: u32, ctx: Ctx, at: usize, sp: us
 // WHAT IS APPLIED
 
 // Where rule a stands.
-pub fn start_of(starts: &[usize; MOST_RULES], a: u32) -> usize
+pub fn start_of(starts: &[usize; STARTS], a: u32) -> usize
     requires { ⌜ a < 64 ⌝ }
     ensures { λ r. ⌜ r ≡ getD (now (starts .entry)) a 0 ⌝ }
 {
@@ -568,7 +568,7 @@ fn rule_usable(
     here: Place,
     types: u32,
     ws: &[u32],
-    starts: &[usize; MOST_RULES],
+    starts: &[usize; STARTS],
     s: u32,
     a: u32,
 ) -> bool
@@ -596,7 +596,7 @@ fn usable(
     heads: &[u32; HEADS],
     types: u32,
     ws: &[u32],
-    starts: &[usize; MOST_RULES],
+    starts: &[usize; STARTS],
     s: u32,
     a: u32,
 ) -> bool
@@ -618,7 +618,7 @@ fn usable(
 fn meet_rule(
     types: u32,
     ws: &[u32],
-    starts: &[usize; MOST_RULES],
+    starts: &[usize; STARTS],
     t: u32,
     v: u32,
     ctx: Ctx,
@@ -696,7 +696,7 @@ fn meet_application(
     heads: &[u32; HEADS],
     types: u32,
     ws: &[u32],
-    starts: &[usize; MOST_RULES],
+    starts: &[usize; STARTS],
     s: u32,
     t: u32,
     v: u32,
@@ -731,7 +731,7 @@ fn meet_link(
     heads: &[u32; HEADS],
     types: u32,
     ws: &[u32],
-    starts: &[usize; MOST_RULES],
+    starts: &[usize; STARTS],
     a: u32,
     b: u32,
     t: u32,
@@ -766,7 +766,7 @@ fn meet(
     rows: &[u8; ROWS],
     types: u32,
     ws: &[u32],
-    starts: &[usize; MOST_RULES],
+    starts: &[usize; STARTS],
     a: u32,
     b: u32,
     t: u32,
@@ -792,7 +792,7 @@ fn pairs_typed(
     rows: &[u8; ROWS],
     types: u32,
     ws: &[u32],
-    starts: &[usize; MOST_RULES],
+    starts: &[usize; STARTS],
     ps: &[u32],
     start: usize,
     a: u32,
@@ -870,7 +870,7 @@ pub fn stretch_typed(
     rows: &[u8; ROWS],
     types: u32,
     ws: &[u32],
-    starts: &[usize; MOST_RULES],
+    starts: &[usize; STARTS],
     a: u32,
     b: u32,
     ctx: Ctx,

@@ -1,27 +1,9 @@
-// The limits of a rule's typing, the numbers that mark its pairs, and how the stack of dues is written, each named once.
-
-// Variables of a rule.
-pub const MOST_VARIABLES: usize = 16;
+// The operations by number, the sizes of what typing keeps, and how the stack of dues is written, each named once.
 
 pub const MOST_NESTING: u32 = 64;
 
-// Applications of a chain.
-pub const MOST_APPLICATIONS: u32 = 4;
-
-// Parts of a rule.
-pub const MOST_PARTS: u32 = 8;
-
-pub const MOST_RULES: usize = 64;
-
-// Words of a rule book.
-pub const MOST_WORDS: usize = 16384;
-
-// The first word of a pair that is no node: a new variable, a variable that is there, a chain of applications.
-pub const MARK_NEW: u32 = 64;
-
-pub const MARK_VARIABLE: u32 = 65;
-
-pub const MARK_CHAIN: u32 = 66;
+// The table of where the rules stand: one entry for each that a book may have.
+pub const STARTS: usize = 64;
 
 // The operations that a replacement applies, those among them without an argument, and those that a condition applies.
 pub const FIRST_OPERATION: u32 = 1000;

@@ -13,7 +13,7 @@ use Rattle.words.proofs.Stretches.{drop-pair}
 use Rattle.grammar.specs.Grammar.{Grammar}
 use Rattle.grammar.specs.Kinds.{children, isSequence}
 use Rattle.grammar.specs.Tables.{Heads, InHeads}
-use Rattle.tree.specs.Tree.{Trees, none, node, size, levels, nestingAt, first, after, firstTree}
+use Rattle.tree.specs.Tree.{Trees, none, node, size, levels, nodeNesting, first, after, firstTree}
 use Rattle.tree.proofs.Trees.{tells, trees-even, tree-some, first-none, first-after, first-even, after-drop, levels-length, more-length}
 use Rattle.rewrite.specs.Marked.{typeIn, sizeIn, markOf, marked}
 use Rattle.rewrite.specs.Post.{NestingOf}
@@ -23,8 +23,8 @@ use Rattle.rewrite.proofs.Spans.{suffix-size, first-size}
 use Rattle.rewrite.proofs.Same.{whole-first}
 
 -- trees that are stepped over
-at-after : {g : Grammar} {xs : List ℕ} {u : Words} → Trees g xs u → (b : Words) (ls ks : List ℕ) (j : ℕ) → length ls ≡ length xs → nestingAt g (u ++ b) (ls ++ ks) (length u + j) ≡ nestingAt g b ks j
-unfolding nestingAt
+at-after : {g : Grammar} {xs : List ℕ} {u : Words} → Trees g xs u → (b : Words) (ls ks : List ℕ) (j : ℕ) → length ls ≡ length xs → nodeNesting g (u ++ b) (ls ++ ks) (length u + j) ≡ nodeNesting g b ks j
+unfolding nodeNesting
 at-after none b [] ks j h = let z : 0 + j ≡ j = omega arith in rw z
 at-after none b (l ∷ ls) ks j h = absurd (omega arith)
 at-after (node fine q) b [] ks j h = absurd (omega arith)
@@ -44,7 +44,7 @@ record Down (g : Grammar) (ws : Words) (q p above : ℕ) (sequence : Bool) (i : 
   same : length deep ≡ length types
   others : length deeper ≡ length rest
   trees : Trees g (drop i types ++ rest) (drop p ws)
-  is : nestingAt g ws (1 ∷ []) q ≡ nestingAt g (drop p ws) (drop i deep ++ deeper) (q - p)
+  is : nodeNesting g ws (1 ∷ []) q ≡ nodeNesting g (drop p ws) (drop i deep ++ deeper) (q - p)
   inside : q - p < length (first g (drop p ws) (length (drop i types)))
   level : (j : ℕ) → j < length deep → getD deep j 0 ≡ above + pick (and sequence (eqb j 1)) 0 1
 
@@ -104,7 +104,7 @@ module _ (g : Grammar) (ws : Words) (q p above : ℕ) (sequence : Bool) (i : ℕ
       let b = suffix-size ws (d .half) p (d .even) in
       child-of g c (drop (i + 1) (d .types) ++ d .rest) x w few (omega arith) here (e ∙ marked-drop g ws (d .half) p (d .even))
 
-  is-here : nestingAt g ws (1 ∷ []) q ≡ nestingAt g x (m ∷ (drop (i + 1) (d .deep) ++ d .deeper)) (q - p)
+  is-here : nodeNesting g ws (1 ∷ []) q ≡ nodeNesting g x (m ∷ (drop (i + 1) (d .deep) ++ d .deeper)) (q - p)
   is-here = rw deep-due at (d .is)
 
   pair : x ≡ getD ws p 0 ∷ getD ws (p + 1) 0 ∷ drop (p + 2) ws
@@ -121,7 +121,7 @@ module _ (g : Grammar) (ws : Words) (q p above : ℕ) (sequence : Bool) (i : ℕ
       let len : length (firstTree g x) ≡ 2 * n = omega (arith, first-even g x 1, y .counted) in
       let on : after g x 1 ≡ drop (p + 2 * n) ws = after-drop g x 1 ∙ drop-drop (length (firstTree g x)) p ws ∙ ap (λ k. drop (p + k) ws) len in
       let far : q - p ≡ length (firstTree g x) + (q - (p + 2 * n)) = omega arith in
-      let step : nestingAt g (firstTree g x ++ after g x 1) ((m ∷ []) ++ (drop (i + 1) (d .deep) ++ d .deeper)) (length (firstTree g x) + (q - (p + 2 * n))) ≡ nestingAt g (after g x 1) (drop (i + 1) (d .deep) ++ d .deeper) (q - (p + 2 * n)) =
+      let step : nodeNesting g (firstTree g x ++ after g x 1) ((m ∷ []) ++ (drop (i + 1) (d .deep) ++ d .deeper)) (length (firstTree g x) + (q - (p + 2 * n))) ≡ nodeNesting g (after g x 1) (drop (i + 1) (d .deep) ++ d .deeper) (q - (p + 2 * n)) =
       at-after (y .tree) (after g x 1) (m ∷ []) (drop (i + 1) (d .deep) ++ d .deeper) (q - (p + 2 * n)) refl in
       let both : first g x (length (drop i (d .types))) ≡ firstTree g x ++ first g (after g x 1) (length (drop (i + 1) (d .types))) =
       first-more g x 1 (length (drop (i + 1) (d .types))) (length (drop i (d .types))) (omega (arith, ap length due)) in
@@ -137,15 +137,15 @@ module _ (g : Grammar) (ws : Words) (q p above : ℕ) (sequence : Bool) (i : ℕ
         same = d .same;
         others = d .others;
         trees = rw (← on) (y .more);
-        is = is-here ∙ ap (λ l. nestingAt g l (m ∷ (drop (i + 1) (d .deep) ++ d .deeper)) (q - p)) (sym (first-after g x 1)) ∙ ap (nestingAt g (firstTree g x ++ after g x 1) (m ∷ (drop (i + 1) (d .deep) ++ d .deeper))) far ∙ step
-            ∙ ap (λ l. nestingAt g l (drop (i + 1) (d .deep) ++ d .deeper) (q - (p + 2 * n))) on;
+        is = is-here ∙ ap (λ l. nodeNesting g l (m ∷ (drop (i + 1) (d .deep) ++ d .deeper)) (q - p)) (sym (first-after g x 1)) ∙ ap (nodeNesting g (firstTree g x ++ after g x 1) (m ∷ (drop (i + 1) (d .deep) ++ d .deeper))) far ∙ step
+            ∙ ap (λ l. nodeNesting g l (drop (i + 1) (d .deep) ++ d .deeper) (q - (p + 2 * n))) on;
         inside = omega (arith, ap length both, length-append (firstTree g x) (first g (after g x 1) (length (drop (i + 1) (d .types)))), d .inside, more, len);
         level = d .level;
       }
 
   -- q lies in the first tree, below its root
   enter : (w t : ℕ) (s : Bool) → w ≡ getD (marked g ws) p 0 → t ≡ typeIn w → s ≡ isSequence g t → p < q → q < p + 2 * sizeIn w → (half-q : ℕ) → q ≡ 2 * half-q → Down g ws q (p + 2) m s 0
-  unfolding nestingAt marked markOf
+  unfolding nodeNesting marked markOf
   enter w t s ew et es before within hq eq =
       let y = child w ew in
       let t₀ = getD ws p 0 in
@@ -168,17 +168,17 @@ module _ (g : Grammar) (ws : Words) (q p above : ℕ) (sequence : Bool) (i : ℕ
         same = levels-length g t₀ v m;
         others = omega (arith, length-append (drop (i + 1) (d .types)) (d .rest), length-append (drop (i + 1) (d .deep)) (d .deeper), length-drop (i + 1) (d .types), length-drop (i + 1) (d .deep), d .same, d .others);
         trees = rw (k .0) (k .2);
-        is = is-here ∙ ap (λ l. nestingAt g l (m ∷ (drop (i + 1) (d .deep) ++ d .deeper)) (q - p)) pair ∙ ap (nestingAt g (t₀ ∷ v ∷ z) (m ∷ (drop (i + 1) (d .deep) ++ d .deeper))) far;
+        is = is-here ∙ ap (λ l. nodeNesting g l (m ∷ (drop (i + 1) (d .deep) ++ d .deeper)) (q - p)) pair ∙ ap (nodeNesting g (t₀ ∷ v ∷ z) (m ∷ (drop (i + 1) (d .deep) ++ d .deeper))) far;
         inside = omega (arith, one, first-even g x 1, y .counted, d .even);
         level = λ j l. level-at g t₀ v m j (omega (arith, levels-length g t₀ v m)) ∙ ap (λ b. m + pick (and b (eqb j 1)) 0 1) (sym (es ∙ ap (isSequence g) is-type));
       }
 
   -- q is reached
-  reached : q ≤ p → m ≡ nestingAt g ws (1 ∷ []) q
-  unfolding nestingAt
+  reached : q ≤ p → m ≡ nodeNesting g ws (1 ∷ []) q
+  unfolding nodeNesting
   reached h =
       let z : q - p ≡ 0 = omega arith in
-      sym (is-here ∙ ap (λ l. nestingAt g l (m ∷ (drop (i + 1) (d .deep) ++ d .deeper)) (q - p)) pair ∙ ap (nestingAt g (getD ws p 0 ∷ getD ws (p + 1) 0 ∷ drop (p + 2) ws) (m ∷ (drop (i + 1) (d .deep) ++ d .deeper))) z)
+      sym (is-here ∙ ap (λ l. nodeNesting g l (m ∷ (drop (i + 1) (d .deep) ++ d .deeper)) (q - p)) pair ∙ ap (nodeNesting g (getD ws p 0 ∷ getD ws (p + 1) 0 ∷ drop (p + 2) ws) (m ∷ (drop (i + 1) (d .deep) ++ d .deeper))) z)
 
 -- THE LOOP, for every grammar whose tables these are
 

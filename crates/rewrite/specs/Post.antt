@@ -9,7 +9,7 @@ use Rattle.grammar.specs.Grammar.{Grammar}
 use Rattle.grammar.specs.Kinds.{allowed, children}
 use Rattle.grammar.specs.Tables.{Heads, Tables}
 use Rattle.tree.specs.Limits.{mostNodes}
-use Rattle.tree.specs.Tree.{Trees, size, nestingAt, firstTree}
+use Rattle.tree.specs.Tree.{Trees, size, nodeNesting, firstTree}
 use Rattle.words.specs.Views.{equalWords}
 use Rattle.grammar.specs.Limits.{mostTypes}
 use Rattle.rewrite.specs.Marked.{markOf, marked, unmarked}
@@ -71,4 +71,4 @@ pub record Written (part r r′ : Words) : Type 0 where
 
 -- r is the nesting of the node at q in the marked tree that the part is
 abbrev pub NestingOf : Words → Words → ℕ → ℕ → Type 0
-NestingOf heads part q r = (g : Grammar) (t : ℕ) (ws : Words) (half : ℕ) → Heads g heads → Trees g (t ∷ []) ws → size ws ≤ mostNodes → part ≡ marked g ws → q ≡ 2 * half → r ≡ nestingAt g ws (1 ∷ []) q
+NestingOf heads part q r = (g : Grammar) (t : ℕ) (ws : Words) (half : ℕ) → Heads g heads → Trees g (t ∷ []) ws → size ws ≤ mostNodes → part ≡ marked g ws → q ≡ 2 * half → r ≡ nodeNesting g ws (1 ∷ []) q

@@ -2,6 +2,9 @@
 use grammar::limits::HEADS;
 use grammar::limits::ROWS;
 use grammar::tables;
+use rules::limits::MARK_NEW;
+use rules::limits::MARK_VARIABLE;
+use rules::limits::MOST_VARIABLES;
 ghost use mathlib.Core.Path.{_≡_};
 ghost use Prim.Native.Nat.{ℕ, _+_, _-_, _*_, _<_, _≤_, _^_, max};
 ghost use mathlib.Core.Bool.{true, false};
@@ -16,13 +19,7 @@ ghost use Rattle.rewrite.specs.declared.Verdict as Verdict;
 
 pub mod operations;
 
-const MARK_NEW: u32 = 64;
-
-const MARK_VARIABLE: u32 = 65;
-
 const MOST_LIVE: usize = 6144;
-
-const MOST_VARIABLES: usize = 16;
 
 // The variables of an open call: where their trees stand, the first n of 16.
 pub struct Vars {

@@ -1,4 +1,8 @@
 // The rule book: its layout (20, 21, each with its position), and the readers of a rule's head and of a part.
+use limits::MOST_PAIRS;
+use limits::MOST_PARAMETERS;
+use limits::MOST_PARTS;
+use limits::MOST_RULES;
 use words::Check;
 use words::Got;
 ghost use mathlib.Core.Path.{_≡_};
@@ -9,13 +13,7 @@ ghost use Rattle.words.specs.Views.{answer, got};
 ghost use Rattle.rules.specs.Layout as Layout;
 ghost use Rattle.rules.specs.Views.{partRead, searchedType, headRead, counted, strategyAs};
 
-const MOST_RULES: u32 = 64;
-
-const MOST_PARAMETERS: u32 = 4;
-
-const MOST_PARTS: u32 = 8;
-
-const MOST_PAIRS: u32 = 128;
+pub mod limits;
 
 // Which nodes a rule tries.
 pub enum Strategy {

@@ -13,7 +13,7 @@ use Rattle.words.proofs.Stretches.{drop-pair}
 use Rattle.grammar.specs.Grammar.{Grammar}
 use Rattle.grammar.specs.Kinds.{allowed, children}
 use Rattle.tree.specs.Limits.{mostNodes, mostNesting}
-use Rattle.tree.specs.Tree.{Trees, node, Tree, size, levels, nestingFrom, nesting, nestingAt, after, firstTree}
+use Rattle.tree.specs.Tree.{Trees, node, Tree, size, levels, nestingFrom, nesting, nodeNesting, after, firstTree}
 use Rattle.tree.proofs.Trees.{Even, no-odd, even-tail, even-of, size-append, trees-even, tells, trees-append, first-after, first-even, split, more-length, nesting-rise, nesting-append, Positive, more-positive}
 
 -- WHAT IS DUE AT A PLACE, after the words a: trees of the types `us` at the nestings `ls`. Whatever trees of these types follow a, the whole is trees.
@@ -26,10 +26,10 @@ record Place (g : Grammar) (ts ks : List ℕ) (a b : Words) : Type 0 where
   refill : (c : Words) → Trees g us c → Trees g ts (a ++ c)
   above : ℕ
   deep : (c : Words) → nestingFrom g (a ++ c) ks ≡ max above (nestingFrom g c ls)
-  level : nestingAt g (a ++ b) ks (length a) ≡ nestingAt g b ls 0
+  level : nodeNesting g (a ++ b) ks (length a) ≡ nodeNesting g b ls 0
 
 node-place : {g : Grammar} {ts ks : List ℕ} {a b : Words} {t v : ℕ} (k : ℕ) → allowed g t v ≡ true → Place g (children g t v ++ ts) (levels g t v k ++ ks) a b → Place g (t ∷ ts) (k ∷ ks) (t ∷ v ∷ a) b
-unfolding nestingFrom nestingAt
+unfolding nestingFrom nodeNesting
 node-place k fine p = record {
   us = p .us;
   ls = p .ls;
@@ -65,13 +65,13 @@ record At (g : Grammar) (t₀ t : ℕ) (a r : Words) : Type 0 where
   tree : Trees g (t ∷ []) (firstTree g r)
   shallow : nesting g (firstTree g r) ≤ nesting g (a ++ r)
   refill : (new : Words) → Trees g (t ∷ []) new → Trees g (t₀ ∷ []) (a ++ (new ++ after g r 1))
-  positive : 1 ≤ nestingAt g (a ++ r) (1 ∷ []) (length a)
+  positive : 1 ≤ nodeNesting g (a ++ r) (1 ∷ []) (length a)
   besides : ℕ
   nested : besides ≤ nesting g (a ++ r)
-  deep : (new : Words) → Trees g (t ∷ []) new → nesting g (a ++ (new ++ after g r 1)) ≡ max besides (nestingFrom g new (nestingAt g (a ++ r) (1 ∷ []) (length a) ∷ []))
+  deep : (new : Words) → Trees g (t ∷ []) new → nesting g (a ++ (new ++ after g r 1)) ≡ max besides (nestingFrom g new (nodeNesting g (a ++ r) (1 ∷ []) (length a) ∷ []))
 
 at-place : {g : Grammar} {t₀ t v : ℕ} {a b : Words} (us ls : List ℕ) (p : Place g (t₀ ∷ []) (1 ∷ []) a (t ∷ v ∷ b)) → p .us ≡ us → p .ls ≡ ls → At g t₀ t a (t ∷ v ∷ b)
-unfolding nesting nestingAt
+unfolding nesting nodeNesting
 at-place {g} {t₀} {t} {v} {a} {b} [] ls p eu el = absurd (tells (subst (λ l. Trees g l (t ∷ v ∷ b)) eu (p .typed)))
 at-place (u ∷ us) [] p eu el = absurd (omega (arith, p .each, ap length eu, ap length el))
 at-place {g} {t₀} {t} {v} {a} {b} (u ∷ us) (l ∷ ls) p eu el =
@@ -83,7 +83,7 @@ at-place {g} {t₀} {t} {v} {a} {b} (u ∷ us) (l ∷ ls) p eu el =
     let m : nestingFrom g (firstTree g r ++ after g r 1) (l ∷ ls) ≡ max (nestingFrom g (firstTree g r) (l ∷ [])) (nestingFrom g (after g r 1) ls) = nesting-append (s .front) (after g r 1) (l ∷ []) ls refl in
     let m′ : nestingFrom g r (l ∷ ls) ≡ max (nestingFrom g (firstTree g r) (l ∷ [])) (nestingFrom g (after g r 1) ls) = ap (λ (w : Words). nestingFrom g w (l ∷ ls)) (sym (first-after g r 1)) ∙ m in
     let o : Positive (l ∷ ls) = subst Positive el (p .positive) in
-    let level : nestingAt g (a ++ r) (1 ∷ []) (length a) ≡ l = rw el at (p .level) in
+    let level : nodeNesting g (a ++ r) (1 ∷ []) (length a) ≡ l = rw el at (p .level) in
     record {
       tree = subst (λ x. Trees g (x ∷ []) (firstTree g r)) (sym z) (s .front);
       shallow = omega (arith, nesting-rise g (firstTree g r) 1 l (o .0));
@@ -156,16 +156,16 @@ module _ (g : Grammar) (ws a : Words) (t v : ℕ) (b : Words) (e : ws ≡ a ++ (
 
   -- .. and it nests no deeper than so much exactly if the new tree does, standing where the node stood
   pub splice-nesting : {t₀ : ℕ} → Trees g (t₀ ∷ []) ws → (new : Words) → Trees g (t ∷ []) new → (most : ℕ) → nesting g ws ≤ most
-      → leb (nesting g (spliced g a (t ∷ v ∷ b) new)) most ≡ leb (nestingFrom g new (nestingAt g ws (1 ∷ []) (length a) ∷ [])) most
+      → leb (nesting g (spliced g a (t ∷ v ∷ b) new)) most ≡ leb (nestingFrom g new (nodeNesting g ws (1 ∷ []) (length a) ∷ [])) most
   splice-nesting x new n most h =
       let p = at x in
-      let d : nesting g (spliced g a (t ∷ v ∷ b) new) ≡ max (p .besides) (nestingFrom g new (nestingAt g ws (1 ∷ []) (length a) ∷ [])) =
-      p .deep new n ∙ ap (λ l. max (p .besides) (nestingFrom g new (nestingAt g l (1 ∷ []) (length a) ∷ []))) (sym e) in
+      let d : nesting g (spliced g a (t ∷ v ∷ b) new) ≡ max (p .besides) (nestingFrom g new (nodeNesting g ws (1 ∷ []) (length a) ∷ [])) =
+      p .deep new n ∙ ap (λ l. max (p .besides) (nestingFrom g new (nodeNesting g l (1 ∷ []) (length a) ∷ []))) (sym e) in
       let f : p .besides ≤ nesting g ws = subst (λ l. p .besides ≤ nesting g l) (sym e) (p .nested) in
-      rw d (leb-over (p .besides) (nestingFrom g new (nestingAt g ws (1 ∷ []) (length a) ∷ [])) most (omega arith))
+      rw d (leb-over (p .besides) (nestingFrom g new (nodeNesting g ws (1 ∷ []) (length a) ∷ [])) most (omega arith))
 
-  pub node-nested : {t₀ : ℕ} → Trees g (t₀ ∷ []) ws → 1 ≤ nestingAt g ws (1 ∷ []) (length a)
-  node-nested x = subst (λ l. 1 ≤ nestingAt g l (1 ∷ []) (length a)) (sym e) (at x .positive)
+  pub node-nested : {t₀ : ℕ} → Trees g (t₀ ∷ []) ws → 1 ≤ nodeNesting g ws (1 ∷ []) (length a)
+  node-nested x = subst (λ l. 1 ≤ nodeNesting g l (1 ∷ []) (length a)) (sym e) (at x .positive)
 
   -- .. within the limits, if its count and its nesting are
   pub splice : {t₀ : ℕ} → Tree g t₀ ws → (new : Words) → Trees g (t ∷ []) new → size (spliced g a (t ∷ v ∷ b) new) ≤ mostNodes → nesting g (spliced g a (t ∷ v ∷ b) new) ≤ mostNesting

@@ -45,13 +45,13 @@ unfoldable pub nesting : Grammar → Words → ℕ
 nesting g ws = nestingFrom g ws (1 ∷ [])
 
 -- the nesting of the node at a position, where the trees stand at these nestings
-unfoldable pub nestingAt : Grammar → Words → List ℕ → ℕ → ℕ
-nestingAt g [] ks q = 0
-nestingAt g (t ∷ []) ks q = 0
-nestingAt g (t ∷ v ∷ ws) [] q = 0
-nestingAt g (t ∷ v ∷ ws) (k ∷ ks) zero = k
-nestingAt g (t ∷ v ∷ ws) (k ∷ ks) (suc zero) = 0
-nestingAt g (t ∷ v ∷ ws) (k ∷ ks) (suc (suc q)) = nestingAt g ws (levels g t v k ++ ks) q
+unfoldable pub nodeNesting : Grammar → Words → List ℕ → ℕ → ℕ
+nodeNesting g [] ks q = 0
+nodeNesting g (t ∷ []) ks q = 0
+nodeNesting g (t ∷ v ∷ ws) [] q = 0
+nodeNesting g (t ∷ v ∷ ws) (k ∷ ks) zero = k
+nodeNesting g (t ∷ v ∷ ws) (k ∷ ks) (suc zero) = 0
+nodeNesting g (t ∷ v ∷ ws) (k ∷ ks) (suc (suc q)) = nodeNesting g ws (levels g t v k ++ ks) q
 
 -- one tree of the type, within the limits: "A tree has 1 to 2,048 nodes" (one it always has, its root); nesting: "The most is 64"
 pub record Tree (g : Grammar) (t : ℕ) (ws : Words) : Type 0 where

@@ -3,9 +3,10 @@ use Prim.Native.Nat.{ℕ, zero, suc}
 use mathlib.Core.Path.{_≡_}
 use mathlib.Core.List.{[], _∷_}
 use lib.ListN.{length}
-use Rattle.words.specs.Reader.{Words, Read, value, refused, Reader, _>>=_, return}
+use Rattle.words.specs.Reader.{Words, Reader, _>>=_, return}
 use Rattle.grammar.specs.Grammar.{Grammar}
 use Rattle.grammar.specs.Tables.{Tables}
+use Rattle.grammar.specs.Filling.{nextOf}
 use Rattle.tree.specs.Reading.{tree}
 use Rattle.rules.specs.Rules.{Rules, searches}
 use Rattle.rules.specs.Layout as Layout
@@ -31,11 +32,6 @@ module _ (g : Grammar) (rules : Rules) (ws : Words) where
   -- the replacement, where the map announces it
   abbrev pub replacementFor : ℕ → ℕ → Context → Reader (Unit {0})
   replacementFor m t Γ = _>>=_ (onlyIf (bit 3 m) Γ (typed g rules ws inReplacement (aTree (tree 1 t)) Γ)) (λ Θ. return tt)
-
--- the position after what was read
-abbrev pub nextOf : {A : Type 0} → Read A → ℕ
-nextOf (value a next) = next
-nextOf (refused n p) = p
 
 -- where the n rules stand, the first of them at the position
 unfoldable pub positions : ℕ → Words → ℕ → ℕ → Words

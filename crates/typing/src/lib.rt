@@ -6,15 +6,15 @@ use pairs::Ctx;
 use pairs::Place;
 use pairs::Typed;
 use pairs::limits::DUE_CHAIN;
-use pairs::limits::MOST_PARTS;
-use pairs::limits::MOST_RULES;
-use pairs::limits::MOST_VARIABLES;
-use pairs::limits::MOST_WORDS;
 use pairs::limits::STACK;
+use pairs::limits::STARTS;
 use rules::Deconstruct;
 use rules::HeadRead;
 use rules::Part;
 use rules::PartRead;
+use rules::limits::MOST_PARTS;
+use rules::limits::MOST_VARIABLES;
+use rules::limits::MOST_WORDS;
 use words::Check;
 use words::Got;
 ghost use mathlib.Core.Path.{_≡_};
@@ -40,7 +40,7 @@ fn deconstruct_typed(
     rows: &[u8; ROWS],
     types: u32,
     ws: &[u32],
-    starts: &[usize; MOST_RULES],
+    starts: &[usize; STARTS],
     part: Deconstruct,
     ctx: Ctx,
     st: &mut [u32],
@@ -94,7 +94,7 @@ fn construct_typed(
     rows: &[u8; ROWS],
     types: u32,
     ws: &[u32],
-    starts: &[usize; MOST_RULES],
+    starts: &[usize; STARTS],
     s: u32,
     p: usize,
     ctx: Ctx,
@@ -146,7 +146,7 @@ fn part_typed(
     rows: &[u8; ROWS],
     types: u32,
     ws: &[u32],
-    starts: &[usize; MOST_RULES],
+    starts: &[usize; STARTS],
     ctx: Ctx,
     at: usize,
     st: &mut [u32],
@@ -209,7 +209,7 @@ fn parts_typed(
     rows: &[u8; ROWS],
     types: u32,
     ws: &[u32],
-    starts: &[usize; MOST_RULES],
+    starts: &[usize; STARTS],
     k: u32,
     ctx: Ctx,
     start: usize,
@@ -251,7 +251,7 @@ fn read_parts(
     rows: &[u8; ROWS],
     types: u32,
     ws: &[u32],
-    starts: &[usize; MOST_RULES],
+    starts: &[usize; STARTS],
     map: u32,
     ctx: Ctx,
     at: usize,
@@ -282,7 +282,7 @@ fn read_replacement(
     rows: &[u8; ROWS],
     types: u32,
     ws: &[u32],
-    starts: &[usize; MOST_RULES],
+    starts: &[usize; STARTS],
     map: u32,
     target: u32,
     ctx: Ctx,
@@ -332,7 +332,7 @@ fn rule_typed(
     rows: &[u8; ROWS],
     types: u32,
     ws: &[u32],
-    starts: &[usize; MOST_RULES],
+    starts: &[usize; STARTS],
     at: usize,
     st: &mut [u32],
 ) -> Check
@@ -396,7 +396,7 @@ fn some_typed(
     rows: &[u8; ROWS],
     types: u32,
     ws: &[u32],
-    starts: &[usize; MOST_RULES],
+    starts: &[usize; STARTS],
     n: u32,
     start: usize,
     st: &mut [u32],
@@ -422,11 +422,11 @@ fn some_typed(
 }
 
 // Where the n rules stand.
-fn rule_starts(types: u32, ws: &[u32], n: u32) -> [usize; MOST_RULES]
+fn rule_starts(types: u32, ws: &[u32], n: u32) -> [usize; STARTS]
     requires { ⌜ (1 ≤ types) × (n ≤ 64) × (accepted (Reader.many n (Layout.rule types (now ws)) 1) ≡ true) ⌝ }
     ensures { λ r. ⌜ r ≡ sets (replicate 64 0) 0 (positions types (now (ws .entry)) n 1) ⌝ }
 {
-    let mut starts = [0usize; MOST_RULES];
+    let mut starts = [0usize; STARTS];
     let mut left = n;
     let mut i: usize = 0;
     let mut at: usize = 1;
@@ -448,7 +448,7 @@ fn rule_starts(types: u32, ws: &[u32], n: u32) -> [usize; MOST_RULES]
 }
 
 // Does the main rule apply to the root of every tree? Its scope is the tree, of type 0.
-fn main_fits(types: u32, ws: &[u32], starts: &[usize; MOST_RULES]) -> bool
+fn main_fits(types: u32, ws: &[u32], starts: &[usize; STARTS]) -> bool
     requires { ⌜ 1 ≤ types ⌝ }
     ensures { λ r. ⌜ ((rule : Rule) → Headed types (now (ws .entry)) (getD (now (starts .entry)) 0 0) rule → r ≡ Typing.fitsScope rule 0) ⌝ }
 {
