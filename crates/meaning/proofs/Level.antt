@@ -16,8 +16,8 @@ use Rattle.grammar.specs.Grammar.{Kind, token, opt, sequence, forms, Grammar}
 use Rattle.grammar.specs.Kinds.{kindOf, allows, allowed, childrenOf, children, isNumberKind, isNumber}
 use Rattle.tree.specs.Limits.{mostNodes}
 use Rattle.tree.specs.Tree as T
-use Rattle.tree.specs.Tree.{Trees, Tree, size, nestingFrom, nesting, isTree, after, firstTree, typeOf}
-use Rattle.tree.proofs.Trees.{tells, trees-append, trees-even, size-append, and-intro, tree-passes, tree-type}
+use Rattle.tree.specs.Tree.{Trees, Tree, size, nestingFrom, nesting, areTrees, isTree, after, firstTree, typeOf}
+use Rattle.tree.proofs.Trees.{tells, trees-append, trees-even, size-append, and-intro, trees-pass, tree-passes, tree-type}
 use Rattle.rules.specs.Limits.{mostVariables}
 use Rattle.rules.specs.Rules.{Operation, Applied, rule, operation, Application, Piece, Part, Strategy, rootOnly, firstMatch, exhaustive, searches, Rule, Rules}
 use Rattle.rules.specs.WellTyped.{Types, Role, replacing, testing, Operates, adds, subtracts, divides, remains, rounds, truncates, equals, exceeds, Usable, Applies, aRule, anOperation, AllApply, allNone, allMore, Replacement, piecesEnd, aWritten, aCopy, aChain, PartFits, deconstructs, searchesFor, constructs, tests, PartsFit, noPart, aPart, RuleFits}
@@ -72,7 +72,7 @@ compare-safe exceeds a [] h n = absurd (omega arith)
 compare-safe exceeds a (b ∷ []) h n = returns tt
 compare-safe exceeds a (b ∷ c ∷ bs) h n = absurd (omega arith)
 
-values-length : (ts : List Words) → length (valuesOf ts) ≡ length ts
+pub values-length : (ts : List Words) → length (valuesOf ts) ≡ length ts
 unfolding valuesOf
 values-length [] = refl
 values-length (t ∷ ts) = ap suc (values-length ts)
@@ -88,7 +88,7 @@ number-allows (sequence x) t m e h = false-not e
 number-allows (forms fs) t m e h = false-not e
 
 -- a number token of any value in range
-number-tree : (g : Grammar) (t m : ℕ) → isNumber g t ≡ true → m ≤ greatestNumber → Tree g t (t ∷ m ∷ [])
+pub number-tree : (g : Grammar) (t m : ℕ) → isNumber g t ≡ true → m ≤ greatestNumber → Tree g t (t ∷ m ∷ [])
 unfolding isNumber allowed children size nesting nestingFrom
 number-tree g t m e h =
     let p = number-allows (kindOf g t) t m e h in
@@ -257,10 +257,11 @@ module _ (g : Grammar) (rules : Rules) (each : (n : ℕ) (r : Rule) → getElem?
       returns (trees-append (y .typed) (q .0), omega (arith, q .1, size-append v ws (trees-even (y .typed))))
 
   finish-safe : {Γ : Types} {t : ℕ} {ps : List Piece} (b : Bindings) → OfTypes g Γ (b .env) → Replacement g rules Γ (t ∷ []) ps → (n : ℕ)
-      → Safe (λ ws l. Tree g t ws) n (finish true g rules deeper ps b n) (finish false g rules deeper′ ps b n)
+      → Safe (λ ws l. Tree g t ws) n (finish true g rules deeper t ps b n) (finish false g rules deeper′ t ps b n)
   unfolding finish
-  finish-safe b typed r n =
+  finish-safe {t = t} b typed r n =
       andThen (fill-safe typed r (live b) 0 (omega arith) n) λ ws l _ q.
+      andThen (check-safe (areTrees g ws (t ∷ [])) l (trees-pass (q .0))) λ u l _ _.
       andThen (nesting-safe g ws l) λ u l _ flat.
       returns (record { typed = q .0; nodes = omega (arith, q .1); nested = flat })
 

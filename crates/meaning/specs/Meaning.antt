@@ -11,7 +11,7 @@ use Rattle.words.specs.Views.{equalWords}
 use Rattle.grammar.specs.Grammar.{Grammar}
 use Rattle.grammar.specs.Kinds.{isNumber}
 use Rattle.tree.specs.Limits.{mostNodes, mostNesting}
-use Rattle.tree.specs.Tree.{size, nesting, isTree, after, firstTree, typeOf}
+use Rattle.tree.specs.Tree.{size, nesting, areTrees, isTree, after, firstTree, typeOf}
 use Rattle.rules.specs.Limits.{mostVariables}
 use Rattle.rules.specs.Rules.{Applied, rule, operation, nothing, Shape, node, new, same, Application, Piece, write, copy, chain, Part, deconstruct, search, construct, condition, Strategy, rootOnly, firstMatch, exhaustive, searches, Rule, Rules}
 use Rattle.meaning.specs.Limits.{mostCalls, mostLive}
@@ -248,10 +248,11 @@ module _ (strict : Bool) (g : Grammar) (rules : Rules) (deeper : Calls) where
     ws ← fill ps env besides (n + size u)
     return (u ++ ws)
 
-  -- "Nesting is checked when a replacement is finished"
-  unfoldable pub finish : List Piece → Bindings → Comp Words
-  finish ps b = do
+  -- "Nesting is checked when a replacement is finished": a tree of the type u
+  unfoldable pub finish : ℕ → List Piece → Bindings → Comp Words
+  finish u ps b = do
     ws ← fill ps (b .env) (live b) 0
+    check strict (areTrees g ws (u ∷ []))
     nestingWithin g ws
     return ws
 
@@ -283,7 +284,7 @@ module _ (strict : Bool) (g : Grammar) (rules : Rules) (deeper : Calls) where
     matchFirst strict g u ps t b
   -- "build .., giving a new variable"; "a built tree that becomes its variable" counts once
   part (construct u ps) b = do
-    t ← finish ps b
+    t ← finish u ps b
     c ← bind strict g u t b
     return (some c)
   -- "A group, in a test too, copies its variable's tree first"; the test "holds if one succeeds, or with bit 4 also, if none does"
@@ -319,7 +320,7 @@ module _ (strict : Bool) (g : Grammar) (rules : Rules) (deeper : Calls) where
   -- the replacement is finished and put in place: nesting is checked "again when it is put in place, where 42 applies too"
   unfoldable pub replace : ℕ → List Piece → Words → Found → Comp Words
   replace target ps scope f = do
-    ws ← finish ps (f .bound)
+    ws ← finish target ps (f .bound)
     check strict (and (isTree g target (firstTree g (drop (f .place) scope))) (isTree g target ws))
     nodesWithin (size (put g scope (f .place) ws))
     nestingWithin g (put g scope (f .place) ws)

@@ -94,6 +94,7 @@ module _ (ty : ℕ) (pairs arena part : Words) (at : ℕ) (vars : Vars) (live p 
   finding-none h r er strict = rw er (record {
     sound = go .sound;
     fits = go .fits;
+    grows = omega arith;
     meant = λ g ws ts b left st ns.
         let q = go .run strict g ws ts b left st ns in
         let e : q .rest ≡ [] = empty (q .rest) (trees-even (q .stage .rest .typed)) (omega (arith, ap length (q .stage .marks), marked-length g (q .rest), length-drop p part, q .inside)) in
@@ -156,6 +157,7 @@ module _ (ty : ℕ) (pairs arena part : Words) (at : ℕ) (vars : Vars) (live p 
       found v e f strict = record {
         sound = matched strict .sound;
         fits = matched strict .fits;
+        grows = matched strict .grows;
         meant = λ g ws ts b left st ns.
             let r = go .run strict g ws ts b left st ns in
             rw e (f strict g ws b left r (rw e at (this-match r ns)));

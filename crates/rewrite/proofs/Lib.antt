@@ -9,3 +9,6 @@ pub mod Numbers
 pub mod Putting
 pub mod Writing
 pub mod Descent
+pub mod Leaves
+pub mod Closing
+pub mod Placing

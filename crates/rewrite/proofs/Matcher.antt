@@ -38,41 +38,41 @@ use Rattle.rewrite.proofs.Steps.{pair-new, pair-same, pair-node, no-pai
 
 -- THE VARIABLES
 
-env-length : (g : Grammar) (arena : Words) (ss : List ℕ) (env : Env) → EnvAt g arena ss env → length env ≡ length ss
+pub env-length : (g : Grammar) (arena : Words) (ss : List ℕ) (env : Env) → EnvAt g arena ss env → length env ≡ length ss
 env-length g arena [] [] e = refl
 env-length g arena [] (w ∷ env) e = absurd e
 env-length g arena (s ∷ ss) [] e = absurd e
 env-length g arena (s ∷ ss) (w ∷ env) e = ap suc (env-length g arena ss env (e .1))
 
-env-more : (g : Grammar) (arena : Words) (ss : List ℕ) (env : Env) (s : ℕ) (u : Words) → EnvAt g arena ss env → Stands g arena s u → EnvAt g arena (ss ++ s ∷ []) (env ++ u ∷ [])
+pub env-more : (g : Grammar) (arena : Words) (ss : List ℕ) (env : Env) (s : ℕ) (u : Words) → EnvAt g arena ss env → Stands g arena s u → EnvAt g arena (ss ++ s ∷ []) (env ++ u ∷ [])
 env-more g arena [] [] s u e x = (x, tt)
 env-more g arena [] (w ∷ env) s u e x = absurd e
 env-more g arena (t ∷ ss) [] s u e x = absurd e
 env-more g arena (t ∷ ss) (w ∷ env) s u e x = (e .0, env-more g arena ss env s u (e .1) x)
 
-env-get : (g : Grammar) (arena : Words) (ss : List ℕ) (env : Env) (x : ℕ) → EnvAt g arena ss env → x < length ss → (u : Words) × (getElem? env x ≡ some u) × Stands g arena (getD ss x 0) u
+pub env-get : (g : Grammar) (arena : Words) (ss : List ℕ) (env : Env) (x : ℕ) → EnvAt g arena ss env → x < length ss → (u : Words) × (getElem? env x ≡ some u) × Stands g arena (getD ss x 0) u
 env-get g arena [] env x e h = absurd (omega arith)
 env-get g arena (s ∷ ss) [] x e h = absurd e
 env-get g arena (s ∷ ss) (w ∷ env) zero e h = (w, refl, e .0)
 env-get g arena (s ∷ ss) (w ∷ env) (suc x) e h = env-get g arena ss env x (e .1) (omega arith)
 
-env-past : (env : Env) (x : ℕ) → length env ≤ x → getElem? env x ≡ none
+pub env-past : (env : Env) (x : ℕ) → length env ≤ x → getElem? env x ≡ none
 env-past [] x h = refl
 env-past (w ∷ env) zero h = absurd (omega arith)
 env-past (w ∷ env) (suc x) h = env-past env x (omega arith)
 
-total-more : (env : Env) (u : Words) → total (env ++ u ∷ []) ≡ total env + size u
+pub total-more : (env : Env) (u : Words) → total (env ++ u ∷ []) ≡ total env + size u
 unfolding total
 total-more [] u = omega arith
 total-more (w ∷ env) u = let h = total-more env u in omega arith
 
-starts-length : (v : Vars) → Sound v → length (startsOf v) ≡ v .n
+pub starts-length : (v : Vars) → Sound v → length (startsOf v) ≡ v .n
 starts-length v s = omega (arith, length-take (v .n) (v .starts), s .room, s .few)
 
-starts-more : (v : Vars) (start : ℕ) → Sound v → v .n < 16 → startsOf (bound v start) ≡ startsOf v ++ start ∷ []
+pub starts-more : (v : Vars) (start : ℕ) → Sound v → v .n < 16 → startsOf (bound v start) ≡ startsOf v ++ start ∷ []
 starts-more v start s h = ap (λ n. take n (set (v .starts) (v .n) start)) (add-one (v .n)) ∙ take-suc-set (v .starts) (v .n) start (omega (arith, s .room))
 
-sound-more : (v : Vars) (start : ℕ) → Sound v → v .n < 16 → Sound (bound v start)
+pub sound-more : (v : Vars) (start : ℕ) → Sound v → v .n < 16 → Sound (bound v start)
 sound-more v start s h = record { room = length-set (v .starts) (v .n) start ∙ s .room; few = omega arith }
 
 pub start-there : (v : Vars) (x i s : ℕ) → i ≡ x → i < v .n → i < 16 → s ≡ getD (v .starts) i 0 → s ≡ startAt v x
@@ -87,7 +87,7 @@ pub start-over : (v : Vars) (x i : ℕ) → i ≡ x → i < v .n → 16 ≤ i �
 unfolding startAt
 start-over v x i e h k = rw (lt-ltb x (v .n) (omega arith), le-ltb x 16 (omega arith))
 
-start-is : (v : Vars) (x : ℕ) → Sound v → x < v .n → startAt v x ≡ getD (startsOf v) x 0
+pub start-is : (v : Vars) (x : ℕ) → Sound v → x < v .n → startAt v x ≡ getD (startsOf v) x 0
 unfolding startAt
 start-is v x s h = rw (lt-ltb x (v .n) h, lt-ltb x 16 (omega (arith, s .few))) (sym (getD-take (v .n) (v .starts) x 0 h))
 
@@ -145,6 +145,7 @@ pub record Going (pairs arena part : Words) (at : ℕ) (vars : Vars) (held₀ : 
   pub near : p ≤ 8192 * i
   pub sound : Sound env
   pub fits : held ≤ 6144
+  pub grows : held₀ ≤ held
   run : (strict : Bool) (g : Grammar) (ws : Words) (ts : List ℕ) (b : Bindings) (left : ℕ) → Stage g arena part at vars held₀ ws ts b → (match strict g (shapes pairs) ws b left ≡ stuck → ⊥)
       → Run strict g pairs arena part at env held i p ws b left
 
@@ -154,6 +155,7 @@ going-start pairs arena part at vars held s l = record {
   near = omega arith;
   sound = s;
   fits = l;
+  grows = omega arith;
   run = λ strict g ws ts b left st ns. let z : at + 0 ≡ at = omega arith in record { inside = omega arith; rest = ws; types = ts; bound-to = b .env; stage = rw z st; same-run = refl };
 }
 
@@ -228,10 +230,10 @@ stage-due : {g : Grammar} {arena x : Words} {a : ℕ} {env : Vars} {held : ℕ} 
     → Stage g arena x a env held rest types b → Stage g arena x a env held rest (t ∷ more) b
 stage-due t more e st = rw e at st
 
-env-as : (g : Grammar) (arena : Words) {ss ss′ : List ℕ} (env : Env) → ss ≡ ss′ → EnvAt g arena ss′ env → EnvAt g arena ss env
+pub env-as : (g : Grammar) (arena : Words) {ss ss′ : List ℕ} (env : Env) → ss ≡ ss′ → EnvAt g arena ss′ env → EnvAt g arena ss env
 env-as g arena env e x = rw e x
 
-stands-as : {g : Grammar} {arena : Words} {s s′ : ℕ} {u : Words} → s ≡ s′ → Stands g arena s′ u → Stands g arena s u
+pub stands-as : {g : Grammar} {arena : Words} {s s′ : ℕ} {u : Words} → s ≡ s′ → Stands g arena s′ u → Stands g arena s u
 stands-as e x = rw e x
 
 pub two-marked : (g : Grammar) (rest : Words) (t v : ℕ) (below : Words) → rest ≡ t ∷ v ∷ below → drop 2 (marked g rest) ≡ marked g below
@@ -259,7 +261,7 @@ module _ (pairs arena part : Words) (at : ℕ) (vars : Vars) (held₀ : ℕ) (en
       → ((strict : Bool) (g : Grammar) (ws : Words) (b : Bindings) (left : ℕ) → (match strict g (shapes pairs) ws b left ≡ stuck → ⊥) → Run strict g pairs arena part at env held i p ws b left
       → Means g arena (b .besides) v env held left (match strict g (shapes pairs) ws b left))
       → MatchAnswers pairs arena part at vars held₀ (record { verdict = v; vars = env; live = held })
-  answered v f strict = record { sound = go .sound; fits = go .fits; meant = λ g ws ts b left st ns. f strict g ws b left ns (go .run strict g ws ts b left st ns) }
+  answered v f strict = record { sound = go .sound; fits = go .fits; grows = go .grows; meant = λ g ws ts b left st ns. f strict g ws b left ns (go .run strict g ws ts b left st ns) }
 
   pub going-end : length pairs - i < 2 → MatchAnswers pairs arena part at vars held₀ (record { verdict = Matches; vars = env; live = held })
   going-end h = answered Matches (λ strict g ws b left ns r. (
@@ -326,6 +328,7 @@ module _ (pairs arena part : Words) (at : ℕ) (vars : Vars) (held₀ : ℕ) (en
           near = omega (arith, go .near);
           sound = go .sound;
           fits = go .fits;
+          grows = go .grows;
           run = λ strict g ws ts b left st ns. stepped strict g ws b left (go .run strict g ws ts b left st ns);
         }
           where
@@ -405,6 +408,7 @@ module _ (pairs arena part : Words) (at : ℕ) (vars : Vars) (held₀ : ℕ) (en
             near = omega (arith, go .near);
             sound = go .sound;
             fits = go .fits;
+            grows = go .grows;
             run = λ strict g ws ts b left st ns. stepped strict g ws b left ns (go .run strict g ws ts b left st ns);
           }
             where
@@ -483,6 +487,7 @@ module _ (pairs arena part : Words) (at : ℕ) (vars : Vars) (held₀ : ℕ) (en
           near = omega (arith, go .near);
           sound = sound-more env start (go .sound) k;
           fits = h;
+          grows = omega (arith, go .grows);
           run = λ strict g ws ts b left st ns. stepped strict g ws b left (go .run strict g ws ts b left st ns);
         }
           where

@@ -5,10 +5,10 @@ use mathlib.Core.Bool.{Bool, true, false, not}
 use mathlib.Core.List.{List, [], _∷_}
 use native.Mathlib.Omega.{arith}
 use native.Mathlib.Nat.{mul-div-le, div-le-self}
-use lib.ListN.{getD}
+use lib.ListN.{getD, set, length-set}
 use lib.Dec.{ltb, leb, eqb}
 use borrow.Author.Tests.{le-leb, lt-leb, eq-eqb, ne-eqb, leb-true, leb-false, ltb-true, ltb-false}
-use Rattle.words.specs.Reader.{pick}
+use Rattle.words.specs.Reader.{Words, pick}
 use Rattle.grammar.specs.Limits.{greatestNumber}
 use Rattle.rules.specs.Rules.{Operation, add, subtract, quotient, remainder, round, truncate, equal, greater, Applied, rule, operation, nothing, applied, operations}
 use Rattle.meaning.specs.Computation.{Result, ok, stop, stuck, thenOf, stopUnless}
@@ -16,6 +16,7 @@ use Rattle.meaning.specs.Operations.{rounded, truncated, inRange, divisor, with
 use Rattle.rewrite.specs.declared.operations.Number.{Number}
 use Rattle.rewrite.specs.declared.operations.Number.the-variants.{Is, OutOfRange}
 use Rattle.rewrite.specs.Operating.{inRangeAs, argumentsOf, MeansNumber, Operated, Compared}
+use Rattle.rewrite.specs.Arena.{Computed}
 
 -- THE NUMBERS OF THE OPERATIONS
 
@@ -199,3 +200,12 @@ quotient-fits x y = mul-div-le x y
 
 pub quotient-small : (x y : ℕ) → x / y ≤ x
 quotient-small x y = div-le-self x y
+
+-- IN WORK MEMORY
+
+module _ (w : Words) (base op b a : ℕ) (r : Number) (ea : a ≡ getD w (base + 1) 0) (f : Operated op a b r) where
+  pub computed-is : (v : ℕ) → r ≡ Is v → Computed w (set w (base + 1) v) base op b 0
+  computed-is v e = record { long = length-set w (base + 1) v; computed = λ o left eo ns. (v, (rw (ea, e) at f) o left eo ns, refl) }
+
+  pub computed-out : r ≡ OutOfRange → Computed w w base op b 45
+  computed-out e = record { long = refl; computed = λ o left eo ns. ((rw (ea, e) at f) o left eo ns, refl) }

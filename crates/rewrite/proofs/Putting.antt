@@ -5,7 +5,7 @@ use mathlib.Core.List.{List, [], _∷_, _++_, append-assoc}
 use native.Mathlib.Omega.{arith}
 use native.Mathlib.Numerals.{add-one, add-two}
 use lib.ListN.{length, getD, take, drop, length-append, length-take, length-drop, take-append-drop}
-use lib.Seq.{paste, length-paste, take-paste, take-at, drop-at, take-take, take-add, take-all, drop-drop, drop-nil, take-nil, getD-drop, getD-take, length-take-le}
+use lib.Seq.{paste, length-paste, take-paste, take-at, drop-at, take-take, take-add, take-all, drop-drop, drop-nil, take-nil, length-take-le}
 use Rattle.words.specs.Reader.{Words}
 use Rattle.grammar.specs.Grammar.{Grammar}
 use Rattle.grammar.specs.Tables.{Tables}
@@ -16,7 +16,7 @@ use Rattle.rewrite.specs.Marked.{typeIn, sizeIn, marked, unmarked}
 use Rattle.rewrite.specs.Post.{span, Unfinished, TreeMarked, Ready, InPlace}
 use Rattle.rewrite.proofs.Marks.{marked-length, marked-append}
 use Rattle.rewrite.proofs.Marking.{Child, child-of}
-use Rattle.rewrite.proofs.Spans.{drop-take, span-later, span-length, suffix-trees, suffix-size, first-size}
+use Rattle.rewrite.proofs.Spans.{drop-take, span-later, span-length, word-there, suffix-trees, suffix-size, first-size}
 use Rattle.rewrite.proofs.Same.{unmark}
 
 -- MARKS OF A PART
@@ -110,9 +110,7 @@ module _ (g : Grammar) (w : Words) (base place end from n t : ℕ) (scope ws : W
 
   node-size : sizeIn (getD w place 0) ≡ size (firstTree g rest-words)
   node-size =
-      let z : place + 0 ≡ place = omega arith in
-      let here : getD w place 0 ≡ getD (marked g rest-words) 0 0 =
-      ap (λ k. getD w k 0) (sym z) ∙ sym (getD-drop place w 0 0) ∙ sym (getD-take (end - place) (drop place w) 0 0 (omega arith)) ∙ ap (λ l. getD l 0 0) stands-rest in
+      let here = word-there w (marked g rest-words) place (end - place) stands-rest (omega arith) in
       let s = first-size g rest-words 1 in
       let u = suffix-size scope (r .half) (place - base) (r .even) in
       child-of g (there .0) (there .1) rest-words (getD w place 0) types (omega (arith, r .few)) (there .2) here .counted

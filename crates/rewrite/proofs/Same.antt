@@ -4,9 +4,8 @@ use mathlib.Core.Path.{_≡_, refl, sym, ap, ap₂, _∙_}
 use mathlib.Core.List.{List, [], _∷_, _++_, append-nil}
 use mathlib.Core.Bool.{Bool, true, false}
 use native.Mathlib.Omega.{arith}
-use native.Mathlib.Nat.{add-zero}
 use lib.ListN.{length, getD, take, drop, length-append}
-use lib.Seq.{take-at, getD-drop, getD-take}
+use lib.Seq.{take-at}
 use Rattle.words.specs.Reader.{Words}
 use Rattle.words.specs.Views.{equalWords}
 use Rattle.words.proofs.Stretches.{equal-true, equal-alike}
@@ -18,7 +17,7 @@ use Rattle.rewrite.specs.Vars.{Stands}
 use Rattle.rewrite.specs.Post.{SameTree}
 use Rattle.rewrite.proofs.Marks.{mark-type, marked-append, marked-length}
 use Rattle.rewrite.proofs.Marking.{type-there, Child, child-of}
-use Rattle.rewrite.proofs.Spans.{first-size}
+use Rattle.rewrite.proofs.Spans.{word-there, first-size}
 
 -- THE TREE UNDER THE MARKS
 
@@ -45,15 +44,11 @@ marked-first {g} {t} {ts} ws m r e =
 
 -- THE SIZE AT HAND
 
-first-word : (ws x : Words) (n : ℕ) → take n ws ≡ x → 0 < n → getD ws 0 0 ≡ getD x 0 0
-first-word ws x n e h = sym (getD-take n ws 0 0 h) ∙ ap (λ l. getD l 0 0) e
-
 stands-child : (g : Grammar) (arena : Words) (start : ℕ) (u : Words) (w : ℕ) → length g ≤ 64 → (s : Stands g arena start u) → w ≡ getD arena start 0 → Child g (s .type) [] u w
 stands-child g arena start u w l s e =
     let r = s .tree .typed in
     let f = whole-first u r in
-    let here : getD arena start 0 ≡ getD (marked g u) 0 0 =
-    ap (λ n. getD arena n 0) (sym (add-zero start)) ∙ sym (getD-drop start arena 0 0) ∙ first-word (drop start arena) (marked g u) (length u) (s .words) (omega (arith, trees-even r, tree-some u r)) in
+    let here = word-there arena (marked g u) start (length u) (s .words) (omega (arith, trees-even r, tree-some u r)) in
     child-of g (s .type) [] u w l (rw f (omega (arith, s .tree .nodes))) r (e ∙ here)
 
 pub stands-size : (g : Grammar) (arena : Words) (start : ℕ) (u : Words) (w : ℕ) → length g ≤ 64 → Stands g arena start u → w ≡ getD arena start 0 → sizeIn w ≡ size u

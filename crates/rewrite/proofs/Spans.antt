@@ -40,6 +40,10 @@ span-length w base top h = omega (arith, length-take (top - base) (drop base w),
 pub span-pair : (w : Words) (p top : ℕ) → p + 2 ≤ top → top ≤ length w → span w p top ≡ getD w p 0 ∷ getD w (p + 1) 0 ∷ span w (p + 2) top
 span-pair w p top h l = let z : top - p ≡ suc (suc (top - (p + 2))) = omega arith in rw (z, drop-pair w p (omega arith))
 
+-- the first word of a stretch
+pub word-there : (w x : Words) (at n : ℕ) → take n (drop at w) ≡ x → 0 < n → getD w at 0 ≡ getD x 0 0
+word-there w x at n e h = let z : at + 0 ≡ at = omega arith in ap (λ k. getD w k 0) (sym z) ∙ sym (getD-drop at w 0 0) ∙ sym (getD-take n (drop at w) 0 0 h) ∙ ap (λ l. getD l 0 0) e
+
 -- SUFFIXES OF TREES
 
 pub suffix-trees : {g : Grammar} {ts : List ℕ} (ws : Words) → Trees g ts ws → (h q : ℕ) → q ≡ 2 * h → q ≤ length ws → (us : List ℕ) × Trees g us (drop q ws)

@@ -3,3 +3,4 @@ pub mod Post
 pub mod Vars
 pub mod Matching
 pub mod Operating
+pub mod Arena

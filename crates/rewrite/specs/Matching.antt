@@ -54,6 +54,7 @@ Means g arena besides (Stops n) vars live left m = m ≡ stop n left
 pub record Answers (arena part : Words) (at : ℕ) (vars : Vars) (live : ℕ) (f : Grammar → Words → Bindings → Comp (Option Bindings)) (r : Matched) : Type 0 where
   pub sound : Sound (r .vars)
   pub fits : r .live ≤ mostLive
+  pub grows : live ≤ r .live
   pub meant : (g : Grammar) (ws : Words) (ts : List ℕ) (b : Bindings) (left : ℕ) → Stage g arena part at vars live ws ts b → (f g ws b left ≡ stuck → ⊥)
       → Means g arena (b .besides) (r .verdict) (r .vars) (r .live) left (f g ws b left)
 

@@ -17,9 +17,10 @@ ghost use Rattle.rewrite.specs.Vars.{bound, startAt, Sound};
 ghost use Rattle.rewrite.specs.Matching.{newMatched, MatchAnswers, FirstAnswers};
 ghost use Rattle.rewrite.specs.declared.Verdict as Verdict;
 
+pub mod arena;
 pub mod operations;
 
-const MOST_LIVE: usize = 6144;
+pub const MOST_LIVE: usize = 6144;
 
 // The variables of an open call: where their trees stand, the first n of 16.
 pub struct Vars {
@@ -161,7 +162,7 @@ pub fn put_in_place(
 // How deep the node at q of the part's tree is nested: from the root down, trees that end before it are stepped over.
 pub fn nesting_at(heads: &[u32; HEADS], part: &[u32], q: usize) -> usize
     requires { ⌜ q < length (now part) ⌝ }
-    ensures { λ r. ⌜ NestingOf (now (heads .entry)) (now (part .entry)) q r ⌝ }
+    ensures { λ r. ⌜ NestingOf (now (heads .entry)) (now (part .entry)) q r × (r ≤ q + 2) ⌝ }
 {
     let mut p: usize = 0;
     let mut above: usize = 0;
@@ -201,7 +202,7 @@ pub fn write_result(part: &[u32], result: &mut [u32])
 }
 
 // One variable more.
-fn bind(vars: Vars, start: u32) -> Vars
+pub fn bind(vars: Vars, start: u32) -> Vars
     requires { ⌜ vars .n < 16 ⌝ }
     ensures { λ r. ⌜ r ≡ bound vars start ⌝ }
 {
@@ -249,7 +250,7 @@ fn place(x: u32) -> usize
 }
 
 // Where the variable's tree stands; 2^32 - 1, where none can stand, if it is not bound.
-fn start_of(vars: Vars, x: u32) -> usize
+pub fn start_of(vars: Vars, x: u32) -> usize
     ensures { λ r. ⌜ (r ≡ startAt vars x) × (r < 2 ^ 32) ⌝ }
 {
     let i = words::wide(x);

@@ -1,6 +1,6 @@
 -- What the layout's readers read, where they refuse nothing: types as a grammar has them, pairs that end where the next field begins. Assumes nothing.
 use Prim.Native.Nat.{ℕ, zero, suc, _+_, _-_, _*_, _≤_, _<_}
-use mathlib.Core.Path.{_≡_, sym, ap, _∙_, subst₂}
+use mathlib.Core.Path.{_≡_, sym, ap, _∙_, subst, subst₂}
 use mathlib.Core.List.{List, []}
 use mathlib.Core.Bool.{Bool, true, false}
 use mathlib.Core.Option.{Option, none, some}
@@ -16,6 +16,7 @@ use Rattle.tree.proofs.Trees.{Even, even-of}
 use Rattle.rules.specs.Limits.{mostParameters, mostPairs, mostVariables}
 use Rattle.rules.specs.Rules.{Piece, Part, Rule, shapes}
 use Rattle.rules.specs.Layout.{Head, PartAt, deconstructAt, constructAt, conditionAt, bit, onlyIf, strategyOf, stretch, field, pairs, variableAt, deconstructFields, conditionFields, partOf, reach, replacement, typeField, searchFields, constructFields, partAt, part, parameters, headFields, head, parts, rule}
+use Rattle.rules.specs.Views.{pairsAt}
 use Rattle.rules.proofs.Tested.{no-true}
 
 -- PAIRS
@@ -24,17 +25,27 @@ use Rattle.rules.proofs.Tested.{no-true}
 pub record Stretch (ws : Words) (p next : ℕ) : Type 0 where
   pub even : Even (stretch ws p)
   pub ends : suc p + length (stretch ws p) ≡ next
+  pub here : pairsAt ws p ≡ stretch ws p
 
-pub pairs-value : (ws : Words) (at : ℕ) {p next : ℕ} → pairs ws at ≡ value p next → (p ≡ at) × Stretch ws at next
-unfolding pairs field stretch
-pairs-value ws at {p} {next} e =
+-- pairs that are read give where their count stands, end where it says, and are few
+pub pairs-extent : (ws : Words) (at : ℕ) {p next : ℕ} → pairs ws at ≡ value p next → (p ≡ at) × (next ≡ at + 1 + 2 * getD ws at 0) × (getD ws at 0 ≤ mostPairs) × (next ≤ length ws)
+unfolding pairs field
+pairs-extent ws at {p} {next} e =
     let a = then-value (field ws 1 mostPairs at) (λ k q. pick (leb (q + 2 * k) (length ws)) (value at (q + 2 * k)) (refused 20 (length ws))) e in
     let b = pick-value (leb (a .1 + 2 * a .0) (length ws)) at p (a .1 + 2 * a .0) 20 (length ws) next (a .3) in
     let c = in-value 20 21 ws 1 mostPairs at (a .2) in
-    let d = leb-true (a .1 + 2 * a .0) (length ws) (b .0) in
-    let n : length (take (2 * getD ws at 0) (drop (at + 1) ws)) ≡ 2 * getD ws at 0 =
-    omega (arith, c .0, c .1, length-take (2 * getD ws at 0) (drop (at + 1) ws), length-drop (at + 1) ws) in
-    (sym (b .1), record { even = even-of (take (2 * getD ws at 0) (drop (at + 1) ws)) (omega (arith, n)); ends = omega (arith, n, b .2, c .0, c .1) })
+    (sym (b .1), omega (arith, b .2, c .0, c .1), omega (arith, c .0, c .3), omega (arith, b .2, leb-true (a .1 + 2 * a .0) (length ws) (b .0)))
+
+pub pairs-at : (ws : Words) (p : ℕ) {q next : ℕ} → pairs ws p ≡ value q next → pairsAt ws p ≡ stretch ws p
+unfolding pairsAt
+pairs-at ws p e = rw e
+
+pub pairs-value : (ws : Words) (at : ℕ) {p next : ℕ} → pairs ws at ≡ value p next → (p ≡ at) × Stretch ws at next
+unfolding stretch
+pairs-value ws at {p} {next} e =
+    let a = pairs-extent ws at e in
+    let n : length (take (2 * getD ws at 0) (drop (at + 1) ws)) ≡ 2 * getD ws at 0 = omega (arith, a .1, a .3, length-take (2 * getD ws at 0) (drop (at + 1) ws), length-drop (at + 1) ws) in
+    (a .0, record { even = even-of (take (2 * getD ws at 0) (drop (at + 1) ws)) (omega (arith, n)); ends = omega (arith, n, a .1); here = pairs-at ws at e })
 
 -- PARTS
 
@@ -122,19 +133,31 @@ record Parameters (b : Bool) (ps : List ℕ) : Type 0 where
   few : length ps ≤ mostVariables
   bare : b ≡ false → ps ≡ []
 
-parameters-value : (types : ℕ) (ws : Words) → types ≤ mostTypes → (m at : ℕ) (ps : List ℕ) (next : ℕ) → parameters types ws m at ≡ value ps next → Parameters (bit 1 m) ps
-unfolding parameters field
-parameters-value types ws h m at ps next = go (bit 1 m)
-  where
-    go : (b : Bool) → onlyIf b [] (_>>=_ (field ws 1 mostParameters) (λ k. many k (typeField types ws))) at ≡ value ps next → Parameters b ps
-    go true e =
-        let a = then-value (field ws 1 mostParameters at) (λ k. many k (typeField types ws)) e in
-        let n = in-value 20 21 ws 1 mostParameters at (a .2) in
-        let l = many-length (typeField types ws) (a .0) (a .1) ps next (a .3) in
-        record { low = low-many types ws h (a .0) (a .1) ps next (a .3); few = omega (arith, n .3); bare = λ q. no-true (sym q) }
-    go false e =
-        let z : [] ≡ ps = cc in
-        record { low = rw (← z) tt; few = rw (← z) (omega arith); bare = λ q. sym z }
+module _ (types : ℕ) (ws : Words) (m at : ℕ) (ps : List ℕ) (next : ℕ) where
+  parameters-few : parameters types ws m at ≡ value ps next → length ps ≤ mostParameters
+  unfolding parameters field
+  parameters-few = go (bit 1 m)
+    where
+      go : (b : Bool) → onlyIf b [] (_>>=_ (field ws 1 mostParameters) (λ k. many k (typeField types ws))) at ≡ value ps next → length ps ≤ mostParameters
+      go true e =
+          let a = then-value (field ws 1 mostParameters at) (λ k. many k (typeField types ws)) e in
+          omega (arith, in-value 20 21 ws 1 mostParameters at (a .2) .3, many-length (typeField types ws) (a .0) (a .1) ps next (a .3))
+      go false e = let z : [] ≡ ps = cc in rw (← z) (omega arith)
+
+  parameters-value : types ≤ mostTypes → parameters types ws m at ≡ value ps next → Parameters (bit 1 m) ps
+  unfolding parameters
+  parameters-value h p = go (bit 1 m) p
+    where
+      few : length ps ≤ mostVariables
+      few = omega (arith, parameters-few p)
+
+      go : (b : Bool) → onlyIf b [] (_>>=_ (field ws 1 mostParameters) (λ k. many k (typeField types ws))) at ≡ value ps next → Parameters b ps
+      go true e =
+          let a = then-value (field ws 1 mostParameters at) (λ k. many k (typeField types ws)) e in
+          record { low = low-many types ws h (a .0) (a .1) ps next (a .3); few = few; bare = λ q. no-true (sym q) }
+      go false e =
+          let z : [] ≡ ps = cc in
+          record { low = rw (← z) tt; few = few; bare = λ q. sym z }
 
 pub record HeadTold (ws : Words) (at : ℕ) (h : Head) : Type 0 where
   pub target : h .target < mostTypes
@@ -147,17 +170,59 @@ pub record HeadTold (ws : Words) (at : ℕ) (h : Head) : Type 0 where
 abbrev headOf : ℕ → ℕ → ℕ → List ℕ → Head
 headOf m t r ps = record { map = m; target = t; strategy = strategyOf r; parameters = ps }
 
-pub head-value : (types : ℕ) (ws : Words) → types ≤ mostTypes → (at : ℕ) (h : Head) (next : ℕ) → head types ws at ≡ value h next → HeadTold ws at h
-unfolding head headFields field
-head-value types ws few at h next e =
+-- the fields that a head was read from: its map, its target, its reach and its parameters
+record HeadFrom (types : ℕ) (ws : Words) (at : ℕ) (h : Head) (next : ℕ) : Type 0 where
+  m : ℕ
+  t : ℕ
+  r : ℕ
+  ps : List ℕ
+  n₀ : ℕ
+  n₁ : ℕ
+  n₂ : ℕ
+  map-read : field ws 0 15 at ≡ value m n₀
+  target-read : typeField types ws n₀ ≡ value t n₁
+  reach-read : reach ws m n₁ ≡ value r n₂
+  parameters-read : parameters types ws m n₂ ≡ value ps next
+  is : headOf m t r ps ≡ h
+
+head-from : (types : ℕ) (ws : Words) (at : ℕ) (h : Head) (next : ℕ) → head types ws at ≡ value h next → HeadFrom types ws at h next
+unfolding head headFields
+head-from types ws at h next e =
     let a = then-value (field ws 0 15 at) (λ m. _>>=_ (typeField types ws) (λ t. headFields types ws m t)) e in
     let b = then-value (typeField types ws (a .1)) (λ t. headFields types ws (a .0) t) (a .3) in
     let c = then-value (reach ws (a .0) (b .1)) (λ r. _>>=_ (parameters types ws (a .0)) (λ ps. return (headOf (a .0) (b .0) r ps))) (b .3) in
     let d = then-value (parameters types ws (a .0) (c .1)) (λ ps. return (headOf (a .0) (b .0) (c .0) ps)) (c .3) in
-    let y : headOf (a .0) (b .0) (c .0) (d .0) ≡ h = cc (d .3) in
-    let q = parameters-value types ws few (a .0) (c .1) (d .0) (d .1) (d .2) in
-    let f = in-value 20 21 ws 0 15 at (a .2) in
-    rw y at (told (a .0) (b .0) (c .0) (d .0) (type-value types ws few (a .1) (b .2)) q (f .4) (f .0))
+    from (a .0) (b .0) (c .0) (d .0) (a .1) (b .1) (c .1) (d .1) (a .2) (b .2) (c .2) (d .2) (cc (d .3)) (cc (d .3))
+  where
+    from : (m t r : ℕ) (ps : List ℕ) (n₀ n₁ n₂ n₃ : ℕ) → field ws 0 15 at ≡ value m n₀ → typeField types ws n₀ ≡ value t n₁ → reach ws m n₁ ≡ value r n₂ → parameters types ws m n₂ ≡ value ps n₃
+        → headOf m t r ps ≡ h → n₃ ≡ next → HeadFrom types ws at h next
+    from m t r ps n₀ n₁ n₂ n₃ e₀ e₁ e₂ e₃ y z = record {
+      m = m;
+      t = t;
+      r = r;
+      ps = ps;
+      n₀ = n₀;
+      n₁ = n₁;
+      n₂ = n₂;
+      map-read = e₀;
+      target-read = e₁;
+      reach-read = e₂;
+      parameters-read = e₃ ∙ ap (value ps) z;
+      is = y;
+    }
+
+pub head-few : (types : ℕ) (ws : Words) (at : ℕ) (h : Head) (next : ℕ) → head types ws at ≡ value h next → length (h .parameters) ≤ mostParameters
+head-few types ws at h next e =
+    let a = head-from types ws at h next e in
+    subst (λ x. length (x .parameters) ≤ mostParameters) (a .is) (parameters-few types ws (a .m) (a .n₂) (a .ps) next (a .parameters-read))
+
+pub head-value : (types : ℕ) (ws : Words) → types ≤ mostTypes → (at : ℕ) (h : Head) (next : ℕ) → head types ws at ≡ value h next → HeadTold ws at h
+unfolding field
+head-value types ws few at h next e =
+    let a = head-from types ws at h next e in
+    let q = parameters-value types ws (a .m) (a .n₂) (a .ps) next few (a .parameters-read) in
+    let f = in-value 20 21 ws 0 15 at (a .map-read) in
+    subst (HeadTold ws at) (a .is) (told (a .m) (a .t) (a .r) (a .ps) (type-value types ws few (a .n₀) (a .target-read)) q (f .4) (f .0))
   where
     told : (m t r : ℕ) (ps : List ℕ) → t < mostTypes → Parameters (bit 1 m) ps → at < length ws → m ≡ getD ws at 0 → HeadTold ws at (headOf m t r ps)
     told m t r ps l q i j = record { target = l; low = q .low; few = q .few; there = i; map = j; bare = q .bare }

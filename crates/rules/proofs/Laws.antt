@@ -52,7 +52,7 @@ module _ (ws : Words) (at : ℕ) (g : Got) (e : g ≡ got (field ws 1 mostPairs 
     pairs-there q h = let t = pairs-count in rw (q, read-word (field ws 1 mostPairs at) g e b, le-leb (next + 2 * k) (length ws) (omega arith))
 
 -- where pairs pass, their value is where their count stands
-pairs-passed : (ws : Words) (at : ℕ) (c : Check) → c ≡ answer (pairs ws at) → {next : ℕ} → c ≡ Passed next → pairs ws at ≡ value at next
+pub pairs-passed : (ws : Words) (at : ℕ) (c : Check) → c ≡ answer (pairs ws at) → {next : ℕ} → c ≡ Passed next → pairs ws at ≡ value at next
 unfolding pairs
 pairs-passed ws at c d {next} e =
     let u = answer-passed (pairs ws at) c d e in
@@ -60,7 +60,7 @@ pairs-passed ws at c d {next} e =
     let w = pick-value (leb (v .1 + 2 * v .0) (length ws)) at (u .0) (v .1 + 2 * v .0) 20 (length ws) next (v .3) in
     u .1 ∙ rw (← w .1)
 
-pairs-refused : (ws : Words) (at : ℕ) (c : Check) → c ≡ answer (pairs ws at) → {n p : ℕ} → c ≡ Refused n p → pairs ws at ≡ refused n p
+pub pairs-refused : (ws : Words) (at : ℕ) (c : Check) → c ≡ answer (pairs ws at) → {n p : ℕ} → c ≡ Refused n p → pairs ws at ≡ refused n p
 pairs-refused ws at c d e = answer-refused (pairs ws at) c d e
 
 -- THE FIELDS OF A PART

@@ -1,18 +1,21 @@
 -- What the code hands back of a reading: the paper's numbers and positions for each case of its enums. Assumes nothing: these are definitions.
-use Prim.Native.Nat.{ℕ, _-_}
-use mathlib.Core.List.{List}
+use Prim.Native.Nat.{ℕ, _-_, _≤_}
+use mathlib.Core.Path.{_≡_}
+use mathlib.Core.List.{List, []}
 use mathlib.Core.Bool.{Bool, true, false}
 use mathlib.Core.Option.{Option, none, some}
 use lib.ListN.{length}
-use Rattle.words.specs.Reader.{Read, value, refused}
+use Rattle.words.specs.Reader.{Words, pick, Read, value, refused, Reader, many, accepted}
 use Rattle.words.specs.declared.Got.{Got}
 use Rattle.words.specs.declared.Got.the-variants.{Word, Bad}
 use Rattle.rules.specs.Rules as Rules
-use Rattle.rules.specs.Rules.{rootOnly, firstMatch, exhaustive}
+use Rattle.rules.specs.Limits.{mostParameters, mostParts}
+use Rattle.rules.specs.Rules.{rootOnly, firstMatch, exhaustive, Piece, Rule, shapes, pieces}
 use Rattle.rules.specs.Layout as Layout
-use Rattle.rules.specs.Layout.{PartAt, deconstructAt, constructAt, conditionAt}
+use Rattle.rules.specs.Layout.{PartAt, deconstructAt, constructAt, conditionAt, bit, onlyIf, field}
 use Rattle.rules.specs.declared.Strategy.{Strategy}
 use Rattle.rules.specs.declared.Strategy.the-variants.{RootOnly, FirstMatch, Exhaustive}
+use Rattle.rules.specs.declared.Plan.{Plan}
 use Rattle.rules.specs.declared.HeadRead.{HeadRead}
 use Rattle.rules.specs.declared.HeadRead.the-variants.{Header, NoHead}
 use Rattle.rules.specs.declared.Part.{Part}
@@ -51,3 +54,23 @@ partAs (conditionAt negated p) = Condition (record { negated = negated; chain = 
 abbrev pub partRead : Read PartAt → PartRead
 partRead (value a next) = Found (record { part = partAs a; next = next })
 partRead (refused n p) = NoPart n p
+
+-- READING A BOOK THAT HAS PASSED
+
+-- the pairs whose count stands at p; none, if they are not there
+unfoldable pub pairsAt : Words → ℕ → Words
+pairsAt ws p = pick (accepted (Layout.pairs ws p)) (Layout.stretch ws p) []
+
+-- how many parts the map announces
+abbrev pub partCount : Words → ℕ → Reader ℕ
+partCount ws m = onlyIf (bit 2 m) 0 (field ws 1 mostParts)
+
+-- what a call needs of its rule, as the plan has it; `end` is where the parts end
+pub record Planned (types : ℕ) (ws : Words) (r : Rule) (p : Plan) : Type 0 where
+  pub target : p .target ≡ r .target
+  pub strategy : p .strategy ≡ strategyAs (r .strategy)
+  pub pattern : r .pattern ≡ shapes (pairsAt ws (p .pattern))
+  pub end : ℕ
+  pub parts : many (p .count) (Layout.part types ws) (p .first) ≡ value (r .parts) end
+  pub replacement : (ps : List Piece) → r .replacement ≡ some ps → ps ≡ pieces (pairsAt ws end)
+  pub few : length (r .parameters) ≤ mostParameters

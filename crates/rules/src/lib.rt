@@ -7,13 +7,25 @@ use words::Check;
 use words::Got;
 ghost use mathlib.Core.Path.{_≡_};
 ghost use mathlib.Core.Bool.{false};
-ghost use Prim.Native.Nat.{_≤_};
+ghost use Prim.Native.Nat.{ℕ, _≤_};
+ghost use lib.ListN.{length};
 ghost use Rattle.words.specs.Reader as Reader;
+ghost use Rattle.words.specs.Reader.{value};
 ghost use Rattle.words.specs.Views.{answer, got};
 ghost use Rattle.rules.specs.Layout as Layout;
-ghost use Rattle.rules.specs.Views.{partRead, searchedType, headRead, counted, strategyAs};
+ghost use Rattle.rules.specs.Rules.{Rule};
+ghost use Rattle.rules.specs.Views.{partRead, searchedType, headRead, counted, strategyAs, pairsAt, partCount, Planned};
 
 pub mod limits;
+
+// What a call needs of its rule: its target type, which nodes it tries, where the pattern's count stands, how many parts there are and where the first stands.
+pub struct Plan {
+    pub target: u32,
+    pub strategy: Strategy,
+    pub pattern: usize,
+    pub count: u32,
+    pub first: usize,
+}
 
 // Which nodes a rule tries.
 pub enum Strategy {
@@ -453,6 +465,75 @@ pub fn read_layout(types: u32, ws: &[u32]) -> Check
                         return Check::Refused(20, e);
                     }
                     Check::Passed(e)
+                }
+            }
+        }
+    }
+}
+
+// READING A BOOK THAT HAS PASSED
+
+// The pairs whose count stands at p; none, if they are not there.
+pub fn pairs_of(ws: &[u32], p: usize) -> &[u32]
+    ensures { λ r. ⌜ (now r ≡ pairsAt (now (ws .entry)) p) × (length (now r) ≤ 256) ⌝ }
+{
+    let c = pairs(ws, p);
+    match c {
+        Check::Refused(_, _) => &ws[..0],
+        Check::Passed(next) => &ws[p + 1..next],
+    }
+}
+
+// How many parts the map announces, and where the first stands.
+fn part_count(ws: &[u32], map: u32, at: usize) -> Got
+    ensures { λ r. ⌜ r ≡ got (partCount (now (ws .entry)) map at) ⌝ }
+{
+    if map / 4 % 2 != 1 {
+        return Got::Word(0, at);
+    }
+    field(ws, 1, MOST_PARTS, at)
+}
+
+// The plan of a rule that is not there.
+fn no_plan() -> Plan
+    ensures { λ r. ⌜ r .count ≤ 8 ⌝ }
+{
+    Plan {
+        target: 0,
+        strategy: Strategy::RootOnly,
+        pattern: 0,
+        count: 0,
+        first: 0,
+    }
+}
+
+// The plan of the rule whose map stands at a position.
+pub fn plan_of(types: u32, ws: &[u32], at: usize) -> Plan
+    requires { ⌜ 1 ≤ types ⌝ }
+    ensures { λ r. ⌜ (r .count ≤ 8) × ((rule : Rule) (next : ℕ) → Layout.rule types (now (ws .entry)) at ≡ value rule next → Planned types (now (ws .entry)) rule r) ⌝ }
+{
+    let h = read_head(types, ws, at);
+    match h {
+        HeadRead::NoHead(_, _) => no_plan(),
+        HeadRead::Header(head) => {
+            let c = pairs(ws, head.pattern);
+            match c {
+                Check::Refused(_, _) => no_plan(),
+                Check::Passed(e) => {
+                    let g = part_count(ws, head.map, e);
+                    match g {
+                        Got::Bad(_, _) => no_plan(),
+                        Got::Word(count, first) => {
+                            let strategy = head.strategy;
+                            Plan {
+                                target: head.target,
+                                strategy,
+                                pattern: head.pattern,
+                                count,
+                                first,
+                            }
+                        }
+                    }
                 }
             }
         }

@@ -422,7 +422,7 @@ fn some_typed(
 }
 
 // Where the n rules stand.
-fn rule_starts(types: u32, ws: &[u32], n: u32) -> [usize; STARTS]
+pub fn rule_starts(types: u32, ws: &[u32], n: u32) -> [usize; STARTS]
     requires { ⌜ (1 ≤ types) × (n ≤ 64) × (accepted (Reader.many n (Layout.rule types (now ws)) 1) ≡ true) ⌝ }
     ensures { λ r. ⌜ r ≡ sets (replicate 64 0) 0 (positions types (now (ws .entry)) n 1) ⌝ }
 {

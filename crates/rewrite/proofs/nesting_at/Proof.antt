@@ -45,7 +45,7 @@ add-end c = search needs
 
 -- src/lib.rt:178:13
 returns : tie.Need-returns Inv-loop μ-loop
-returns c = descent-none (c .before .before .before .before .before .before .args .heads .now) (c .before .before .before .before .before .before .args .part .now) (c .before .before .before .before .before .before .args .q) (c .before .before .before .before .loop .p) (c .before .before .before .before .loop .above) (c .before .before .before .before .loop .sequence) (c .before .before .before .before .loop .i) (c .before .before .before .before .loop .inv) _ (c .before .size-in .result) refl (c .before .size-in .ensures .0) (c .if1 .taken)
+returns c = (descent-none (c .before .before .before .before .before .before .args .heads .now) (c .before .before .before .before .before .before .args .part .now) (c .before .before .before .before .before .before .args .q) (c .before .before .before .before .loop .p) (c .before .before .before .before .loop .above) (c .before .before .before .before .loop .sequence) (c .before .before .before .before .loop .i) (c .before .before .before .before .loop .inv) _ (c .before .size-in .result) refl (c .before .size-in .ensures .0) (c .if1 .taken), omega arith)
 
 -- src/lib.rt:182:17
 add-i : tie.Need-add-i Inv-loop μ-loop
@@ -97,7 +97,7 @@ add-result c = search needs
 
 -- src/lib.rt:165:1
 returns-2 : tie.Need-returns-2 Inv-loop μ-loop
-returns-2 c = descent-end (c .before .before .before .before .args .heads .now) (c .before .before .before .before .args .part .now) (c .before .before .before .before .args .q) (c .before .before .loop .p) (c .before .before .loop .above) (c .before .before .loop .sequence) (c .before .before .loop .i) (c .before .before .loop .inv) (omega (arith, c .before .loop-test .left)) _ (c .level2 .ensures .0)
+returns-2 c = (descent-end (c .before .before .before .before .args .heads .now) (c .before .before .before .before .args .part .now) (c .before .before .before .before .args .q) (c .before .before .loop .p) (c .before .before .loop .above) (c .before .before .loop .sequence) (c .before .before .loop .i) (c .before .before .loop .inv) (omega (arith, c .before .loop-test .left)) _ (c .level2 .ensures .0), omega (arith, c .before .before .loop .inv .near, c .before .before .loop .inv .shallow, c .level2 .ensures .1))
 
 pub nesting-at-spec : {M : Type 1} → statement M
 nesting-at-spec =

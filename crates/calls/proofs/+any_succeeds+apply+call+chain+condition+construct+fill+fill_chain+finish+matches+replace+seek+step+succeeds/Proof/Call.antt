@@ -1,0 +1,146 @@
+use Prim.Native.Nat.{ℕ, zero, suc, _+_, _*_, _-_, _≤_, _<_}
+use mathlib.Core.Path.{_≡_, refl, sym, ap, _∙_, subst}
+use native.Mathlib.Omega.{arith}
+use borrow.Author.Needs.{needs}
+use lib.ListN.{length, take, drop, getD}
+use Rattle.calls.proofs.Rounds.{Calling, Searched, Placed, calling-start, calls-over, searched, placed}
+use Rattle.calls.proofs.call.Reads as call
+use Rattle.calls.proofs.replace.Reads as replace
+use Rattle.calls.proofs.seek.Reads as seek
+use Rattle.calls.proofs.+any_succeeds+apply+call+chain+condition+construct+fill+fill_chain+finish+matches+replace+seek+step+succeeds.Lts-call as call-lts
+use Rattle.calls.proofs.again.Reads as again-reads
+use Rattle.calls.proofs.calling.Reads as calling-reads
+use Rattle.rules.proofs.plan_of.Reads as plan-of-reads
+use Rattle.calls.proofs.+any_succeeds+apply+call+chain+condition+construct+fill+fill_chain+finish+matches+replace+seek+step+succeeds.Proof.Common.{call-at, replace-below, seek-below}
+
+abbrev pub call-claims : ℕ → call-lts.Claims
+call-claims t = (plan-of-reads.Asked, plan-of-reads.Learnt, again-reads.Asked, again-reads.Learnt, calling-reads.Asked, calling-reads.Learnt, seek-below t, seek.Post, replace-below t, replace.Post)
+
+abbrev pub call-Inv-loop : call-lts.InvT-loop
+call-Inv-loop heads rows types book starts w₀ at base n vars besides deep left plan repeats nodes₀ fuel₀ count₀ w nodes fuel count =
+    Calling heads rows types book starts w₀ at base n vars besides deep left w nodes fuel count
+
+abbrev pub call-μ-loop : call-lts.MeasureT-loop
+call-μ-loop heads rows types book starts w₀ at base n vars besides deep left plan repeats nodes₀ fuel₀ count₀ w nodes fuel count = fuel
+
+pub call-plan-of-requires : (t : ℕ) → call-lts.Need-plan-of-requires (call-claims t) (call-at t) call.Post call-Inv-loop call-μ-loop
+call-plan-of-requires t c κs = search needs
+
+pub call-again-requires : (t : ℕ) → call-lts.Need-again-requires (call-claims t) (call-at t) call.Post call-Inv-loop call-μ-loop
+call-again-requires t c κs = search needs
+
+pub call-loop-holds : (t : ℕ) → call-lts.Need-loop-holds (call-claims t) (call-at t) call.Post call-Inv-loop call-μ-loop
+call-loop-holds t c =
+    let a = c .before .before .before .before .args in
+    calling-start (a .heads .now) (a .rows .now) (a .types) (a .book .now) (a .starts .now) (a .w .now) (a .at) (a .base) (a .n) (a .vars) (a .besides) (a .deep) (a .left) (c .before .before .before .before .pre .1 .4)
+
+pub call-add-live : (t : ℕ) → call-lts.Need-add-live (call-claims t) (call-at t) call.Post call-Inv-loop call-μ-loop
+call-add-live t c = search needs
+
+pub call-calling-requires : (t : ℕ) → call-lts.Need-calling-requires (call-claims t) (call-at t) call.Post call-Inv-loop call-μ-loop
+call-calling-requires t c κs = search needs
+
+pub call-same-length : (t : ℕ) → call-lts.Need-same-length (call-claims t) (call-at t) call.Post call-Inv-loop call-μ-loop
+call-same-length t c = search needs
+
+pub call-returns : (t : ℕ) → call-lts.Need-returns (call-claims t) (call-at t) call.Post call-Inv-loop call-μ-loop
+call-returns t c =
+    let a = c .before .before .before .before .before .before .before .args in
+    let i = c .before .before .loop in
+    calls-over (a .heads .now) (a .rows .now) (a .types) (a .book .now) (a .starts .now) (a .w .now) (a .at) (a .base) (a .n) (a .vars) (a .besides) (a .deep) (a .left) (i .w) (i .nodes) (i .fuel) (i .count) (i .inv) (c .calling .result) (c .calling .ensures) (c .before .if1 .taken)
+
+pub call-mul-t29 : (t : ℕ) → call-lts.Need-mul-t29 (call-claims t) (call-at t) call.Post call-Inv-loop call-μ-loop
+call-mul-t29 t c = search needs
+
+pub call-add-t30 : (t : ℕ) → call-lts.Need-add-t30 (call-claims t) (call-at t) call.Post call-Inv-loop call-μ-loop
+call-add-t30 t c = search needs
+
+pub call-seek-requires : (t : ℕ) → call-lts.Need-seek-requires (call-claims t) (call-at t) call.Post call-Inv-loop call-μ-loop
+call-seek-requires t c κs = search needs
+
+-- what a search leads to
+call-searched : (t : ℕ) (c : call-lts.After-seek (call-claims t) (call-at t) call.Post call-Inv-loop call-μ-loop)
+    → let a = c .before .before .before .before .before .before .before .before .args in
+    let i = c .before .before .before .loop in
+    Searched (a .heads .now) (a .rows .now) (a .types) (a .book .now) (a .starts .now) (a .w .now) (a .at) (a .base) (a .n) (a .vars) (a .besides) (a .deep) (a .left) (i .nodes) (i .count) (c .seek .last .1 .1 .1 .1 .1 .0) (c .seek .result)
+call-searched t c =
+    let a = c .before .before .before .before .before .before .before .before .args in
+    let i = c .before .before .before .loop in
+    searched (a .heads .now) (a .rows .now) (a .types) (a .book .now) (a .starts .now) (a .w .now) (a .at) (a .base) (a .n) (a .vars) (a .besides) (a .deep) (a .left) (i .w) (i .nodes) (i .fuel) (i .count) (i .inv) (c .before .before .if1 .left) (c .before .before .before .before .before .plan-of .result) (c .before .before .before .before .before .plan-of .ensures .1) (c .seek .last .1 .1 .1 .1 .1 .0) (c .seek .result) (c .seek .ensures)
+
+pub call-enum-told : (t : ℕ) → call-lts.Need-enum-told (call-claims t) (call-at t) call.Post call-Inv-loop call-μ-loop
+call-enum-told t c = search needs
+
+pub call-calling-requires-2 : (t : ℕ) → call-lts.Need-calling-requires-2 (call-claims t) (call-at t) call.Post call-Inv-loop call-μ-loop
+call-calling-requires-2 t c κs = search needs
+
+pub call-same-length-2 : (t : ℕ) → call-lts.Need-same-length-2 (call-claims t) (call-at t) call.Post call-Inv-loop call-μ-loop
+call-same-length-2 t c = search needs
+
+pub call-returns-2 : (t : ℕ) → call-lts.Need-returns-2 (call-claims t) (call-at t) call.Post call-Inv-loop call-μ-loop
+call-returns-2 t c = call-searched t (c .before .before .before .before .before) .nowhere (c .calling2 .result) (c .before .enum-told .given .1) (c .calling2 .ensures)
+
+pub call-enum-known-found : (t : ℕ) → call-lts.Need-enum-known-found (call-claims t) (call-at t) call.Post call-Inv-loop call-μ-loop
+call-enum-known-found t c = search needs
+
+pub call-calling-requires-3 : (t : ℕ) → call-lts.Need-calling-requires-3 (call-claims t) (call-at t) call.Post call-Inv-loop call-μ-loop
+call-calling-requires-3 t c κs = search needs
+
+pub call-same-length-3 : (t : ℕ) → call-lts.Need-same-length-3 (call-claims t) (call-at t) call.Post call-Inv-loop call-μ-loop
+call-same-length-3 t c = search needs
+
+pub call-returns-3 : (t : ℕ) → call-lts.Need-returns-3 (call-claims t) (call-at t) call.Post call-Inv-loop call-μ-loop
+call-returns-3 t c = call-searched t (c .before .before .before .before .before .before) .stops (c .calling3 .result) (c .before .before .found .given .0 .0) (c .before .before .found .given .1) (c .calling3 .ensures)
+
+pub call-enum-known-found-2 : (t : ℕ) → call-lts.Need-enum-known-found-2 (call-claims t) (call-at t) call.Post call-Inv-loop call-μ-loop
+call-enum-known-found-2 t c = search needs
+
+pub call-replace-requires : (t : ℕ) → call-lts.Need-replace-requires (call-claims t) (call-at t) call.Post call-Inv-loop call-μ-loop
+call-replace-requires t c κs =
+    let q = c .before .before .before .before .before .before .before .before .before .before .before .before .before .before .before .pre .1 in
+    let x = call-searched t (c .before .before .before .before .before .before .before) in
+    let i = c .before .before .before .before .before .before .before .before .before .before .loop .inv in
+    let p = x .place (c .before .before .before .found2 .given .0 .0) (c .before .before .before .found2 .given .1) in
+    (omega (arith, c .before .before .before .before .before .before .before .before .before .before .before .before .before .before .before .pre .0), (x .room (q .5), q .6, p .0, i .few, p .1))
+
+-- .. and a replacement
+call-placed : (t : ℕ) (c : call-lts.After-replace (call-claims t) (call-at t) call.Post call-Inv-loop call-μ-loop)
+    → let a = c .before .before .before .before .before .before .before .before .before .before .before .before .before .before .before .before .args in
+    let i = c .before .before .before .before .before .before .before .before .before .before .before .loop in
+    Placed (a .heads .now) (a .rows .now) (a .types) (a .book .now) (a .starts .now) (a .w .now) (a .at) (a .base) (a .n) (a .vars) (a .besides) (a .deep) (a .left) (i .nodes) (i .fuel) (i .count) (c .before .before .before .before .before .before .before .before .before .before .before .before .again .result) (c .replace .last .1 .1 .1 .1 .1 .0) (c .replace .result)
+call-placed t c =
+    let a = c .before .before .before .before .before .before .before .before .before .before .before .before .before .before .before .before .args in
+    let i = c .before .before .before .before .before .before .before .before .before .before .before .loop in
+    let s = c .before .before .before .before .before .before .before .before .seek in
+    placed (a .heads .now) (a .rows .now) (a .types) (a .book .now) (a .starts .now) (a .w .now) (a .at) (a .base) (a .n) (a .vars) (a .besides) (a .deep) (a .left) (i .w) (i .nodes) (i .fuel) (i .count) (i .inv) (c .before .before .before .before .before .before .before .before .before .before .if1 .left) (c .before .before .before .before .before .before .before .before .before .before .before .before .before .plan-of .result) (c .before .before .before .before .before .before .before .before .before .before .before .before .before .plan-of .ensures .1) (s .last .1 .1 .1 .1 .1 .0) (s .result) (s .ensures)
+    (c .before .before .before .before .found2 .given .0 .0) (c .before .before .before .before .found2 .given .1) (c .replace .last .1 .1 .1 .1 .1 .0) (c .replace .result) (c .replace .ensures) (c .before .before .before .before .before .before .before .before .before .before .before .before .again .result) (c .before .before .before .before .before .before .before .before .before .before .before .before .again .ensures)
+
+pub call-calling-requires-4 : (t : ℕ) → call-lts.Need-calling-requires-4 (call-claims t) (call-at t) call.Post call-Inv-loop call-μ-loop
+call-calling-requires-4 t c κs = search needs
+
+pub call-same-length-4 : (t : ℕ) → call-lts.Need-same-length-4 (call-claims t) (call-at t) call.Post call-Inv-loop call-μ-loop
+call-same-length-4 t c = call-placed t (c .before .before .before .before .before) .long
+
+pub call-returns-4 : (t : ℕ) → call-lts.Need-returns-4 (call-claims t) (call-at t) call.Post call-Inv-loop call-μ-loop
+call-returns-4 t c = call-placed t (c .before .before .before .before .before) .stops (c .calling4 .result) (c .before .if2 .taken) (c .calling4 .ensures)
+
+pub call-add-count : (t : ℕ) → call-lts.Need-add-count (call-claims t) (call-at t) call.Post call-Inv-loop call-μ-loop
+call-add-count t c =
+    let h = call-placed t (c .before .before .before .before) .counted in
+    let l = c .before .before .before .before .before .before .before .before .before .before .before .before .before .before .before .before .before .before .before .before .fits .left in
+    omega arith
+
+pub call-calling-requires-5 : (t : ℕ) → call-lts.Need-calling-requires-5 (call-claims t) (call-at t) call.Post call-Inv-loop call-μ-loop
+call-calling-requires-5 t c κs = search needs
+
+pub call-same-length-5 : (t : ℕ) → call-lts.Need-same-length-5 (call-claims t) (call-at t) call.Post call-Inv-loop call-μ-loop
+call-same-length-5 t c = call-placed t (c .before .before .before .before .before .before) .long
+
+pub call-returns-5 : (t : ℕ) → call-lts.Need-returns-5 (call-claims t) (call-at t) call.Post call-Inv-loop call-μ-loop
+call-returns-5 t c = call-placed t (c .before .before .before .before .before .before) .last (c .calling5 .result) (c .before .before .if2 .left) (c .before .if3 .taken) (c .calling5 .ensures)
+
+pub call-loop-less : (t : ℕ) → call-lts.Need-loop-less (call-claims t) (call-at t) call.Post call-Inv-loop call-μ-loop
+call-loop-less t c = call-placed t (c .before .before .before .before .before) .spent
+
+pub call-loop-again : (t : ℕ) → call-lts.Need-loop-again (call-claims t) (call-at t) call.Post call-Inv-loop call-μ-loop
+call-loop-again t c = call-placed t (c .before .before .before .before .before) .again (c .before .if2 .left) (c .if3 .left)

@@ -1,0 +1,627 @@
+-- The search of a rule, node by node, and at each node part by part. Assumes nothing.
+use Prim.Native.Nat.{ℕ, zero, suc, _+_, _-_, _*_, _<_, _≤_}
+use mathlib.Core.Path.{_≡_, refl, sym, ap, ap₂, _∙_}
+use mathlib.Core.List.{List, [], _∷_, _++_}
+use mathlib.Core.Bool.{Bool, true, false}
+use mathlib.Core.Option.{Option, none, some}
+use mathlib.Core.Logic.{_⊎_, inl, inr, ⊎-elim}
+use native.Mathlib.Omega.{arith}
+use native.Mathlib.Numerals.{add-two}
+use lib.ListN.{length, getD, take, drop, length-take, length-drop}
+use lib.Seq.{drop-drop, getD-take, getD-drop}
+use lib.Dec.{eqb}
+use borrow.Author.Tests.{eq-eqb, ne-eqb}
+use Rattle.words.specs.Reader.{Words, or, Read, value, many}
+use Rattle.words.proofs.Laws.{many-suc, many-none}
+use Rattle.words.proofs.Stretches.{drop-pair}
+use Rattle.grammar.specs.Grammar.{Grammar}
+use Rattle.grammar.specs.Limits.{mostTypes}
+use Rattle.grammar.specs.Kinds.{children, allowed}
+use Rattle.tree.specs.Tree.{Trees, size}
+use Rattle.tree.proofs.Trees.{tells, trees-even}
+use Rattle.tree.proofs.Rest.{Rest, tree-rest, rest-node}
+use Rattle.rules.specs.Rules as Rules
+use Rattle.rules.specs.Rules.{Rule, Piece, rootOnly, firstMatch, exhaustive, searches, shapes, pieces}
+use Rattle.rules.specs.Layout as Layout
+use Rattle.rules.specs.Layout.{partAt, partOf}
+use Rattle.rules.specs.Views.{pairsAt, Planned, strategyAs}
+use Rattle.rules.proofs.Laid.{part-value}
+use Rattle.rules.specs.declared.Strategy.{Strategy}
+use Rattle.rules.specs.declared.Strategy.the-variants.{RootOnly, FirstMatch, Exhaustive}
+use Rattle.rules.specs.declared.Plan.{Plan}
+use Rattle.meaning.specs.Limits.{mostLive}
+use Rattle.meaning.specs.Computation.{Result, ok, stop, stuck, Comp, thenOf, spend, choose, whether, return}
+use Rattle.meaning.specs.Meaning as M
+use Rattle.meaning.specs.Meaning.{Env, Bindings, Found, calls, match}
+use Rattle.rewrite.specs.Arena.{Standing}
+use Rattle.rewrite.specs.Marked.{marked, typeIn, markOf}
+use Rattle.rewrite.specs.Vars.{Sound}
+use Rattle.rewrite.specs.Matching.{Stage, Means, Answers, bindings}
+use Rattle.rewrite.proofs.Marks.{marked-length}
+use Rattle.rewrite.proofs.Spans.{drop-take}
+use Rattle.rewrite.proofs.Matcher.{Node, node-of, two-marked}
+use Rattle.rewrite.specs.declared.Vars.{Vars}
+use Rattle.rewrite.specs.declared.Verdict.{Verdict}
+use Rattle.rewrite.specs.declared.Verdict.the-variants.{Matches, Differs, Stops}
+use Rattle.rewrite.specs.declared.Matched.{Matched}
+use Rattle.rewrite.specs.declared.arena.Frame.{Frame}
+use Rattle.calls.specs.Engine.{triedOf, Room, Grown, Held, Setting, Sure, TakenAs, Takes, partOn, partRead, SoughtAs, FoundFits, Tree, Steps, Seeks}
+use Rattle.calls.specs.declared.Taken.{Taken}
+use Rattle.calls.specs.declared.Found as Code
+use Rattle.calls.specs.declared.Found.the-variants.{At, Nowhere, Stopped}
+use Rattle.calls.specs.declared.Sought.{Sought}
+use Rattle.calls.proofs.Frames.{take-less, tree-length, some-nodes, standing-end, standing-inside, grown-same, grown-matched, grown-more, held-kept}
+use Rattle.calls.proofs.Going.{then-ok, then-stop, sure-first, sure-as}
+use Rattle.calls.proofs.Parting.{means-taken}
+
+-- HOW MANY NODES ARE TRIED
+
+pub tried-some : (n : ℕ) → 0 < n → 1 ≡ triedOf RootOnly n
+tried-some zero h = absurd (omega arith)
+tried-some (suc n) h = refl
+
+pub tried-none : (n : ℕ) → (0 < n → ⊥) → 0 ≡ triedOf RootOnly n
+tried-none zero h = refl
+tried-none (suc n) h = absurd (h (omega arith))
+
+pub tried-few : (s : Strategy) (n : ℕ) → triedOf s n ≤ n
+tried-few RootOnly zero = omega arith
+tried-few RootOnly (suc n) = omega arith
+tried-few FirstMatch n = omega arith
+tried-few Exhaustive n = omega arith
+
+pub tried-inside : (s : Strategy) (n i last : ℕ) → last ≡ triedOf s n → i < last → i < n
+tried-inside s n i last e h = omega (arith, h, e, tried-few s n)
+
+-- a node is tried if it is the first, or if the rule searches
+tried-here : (s : Rules.Strategy) (n i : ℕ) → i < triedOf (strategyAs s) n → or (eqb (2 * i) 0) (searches s) ≡ true
+tried-here rootOnly zero i h = absurd (omega arith)
+tried-here rootOnly (suc n) zero h = refl
+tried-here rootOnly (suc n) (suc i) h = absurd (omega arith)
+tried-here firstMatch n zero h = refl
+tried-here firstMatch n (suc i) h = rw (ne-eqb (2 * suc i) 0 (λ e. omega arith))
+tried-here exhaustive n zero h = refl
+tried-here exhaustive n (suc i) h = rw (ne-eqb (2 * suc i) 0 (λ e. omega arith))
+
+-- past the last there is none, or none that is tried
+tried-past : (s : Rules.Strategy) (n i : ℕ) → 0 < n → i ≤ n → triedOf (strategyAs s) n ≤ i → (or (eqb (2 * i) 0) (searches s) ≡ false) ⊎ (i ≡ n)
+tried-past rootOnly zero i p h l = absurd (omega arith)
+tried-past rootOnly (suc n) zero p h l = absurd (omega arith)
+tried-past rootOnly (suc n) (suc i) p h l = inl (rw (ne-eqb (2 * suc i) 0 (λ e. omega arith)))
+tried-past firstMatch n i p h l = inr (omega arith)
+tried-past exhaustive n i p h l = inr (omega arith)
+
+-- ONE NODE OF THE MEANING'S SEARCH
+
+module _ (g : Grammar) (rules : Rules.Rules) (deep : ℕ) (rule : Rule) (b : Bindings) where
+  -- the search from a node on
+  abbrev pub from : Words → ℕ → Comp (Option Found)
+  from ws place = choose (or (eqb place 0) (searches (rule .strategy))) (M.seek true g rules (calls true g rules deep) rule ws place b) (return none)
+
+  -- what follows an attempt at a node
+  abbrev pub after : Words → ℕ → Option Bindings → Comp (Option Found)
+  after ws place m = whether m (λ c. return (some (record { place = place; bound = c }))) (choose (searches (rule .strategy)) (M.seek true g rules (calls true g rules deep) rule ws (place + 2) b) (return none))
+
+  seek-here : (ws : Words) (place left : ℕ) → or (eqb place 0) (searches (rule .strategy)) ≡ true → from ws place left ≡ M.seek true g rules (calls true g rules deep) rule ws place b left
+  unfolding choose
+  seek-here ws place left e = rw e
+
+  seek-past : (ws : Words) (place left : ℕ) → or (eqb place 0) (searches (rule .strategy)) ≡ false → from ws place left ≡ ok none left
+  unfolding choose
+  seek-past ws place left e = rw e
+
+  seek-end : (place left : ℕ) → from [] place left ≡ ok none left
+  unfolding choose M.seek
+  seek-end place left = go (or (eqb place 0) (searches (rule .strategy)))
+    where
+      go : (x : Bool) → choose x (M.seek true g rules (calls true g rules deep) rule [] place b) (return none) left ≡ ok none left
+      go true = refl
+      go false = refl
+
+  -- what follows, where there is no match: the search from the next node on
+  after-none : (ws : Words) (place left : ℕ) → after ws place none left ≡ from ws (place + 2) left
+  unfolding whether
+  after-none ws place left = rw (ne-eqb (place + 2) 0 (λ e. omega arith))
+
+  after-some : (ws : Words) (place left : ℕ) (c : Bindings) → after ws place (some c) left ≡ ok (some (record { place = place; bound = c })) left
+  unfolding whether
+  after-some ws place left c = refl
+
+  module _ (t v : ℕ) (ws : Words) (place left : ℕ) where
+    -- a node of another type
+    seek-other : (t ≡ rule .target → ⊥) → M.seek true g rules (calls true g rules deep) rule (t ∷ v ∷ ws) place b left ≡ from ws (place + 2) left
+    unfolding M.seek choose thenOf
+    seek-other h = let z = ne-eqb t (rule .target) h in rw z (after-none ws place left)
+
+    -- an attempt at a node of the type
+    seek-this : t ≡ rule .target → M.seek true g rules (calls true g rules deep) rule (t ∷ v ∷ ws) place b left ≡ thenOf (M.attempt true g rules (calls true g rules deep) rule (t ∷ v ∷ ws) b left) (after ws place)
+    unfolding M.seek choose
+    seek-this h = rw (eq-eqb t (rule .target) h)
+
+-- an attempt costs one
+attempt-spent : (g : Grammar) (rules : Rules.Rules) (deep : ℕ) (rule : Rule) (ws : Words) (b : Bindings) → M.attempt true g rules (calls true g rules deep) rule ws b 0 ≡ stop 40 0
+unfolding M.attempt spend thenOf
+attempt-spent g rules deep rule ws b = refl
+
+attempt-starts : (g : Grammar) (rules : Rules.Rules) (deep : ℕ) (rule : Rule) (ws : Words) (b : Bindings) (left : ℕ)
+    → M.attempt true g rules (calls true g rules deep) rule ws b (suc left) ≡ thenOf (match true g (rule .pattern) ws b left) (λ m. whether m (M.parts true g rules (calls true g rules deep) (rule .parts)) (return none))
+unfolding M.attempt spend thenOf
+attempt-starts g rules deep rule ws b left = refl
+
+attempt-first : (g : Grammar) (rules : Rules.Rules) (deep : ℕ) (rule : Rule) (ws : Words) (b : Bindings) (fuel now : ℕ) → fuel ≡ suc now
+    → M.attempt true g rules (calls true g rules deep) rule ws b fuel ≡ thenOf (match true g (rule .pattern) ws b now) (λ m. whether m (M.parts true g rules (calls true g rules deep) (rule .parts)) (return none))
+attempt-first g rules deep rule ws b fuel now e = rw e (attempt-starts g rules deep rule ws b now)
+
+whether-none : {A B : Type 0} (f : A → Comp B) (k : Comp B) (l : ℕ) → whether none f k l ≡ k l
+unfolding whether
+whether-none f k l = refl
+
+whether-some : {A B : Type 0} (a : A) (f : A → Comp B) (k : Comp B) (l : ℕ) → whether (some a) f k l ≡ f a l
+unfolding whether
+whether-some a f k l = refl
+
+-- THE PARTS
+
+parts-end : (g : Grammar) (rules : Rules.Rules) (deep : ℕ) (b : Bindings) (l : ℕ) → M.parts true g rules (calls true g rules deep) [] b l ≡ ok (some b) l
+unfolding M.parts
+parts-end g rules deep b l = refl
+
+module _ (g : Grammar) (rules : Rules.Rules) (deep : ℕ) (p : Rules.Part) (ps : List Rules.Part) (b : Bindings) (l : ℕ) where
+  parts-more : M.parts true g rules (calls true g rules deep) (p ∷ ps) b l ≡ thenOf (partOn deep p g rules b l) (λ m. whether m (M.parts true g rules (calls true g rules deep) ps) (return none))
+  unfolding M.parts
+  parts-more = refl
+
+-- THE LOOP OVER PARTS
+
+-- the part that stands there, and the others
+record There (types : ℕ) (book : Words) (at count end : ℕ) (ps : List Rules.Part) : Type 0 where
+  p : Rules.Part
+  more : List Rules.Part
+  q : Layout.PartAt
+  next : ℕ
+  read : partAt types book at ≡ value q next
+  is : partOf book q ≡ p
+  others : many (count - 1) (Layout.part types book) next ≡ value more end
+  all : ps ≡ p ∷ more
+
+there : (types : ℕ) (book : Words) (at count end : ℕ) (ps : List Rules.Part) → 0 < count → many count (Layout.part types book) at ≡ value ps end → There types book at count end ps
+there types book at count end ps pos e =
+    let z : count ≡ suc (count - 1) = omega arith in
+    let u = many-suc (Layout.part types book) (count - 1) at (rw z at e) in
+    let x = part-value types book at (u .3) in
+    record { p = u .0; more = u .2; q = x .0; next = u .1; read = x .1; is = x .2; others = u .4; all = u .5 }
+
+-- the run of the parts is that part's step, and what follows it
+step-first : (types : ℕ) (book : Words) (at count end : ℕ) (ps : List Rules.Part) (x : There types book at count end ps) (g : Grammar) (rules : Rules.Rules) (deep : ℕ) (b : Bindings) (l : ℕ)
+    → M.parts true g rules (calls true g rules deep) ps b l ≡ thenOf (partRead deep book (partAt types book at) g rules b l) (λ m. whether m (M.parts true g rules (calls true g rules deep) (x .more)) (return none))
+step-first types book at count end ps x g rules deep b l =
+    ap (λ y. M.parts true g rules (calls true g rules deep) y b l) (x .all) ∙ parts-more g rules deep (x .p) (x .more) b l
+    ∙ ap (λ y. thenOf y (λ m. whether m (M.parts true g rules (calls true g rules deep) (x .more)) (return none)))
+    (sym (ap (λ y. partRead deep book y g rules b l) (x .read) ∙ ap (λ y. partOn deep y g rules b l) (x .is)))
+
+some-first : {A B : Type 0} (a : A) (l : ℕ) (f : A → Comp (Option B)) → thenOf (ok (some a) l) (λ m. whether m f (return none)) ≡ f a l
+unfolding thenOf whether
+some-first a l f = refl
+
+module _ (heads rows : Words) (types : ℕ) (book starts : Words) (deep : ℕ) (w₀ : Words) (fuel₀ : ℕ) (frame₀ : Frame) (at₀ count₀ : ℕ) where
+  -- parts have matched up to here: what is open now, and the parts that are left
+  record Gone (g : Grammar) (rules : Rules.Rules) (env₀ : Env) (besides : ℕ) (ps₀ : List Rules.Part) (end : ℕ) (w : Words) (fuel : ℕ) (frame : Frame) (at count : ℕ) : Type 0 where
+    kept : take (frame₀ .top) w ≡ take (frame₀ .top) w₀
+    env : Env
+    held : Held g w frame (bindings env besides)
+    ps : List Rules.Part
+    read : many count (Layout.part types book) at ≡ value ps end
+    is : M.parts true g rules (calls true g rules deep) ps₀ (bindings env₀ besides) fuel₀ ≡ M.parts true g rules (calls true g rules deep) ps (bindings env besides) fuel
+
+  pub record Parting (w : Words) (fuel : ℕ) (frame : Frame) (at count : ℕ) : Type 0 where
+    pub grown : Grown frame₀ frame
+    pub less : fuel ≤ fuel₀
+    pub fewer : count ≤ count₀
+    pub long : length w ≡ length w₀
+    gone : (g : Grammar) (rules : Rules.Rules) (env₀ : Env) (besides : ℕ) (ps₀ : List Rules.Part) (end : ℕ) → Setting heads rows types book starts g rules → Held g w₀ frame₀ (bindings env₀ besides)
+        → many count₀ (Layout.part types book) at₀ ≡ value ps₀ end → Sure (M.parts true g rules (calls true g rules deep) ps₀ (bindings env₀ besides) fuel₀) → Gone g rules env₀ besides ps₀ end w fuel frame at count
+
+  pub parting-start : Sound (frame₀ .vars) → frame₀ .live ≤ mostLive → frame₀ .top ≤ 2 * frame₀ .live → Parting w₀ fuel₀ frame₀ at₀ count₀
+  parting-start s f l = record {
+    grown = record { sound = s; few = f; low = l; more = omega arith; higher = omega arith };
+    less = omega arith;
+    fewer = omega arith;
+    long = refl;
+    gone = λ g rules env₀ besides ps₀ end setting held read sure. record { kept = refl; env = env₀; held = held; ps = ps₀; read = read; is = refl };
+  }
+
+  pub parting-on : (w : Words) (fuel : ℕ) (frame : Frame) (at count : ℕ) → Parting w fuel frame at count → 0 < count → (w′ : Words) (r : Taken) → Steps heads rows types book starts w w′ at frame deep fuel r → r .verdict ≡ Matches
+      → Parting w′ (r .left) (r .frame) (r .next) (count - 1)
+  parting-on w fuel frame at count pr pos w′ r steps v = record {
+    grown = grown-more (pr .grown) (steps .takes .grown);
+    less = omega (arith, pr .less, steps .takes .less);
+    fewer = omega (arith, pr .fewer);
+    long = steps .takes .long ∙ pr .long;
+    gone = λ g rules env₀ besides ps₀ end setting held read sure.
+        let a = pr .gone g rules env₀ besides ps₀ end setting held read sure in
+        let x = there types book at count end (a .ps) pos (a .read) in
+        let first = step-first types book at count end (a .ps) x g rules deep (bindings (a .env) besides) fuel in
+        let s = steps .takes .meant g rules (bindings (a .env) besides) setting (a .held) (sure-first _ _ (sure-as (a .is ∙ first) sure)) in
+        let y = rw v at (s .1) in
+        record {
+          kept = take-less (frame₀ .top) (frame .top) w w′ (pr .grown .higher) (s .0) ∙ a .kept;
+          env = y .0;
+          held = y .1;
+          ps = x .more;
+          read = ap (many (count - 1) (Layout.part types book)) (steps .next-is (x .q) (x .next) (x .read)) ∙ x .others;
+          is = a .is ∙ first ∙ ap (λ z. thenOf z (λ m. whether m (M.parts true g rules (calls true g rules deep) (x .more)) (return none))) (y .2)
+              ∙ some-first (bindings (y .0) besides) (r .left) (M.parts true g rules (calls true g rules deep) (x .more));
+        };
+  }
+
+stuck-twice : {A B C : Type 0} (f : A → Comp B) (h : B → Comp C) → thenOf (thenOf stuck f) h ≡ stuck
+unfolding thenOf
+stuck-twice f h = refl
+
+stop-twice : {A B C : Type 0} (n l : ℕ) (f : A → Comp B) (h : B → Comp C) → thenOf (thenOf (stop n l) f) h ≡ stop n l
+unfolding thenOf
+stop-twice n l f h = refl
+
+none-twice : {A B C : Type 0} (l : ℕ) (f : A → Comp (Option B)) (h : Option B → Comp C) → thenOf (thenOf (ok none l) (λ m. whether m f (return none))) h ≡ h none l
+unfolding thenOf whether
+none-twice l f h = refl
+
+some-twice : {A B C : Type 0} (a : A) (l : ℕ) (f : A → Comp (Option B)) (h : Option B → Comp C) → thenOf (thenOf (ok (some a) l) (λ m. whether m f (return none))) h ≡ thenOf (f a l) h
+unfolding thenOf whether
+some-twice a l f h = refl
+
+-- THE LOOP OVER NODES
+
+rest-as : {g : Grammar} {rest : Words} {types : List ℕ} (t v : ℕ) (below : Words) (more : List ℕ) → rest ≡ t ∷ v ∷ below → types ≡ t ∷ more → Rest g types rest → Rest g (t ∷ more) (t ∷ v ∷ below)
+rest-as t v below more e q r = rw (e, q) at r
+
+-- the word at a place below the top
+below-word : (w w₀ : Words) (top p : ℕ) → p < top → take top w ≡ take top w₀ → getD w p 0 ≡ getD (take top w₀) p 0
+below-word w w₀ top p h e = sym (getD-take top w p 0 h) ∙ ap (λ x. getD x p 0) e
+
+module _ (heads rows : Words) (types : ℕ) (book starts w₀ : Words) (plan : Plan) (base n : ℕ) (frame : Frame) (deep left : ℕ) where
+  -- what the meaning is given
+  pub record Case : Type 0 where
+    pub g : Grammar
+    pub rules : Rules.Rules
+    pub rule : Rule
+    pub b : Bindings
+    pub scope : Words
+    pub setting : Setting heads rows types book starts g rules
+    pub planned : Planned types book rule plan
+    pub held : Held g w₀ frame b
+    pub tree : Tree g (take (frame .top) w₀) base n scope
+    pub sure : Sure (M.seek true g rules (calls true g rules deep) rule scope 0 b left)
+
+  abbrev whole : Case → Result (Option Found)
+  whole k = M.seek true (k .g) (k .rules) (calls true (k .g) (k .rules) deep) (k .rule) (k .scope) 0 (k .b) left
+
+  abbrev onward : Case → Words → ℕ → Comp (Option Found)
+  onward k ws place = from (k .g) (k .rules) deep (k .rule) (k .b) ws place
+
+  abbrev next : Case → Words → ℕ → Option Bindings → Comp (Option Found)
+  next k ws place m = after (k .g) (k .rules) deep (k .rule) (k .b) ws place m
+
+  -- the stretch of the scope from node i on
+  abbrev here : ℕ → Words
+  here i = take (2 * (n - i)) (drop (base + 2 * i) (take (frame .top) w₀))
+
+  -- what is left of the scope
+  record Left (k : Case) (i : ℕ) (rest : Words) : Type 0 where
+    due : List ℕ
+    trees : Rest (k .g) due rest
+    marks : here i ≡ marked (k .g) rest
+
+  record AtNode (k : Case) (w : Words) (fuel i : ℕ) : Type 0 where
+    kept : take (frame .top) w ≡ take (frame .top) w₀
+    rest : Words
+    scope : Left k i rest
+    is : whole k ≡ onward k rest (2 * i) fuel
+
+  pub record Searching (w : Words) (fuel i : ℕ) : Type 0 where
+    pub within : i ≤ n
+    pub less : fuel ≤ left
+    pub long : length w ≡ length w₀
+    run : (k : Case) → AtNode k w fuel i
+
+  module _ (room : Room w₀ frame) where
+    few : (k : Case) → length (k .g) ≤ mostTypes
+    few k = k .setting .tables .heads-of .types
+
+    ends : (k : Case) → base + 2 * n ≤ frame .top
+    ends k = standing-end w₀ (frame .top) (k .tree .1)
+
+    pub searching-start : Searching w₀ left 0
+    searching-start = record {
+      within = omega arith;
+      less = omega arith;
+      long = refl;
+      run = λ k.
+          let a : base + 0 ≡ base = omega arith in
+          let c : n - 0 ≡ n = omega arith in
+          record {
+            kept = refl;
+            rest = k .scope;
+            scope = record { due = k .tree .0 ∷ []; trees = tree-rest (k .tree .1 .tree); marks = ap₂ (λ x y. take (2 * x) (drop y (take (frame .top) w₀))) c a ∙ k .tree .1 .words };
+            is = sym (seek-here (k .g) (k .rules) deep (k .rule) (k .b) (k .scope) 0 left refl);
+          };
+    }
+
+    -- the stretch has two words a node
+    here-length : (k : Case) (i : ℕ) → i ≤ n → length (here i) ≡ 2 * (n - i)
+    here-length k i h =
+        omega (arith, ends k, room .low, room .few, room .long, length-take (2 * (n - i)) (drop (base + 2 * i) (take (frame .top) w₀)), length-drop (base + 2 * i) (take (frame .top) w₀), length-take (frame .top) w₀)
+
+    node-here : (k : Case) (i : ℕ) → i < n → (rest : Words) (s : Left k i rest) → Node (k .g) (here i) rest (s .due)
+    node-here k i h rest s = node-of (k .g) (here i) rest (s .due) (few k) (s .trees) (s .marks) (omega (arith, here-length k i (omega arith)))
+
+    -- the first word of the node in memory
+    word-here : (k : Case) (w : Words) (i : ℕ) → i < n → take (frame .top) w ≡ take (frame .top) w₀ → getD w (base + 2 * i) 0 ≡ getD (here i) 0 0
+    word-here k w i h e =
+        let a : base + 2 * i + 0 ≡ base + 2 * i = omega arith in
+        below-word w w₀ (frame .top) (base + 2 * i) (omega (arith, ends k)) e
+        ∙ sym (getD-take (2 * (n - i)) (drop (base + 2 * i) (take (frame .top) w₀)) 0 0 (omega arith) ∙ getD-drop (base + 2 * i) (take (frame .top) w₀) 0 0 ∙ ap (λ x. getD (take (frame .top) w₀) x 0) a)
+
+    -- what is left after the node
+    left-next : (k : Case) (i : ℕ) (h : i < n) (rest : Words) (s : Left k i rest) → Left k (i + 1) (node-here k i h rest s .below)
+    left-next k i h rest s =
+        let m = node-here k i h rest s in
+        let a : 2 * (n - i) - 2 ≡ 2 * (n - (i + 1)) = omega arith in
+        let c : base + 2 * i + 2 ≡ base + 2 * (i + 1) = omega arith in
+        record {
+          due = children (k .g) (m .t) (m .v) ++ m .more;
+          trees = rest-node (rest-as (m .t) (m .v) (m .below) (m .more) (m .is) (m .due) (s .trees));
+          marks = sym (drop-take (2 * (n - i)) 2 (drop (base + 2 * i) (take (frame .top) w₀)) ∙ ap₂ take a (drop-drop 2 (base + 2 * i) (take (frame .top) w₀) ∙ ap (λ x. drop x (take (frame .top) w₀)) c))
+              ∙ ap (drop 2) (s .marks) ∙ two-marked (k .g) rest (m .t) (m .v) (m .below) (m .is);
+        }
+
+    -- the run at a node that is tried
+    run-here : (k : Case) (w : Words) (fuel i : ℕ) → i < triedOf (plan .strategy) n → (h : i < n) (a : AtNode k w fuel i)
+        → whole k ≡ M.seek true (k .g) (k .rules) (calls true (k .g) (k .rules) deep) (k .rule) (node-here k i h (a .rest) (a .scope) .t ∷ node-here k i h (a .rest) (a .scope) .v ∷ node-here k i h (a .rest) (a .scope) .below) (2 * i) (k .b) fuel
+    run-here k w fuel i t h a =
+        a .is
+        ∙ seek-here (k .g) (k .rules) deep (k .rule) (k .b) (a .rest) (2 * i) fuel (tried-here (k .rule .strategy) n i (rw (k .planned .strategy) at t))
+        ∙ ap (λ x. M.seek true (k .g) (k .rules) (calls true (k .g) (k .rules) deep) (k .rule) x (2 * i) (k .b) fuel) (node-here k i h (a .rest) (a .scope) .is)
+
+    -- the next node
+    at-next : (k : Case) (w w′ : Words) (fuel now i : ℕ) (h : i < n) (a : AtNode k w fuel i) → take (frame .top) w′ ≡ take (frame .top) w₀
+        → whole k ≡ onward k (node-here k i h (a .rest) (a .scope) .below) (2 * i + 2) now → AtNode k w′ now (i + 1)
+    at-next k w w′ fuel now i h a e q =
+        let c : 2 * i + 2 ≡ 2 * (i + 1) = omega arith in
+        record { kept = e; rest = node-here k i h (a .rest) (a .scope) .below; scope = left-next k i h (a .rest) (a .scope); is = q ∙ ap (λ x. onward k (node-here k i h (a .rest) (a .scope) .below) x now) c }
+
+    module _ (w : Words) (fuel i : ℕ) (go : Searching w fuel i) where
+      -- an answer at a node
+      sought : (f : Code.Found) (fr : Frame) (now at : ℕ) (w′ : Words) → length w′ ≡ length w₀ → Grown frame fr → FoundFits n left f now
+          → ((k : Case) → (take (frame .top) w′ ≡ take (frame .top) w₀) × SoughtAs (k .g) w′ (k .b .besides) book (k .rule) f fr now at (whole k))
+          → Seeks heads rows types book starts w₀ w′ plan base n frame deep left (record { found = f; frame = fr; left = now; next = at })
+      sought f fr now at w′ l grown fits run = record {
+        grown = grown;
+        fits = fits;
+        long = l;
+        meant = λ g rules rule b scope setting planned held tree sure. run (record { g = g; rules = rules; rule = rule; b = b; scope = scope; setting = setting; planned = planned; held = held; tree = tree; sure = sure });
+      }
+
+      pub searching-none : triedOf (plan .strategy) n ≤ i → Seeks heads rows types book starts w₀ w plan base n frame deep left (record { found = Nowhere; frame = frame; left = fuel; next = 0 })
+      searching-none past = sought Nowhere frame fuel 0 w (go .long) (grown-same room) (go .less) (λ k. (go .run k .kept, ended k))
+        where
+          empty : (x : Words) → length x ≡ 0 → x ≡ []
+          empty [] e = refl
+          empty (y ∷ x) e = absurd (omega arith)
+
+          ended : (k : Case) → whole k ≡ ok none fuel
+          ended k =
+              let a = go .run k in
+              let p = some-nodes (k .scope) (k .tree .1 .tree) in
+              ⊎-elim
+              (λ e. a .is ∙ seek-past (k .g) (k .rules) deep (k .rule) (k .b) (a .rest) (2 * i) fuel e)
+              (λ e.
+              let l : length (a .rest) ≡ 0 = omega (arith, here-length k i (go .within), ap length (a .scope .marks), marked-length (k .g) (a .rest)) in
+              a .is ∙ ap (λ x. onward k x (2 * i) fuel) (empty (a .rest) l) ∙ seek-end (k .g) (k .rules) deep (k .rule) (k .b) (2 * i) fuel)
+              (tried-past (k .rule .strategy) n i (omega (arith, k .tree .1 .nodes)) (go .within) (rw (k .planned .strategy) at past))
+
+      module _ (t : i < triedOf (plan .strategy) n) where
+        abbrev inside : i < n
+        inside = omega (arith, tried-few (plan .strategy) n)
+
+        abbrev node : (k : Case) → Node (k .g) (here i) (go .run k .rest) (go .run k .scope .due)
+        node k = node-here k i inside (go .run k .rest) (go .run k .scope)
+
+        type-here : (k : Case) → typeIn (getD w (base + 2 * i) 0) ≡ node k .t
+        type-here k = ap typeIn (word-here k w i inside (go .run k .kept)) ∙ node k .type-in
+
+        pub searching-other : (typeIn (getD w (base + 2 * i) 0) ≡ plan .target → ⊥) → Searching w fuel (i + 1)
+        searching-other other = record {
+          within = omega (arith, inside);
+          less = go .less;
+          long = go .long;
+          run = λ k.
+              at-next k w w fuel fuel i inside (go .run k) (go .run k .kept)
+              (run-here k w fuel i t inside (go .run k) ∙ seek-other (k .g) (k .rules) deep (k .rule) (k .b) (node k .t) (node k .v) (node k .below) (2 * i) fuel (λ e. other (type-here k ∙ e ∙ sym (k .planned .target))));
+        }
+
+        module _ (this : typeIn (getD w (base + 2 * i) 0) ≡ plan .target) where
+          -- the run is an attempt, and what follows it
+          tries : (k : Case) → whole k ≡ thenOf (M.attempt true (k .g) (k .rules) (calls true (k .g) (k .rules) deep) (k .rule) (node k .t ∷ node k .v ∷ node k .below) (k .b) fuel) (next k (node k .below) (2 * i))
+          tries k =
+              run-here k w fuel i t inside (go .run k)
+              ∙ seek-this (k .g) (k .rules) deep (k .rule) (k .b) (node k .t) (node k .v) (node k .below) (2 * i) fuel (sym (type-here k) ∙ this ∙ k .planned .target)
+
+          pub searching-spent : fuel ≡ 0 → Seeks heads rows types book starts w₀ w plan base n frame deep left (record { found = Stopped 40; frame = frame; left = fuel; next = 0 })
+          searching-spent z = sought (Stopped 40) frame fuel 0 w (go .long) (grown-same room) (go .less) (λ k. (go .run k .kept, spent k))
+            where
+              spent : (k : Case) → whole k ≡ stop 40 fuel
+              spent k =
+                  tries k
+                  ∙ then-stop _ (next k (node k .below) (2 * i)) 40 fuel
+                  (ap (λ x. M.attempt true (k .g) (k .rules) (calls true (k .g) (k .rules) deep) (k .rule) (node k .t ∷ node k .v ∷ node k .below) (k .b) x) z
+                  ∙ attempt-spent (k .g) (k .rules) deep (k .rule) (node k .t ∷ node k .v ∷ node k .below) (k .b) ∙ ap (stop 40) (sym z))
+
+          module _ (costs : fuel ≡ 0 → ⊥) (m : Matched) (arena part pairs : Words) (ea : arena ≡ take (frame .top) w) (ep : part ≡ take (2 * (n - i)) (drop (base + 2 * i) arena)) (es : pairs ≡ pairsAt book (plan .pattern))
+              (answers : Answers arena part (base + 2 * i) (frame .vars) (frame .live) (λ g ws b. match true g (shapes pairs) ws b) m) where
+            spends : fuel ≡ suc (fuel - 1)
+            spends = pred fuel costs
+              where
+                pred : (f : ℕ) → (f ≡ 0 → ⊥) → f ≡ suc (f - 1)
+                pred zero h = absurd (h refl)
+                pred (suc f) h = omega arith
+
+            -- the pattern set against the node, and what follows
+            matching : (k : Case) → whole k ≡ thenOf (thenOf (match true (k .g) (k .rule .pattern) (node k .t ∷ node k .v ∷ node k .below) (k .b) (fuel - 1)) (λ m. whether m (M.parts true (k .g) (k .rules) (calls true (k .g) (k .rules) deep) (k .rule .parts)) (return none)))
+                (next k (node k .below) (2 * i))
+            matching k = tries k ∙ ap (λ x. thenOf x (next k (node k .below) (2 * i))) (attempt-first (k .g) (k .rules) deep (k .rule) (node k .t ∷ node k .v ∷ node k .below) (k .b) fuel (fuel - 1) spends)
+
+            stage : (k : Case) → Stage (k .g) arena part (base + 2 * i) (frame .vars) (frame .live) (go .run k .rest) (go .run k .scope .due) (k .b)
+            stage k =
+                let a = go .run k in
+                let e : part ≡ here i = ep ∙ ap (λ x. take (2 * (n - i)) (drop (base + 2 * i) x)) (ea ∙ a .kept) in
+                let l : length part ≡ 2 * (n - i) = ap length e ∙ here-length k i (go .within) in
+                record {
+                  types = few k;
+                  place = ep ∙ ap (λ x. take x (drop (base + 2 * i) arena)) (sym l);
+                  inside = omega (arith, l, inside, ends k, ap length ea, length-take (frame .top) w, go .long, room .low, room .few, room .long);
+                  marks = e ∙ a .scope .marks;
+                  rest = a .scope .trees;
+                  stands = rw (ea, a .kept) (k .held .stands);
+                  counted = k .held .counted;
+                }
+
+            -- the pattern is the rule's
+            matched : (k : Case) → Means (k .g) arena (k .b .besides) (m .verdict) (m .vars) (m .live) (fuel - 1) (match true (k .g) (k .rule .pattern) (node k .t ∷ node k .v ∷ node k .below) (k .b) (fuel - 1))
+            matched k =
+                let p : k .rule .pattern ≡ shapes pairs = k .planned .pattern ∙ ap shapes (sym es) in
+                let q : match true (k .g) (shapes pairs) (go .run k .rest) (k .b) (fuel - 1) ≡ match true (k .g) (k .rule .pattern) (node k .t ∷ node k .v ∷ node k .below) (k .b) (fuel - 1) =
+                ap₂ (λ x y. match true (k .g) x y (k .b) (fuel - 1)) (sym p) (node k .is) in
+                rw q at (answers .meant (k .g) (go .run k .rest) (go .run k .scope .due) (k .b) (fuel - 1) (stage k)
+                (λ e. k .sure (matching k ∙ ap (λ x. thenOf (thenOf x (λ m. whether m (M.parts true (k .g) (k .rules) (calls true (k .g) (k .rules) deep) (k .rule .parts)) (return none))) (next k (node k .below) (2 * i))) (sym q ∙ e) ∙ stuck-twice _ _)))
+
+            pub searching-differs : m .verdict ≡ Differs → Searching w (fuel - 1) (i + 1)
+            searching-differs v = record {
+              within = omega (arith, inside);
+              less = omega (arith, go .less);
+              long = go .long;
+              run = λ k.
+                  let q : match true (k .g) (k .rule .pattern) (node k .t ∷ node k .v ∷ node k .below) (k .b) (fuel - 1) ≡ ok none (fuel - 1) = rw v at (matched k) in
+                  at-next k w w fuel (fuel - 1) i inside (go .run k) (go .run k .kept)
+                  (matching k ∙ ap (λ x. thenOf (thenOf x (λ m. whether m (M.parts true (k .g) (k .rules) (calls true (k .g) (k .rules) deep) (k .rule .parts)) (return none))) (next k (node k .below) (2 * i))) q
+                  ∙ none-twice (fuel - 1) _ (next k (node k .below) (2 * i)) ∙ after-none (k .g) (k .rules) deep (k .rule) (k .b) (node k .below) (2 * i) (fuel - 1));
+            }
+
+            pub searching-stops : {no : ℕ} → m .verdict ≡ Stops no → Seeks heads rows types book starts w₀ w plan base n frame deep left (record { found = Stopped no; frame = frame; left = fuel - 1; next = 0 })
+            searching-stops {no} v = sought (Stopped no) frame (fuel - 1) 0 w (go .long) (grown-same room) (omega (arith, go .less)) (λ k. (go .run k .kept, stops k))
+              where
+                stops : (k : Case) → whole k ≡ stop no (fuel - 1)
+                stops k =
+                    let q : match true (k .g) (k .rule .pattern) (node k .t ∷ node k .v ∷ node k .below) (k .b) (fuel - 1) ≡ stop no (fuel - 1) = rw v at (matched k) in
+                    matching k ∙ ap (λ x. thenOf (thenOf x (λ m. whether m (M.parts true (k .g) (k .rules) (calls true (k .g) (k .rules) deep) (k .rule .parts)) (return none))) (next k (node k .below) (2 * i))) q
+                    ∙ stop-twice no (fuel - 1) _ _
+
+            -- the parts that are left, at a node that the pattern matches
+            record AtPart (k : Case) (w′ : Words) (now : ℕ) (fr : Frame) (at count : ℕ) : Type 0 where
+              kept : take (frame .top) w′ ≡ take (frame .top) w₀
+              env : Env
+              held : Held (k .g) w′ fr (bindings env (k .b .besides))
+              ps : List Rules.Part
+              read : many count (Layout.part types book) at ≡ value ps (k .planned .end)
+              is : whole k ≡ thenOf (M.parts true (k .g) (k .rules) (calls true (k .g) (k .rules) deep) ps (bindings env (k .b .besides)) now) (next k (node k .below) (2 * i))
+
+            pub record Trying (w′ : Words) (now : ℕ) (fr : Frame) (at count : ℕ) : Type 0 where
+              pub grown : Grown frame fr
+              pub less : now < left
+              pub long : length w′ ≡ length w₀
+              try : (k : Case) → AtPart k w′ now fr at count
+
+            pub trying-grown : Grown frame (record { vars = m .vars; live = m .live; top = frame .top })
+            trying-grown = grown-matched w₀ frame room (m .vars) (m .live) (answers .sound) (answers .fits) (answers .grows)
+
+            pub trying-start : m .verdict ≡ Matches → plan .count ≤ 8 → Trying w (fuel - 1) (record { vars = m .vars; live = m .live; top = frame .top }) (plan .first) (plan .count)
+            trying-start v eight = record {
+              grown = trying-grown;
+              less = omega (arith, go .less, spends);
+              long = go .long;
+              try = λ k.
+                  let q : Means (k .g) (take (frame .top) w) (k .b .besides) Matches (m .vars) (m .live) (fuel - 1) (match true (k .g) (k .rule .pattern) (node k .t ∷ node k .v ∷ node k .below) (k .b) (fuel - 1)) = rw (v, ea) at (matched k) in
+                  record {
+                    kept = go .run k .kept;
+                    env = q .0;
+                    held = record { stands = q .1; counted = q .2 };
+                    ps = k .rule .parts;
+                    read = k .planned .parts;
+                    is = matching k ∙ ap (λ x. thenOf (thenOf x (λ m. whether m (M.parts true (k .g) (k .rules) (calls true (k .g) (k .rules) deep) (k .rule .parts)) (return none))) (next k (node k .below) (2 * i))) (q .3)
+                        ∙ some-twice (bindings (q .0) (k .b .besides)) (fuel - 1) _ (next k (node k .below) (2 * i));
+                  };
+            }
+
+            pub trying-run : (v : m .verdict ≡ Matches) (eight : plan .count ≤ 8) (w₁ : Words) (now : ℕ) (fr : Frame) (at count : ℕ)
+                → Parting heads rows types book starts deep w (fuel - 1) (record { vars = m .vars; live = m .live; top = frame .top }) (plan .first) (plan .count) w₁ now fr at count → Trying w₁ now fr at count
+            trying-run v eight w₁ now fr at count pr =
+                let st = trying-start v eight in
+                record {
+                  grown = grown-more (st .grown) (pr .grown);
+                  less = omega (arith, st .less, pr .less);
+                  long = pr .long ∙ go .long;
+                  try = λ k.
+                      let a = st .try k in
+                      let x = pr .gone (k .g) (k .rules) (a .env) (k .b .besides) (a .ps) (k .planned .end) (k .setting) (a .held) (a .read) (sure-first _ _ (sure-as (a .is) (k .sure))) in
+                      record { kept = x .kept ∙ a .kept; env = x .env; held = x .held; ps = x .ps; read = x .read; is = a .is ∙ ap (λ y. thenOf y (next k (node k .below) (2 * i))) (x .is) };
+                }
+
+            module _ (w₁ : Words) (now : ℕ) (fr : Frame) (at count : ℕ) (tr : Trying w₁ now fr at count) where
+              pub trying-done : count ≡ 0 → Seeks heads rows types book starts w₀ w₁ plan base n frame deep left (record { found = At i; frame = fr; left = now; next = at })
+              trying-done z = sought (At i) fr now at w₁ (tr .long) (tr .grown) (inside, tr .less) (λ k. (tr .try k .kept, done k))
+                where
+                  done : (k : Case) → SoughtAs (k .g) w₁ (k .b .besides) book (k .rule) (At i) fr now at (whole k)
+                  done k =
+                      let a = tr .try k in
+                      let e : value [] at ≡ value (a .ps) (k .planned .end) = sym (many-none (Layout.part types book) count at (omega arith)) ∙ a .read in
+                      let all : a .ps ≡ [] = cc in
+                      let ends-here : k .planned .end ≡ at = cc in (
+                        a .env,
+                        a .held,
+                        a .is ∙ ap (λ x. thenOf (M.parts true (k .g) (k .rules) (calls true (k .g) (k .rules) deep) x (bindings (a .env) (k .b .besides)) now) (next k (node k .below) (2 * i))) all
+                            ∙ then-ok _ (next k (node k .below) (2 * i)) (some (bindings (a .env) (k .b .besides))) now (parts-end (k .g) (k .rules) deep (bindings (a .env) (k .b .besides)) now)
+                            ∙ after-some (k .g) (k .rules) deep (k .rule) (k .b) (node k .below) (2 * i) now (bindings (a .env) (k .b .besides)),
+                        λ ps replaces. k .planned .replacement ps replaces ∙ ap (λ x. pieces (pairsAt book x)) ends-here,
+                      )
+
+              module _ (more : 0 < count) (w₂ : Words) (r : Taken) (steps : Steps heads rows types book starts w₁ w₂ at fr deep now r) where
+                part-there : (k : Case) → There types book at count (k .planned .end) (tr .try k .ps)
+                part-there k = there types book at count (k .planned .end) (tr .try k .ps) more (tr .try k .read)
+
+                -- the run is that part's step, and what follows it
+                stepping : (k : Case) → whole k ≡ thenOf (thenOf (partRead deep book (partAt types book at) (k .g) (k .rules) (bindings (tr .try k .env) (k .b .besides)) now)
+                    (λ m. whether m (M.parts true (k .g) (k .rules) (calls true (k .g) (k .rules) deep) (part-there k .more)) (return none))) (next k (node k .below) (2 * i))
+                stepping k =
+                    let a = tr .try k in
+                    a .is ∙ ap (λ y. thenOf y (next k (node k .below) (2 * i))) (step-first types book at count (k .planned .end) (a .ps) (part-there k) (k .g) (k .rules) deep (bindings (a .env) (k .b .besides)) now)
+
+                stepped : (k : Case) → (take (fr .top) w₂ ≡ take (fr .top) w₁) × TakenAs (k .g) w₂ (k .b .besides) (r .verdict) (r .frame) (r .left) (partRead deep book (partAt types book at) (k .g) (k .rules) (bindings (tr .try k .env) (k .b .besides)) now)
+                stepped k = steps .takes .meant (k .g) (k .rules) (bindings (tr .try k .env) (k .b .besides)) (k .setting) (tr .try k .held)
+                    (λ e. k .sure (stepping k ∙ ap (λ y. thenOf (thenOf y (λ m. whether m (M.parts true (k .g) (k .rules) (calls true (k .g) (k .rules) deep) (part-there k .more)) (return none))) (next k (node k .below) (2 * i))) e ∙ stuck-twice _ _))
+
+                still : (k : Case) → take (frame .top) w₂ ≡ take (frame .top) w₀
+                still k = take-less (frame .top) (fr .top) w₁ w₂ (tr .grown .higher) (stepped k .0) ∙ tr .try k .kept
+
+                same-long : length w₂ ≡ length w₀
+                same-long = steps .takes .long ∙ tr .long
+
+                pub trying-differs : r .verdict ≡ Differs → Searching w₂ (r .left) (i + 1)
+                trying-differs v = record {
+                  within = omega (arith, inside);
+                  less = omega (arith, tr .less, steps .takes .less);
+                  long = same-long;
+                  run = λ k.
+                      let y : partRead deep book (partAt types book at) (k .g) (k .rules) (bindings (tr .try k .env) (k .b .besides)) now ≡ ok none (r .left) = rw v at (stepped k .1) in
+                      at-next k w w₂ fuel (r .left) i inside (go .run k) (still k)
+                      (stepping k ∙ ap (λ y. thenOf (thenOf y (λ m. whether m (M.parts true (k .g) (k .rules) (calls true (k .g) (k .rules) deep) (part-there k .more)) (return none))) (next k (node k .below) (2 * i))) y
+                      ∙ none-twice (r .left) _ (next k (node k .below) (2 * i)) ∙ after-none (k .g) (k .rules) deep (k .rule) (k .b) (node k .below) (2 * i) (r .left));
+                }
+
+                pub trying-stops : {no : ℕ} → r .verdict ≡ Stops no → Seeks heads rows types book starts w₀ w₂ plan base n frame deep left (record { found = Stopped no; frame = frame; left = r .left; next = 0 })
+                trying-stops {no} v = sought (Stopped no) frame (r .left) 0 w₂ same-long (grown-same room) (omega (arith, tr .less, steps .takes .less)) (λ k. (still k, stops k))
+                  where
+                    stops : (k : Case) → whole k ≡ stop no (r .left)
+                    stops k =
+                        let y : partRead deep book (partAt types book at) (k .g) (k .rules) (bindings (tr .try k .env) (k .b .besides)) now ≡ stop no (r .left) = rw v at (stepped k .1) in
+                        stepping k ∙ ap (λ y. thenOf (thenOf y (λ m. whether m (M.parts true (k .g) (k .rules) (calls true (k .g) (k .rules) deep) (part-there k .more)) (return none))) (next k (node k .below) (2 * i))) y
+                        ∙ stop-twice no (r .left) _ _

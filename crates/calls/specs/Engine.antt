@@ -1,0 +1,333 @@
+-- What each function of the engine promises: its answer is the meaning's, strict, unless that is stuck; what is below what it was given is unchanged; the
+-- attempts left never rise. Assumes nothing: these are definitions.
+use Prim.Native.Nat.{ℕ, zero, suc, _+_, _*_, _<_, _≤_, _^_}
+use mathlib.Core.Path.{_≡_}
+use mathlib.Core.List.{List, [], _∷_}
+use mathlib.Core.Bool.{Bool, true, false}
+use mathlib.Core.Option.{Option, none, some}
+use lib.ListN.{length, getD, take, drop, set, getElem?}
+use lib.Dec.{leb}
+use Rattle.words.specs.Reader.{Words, pick, Read, value, refused}
+use Rattle.grammar.specs.Grammar.{Grammar}
+use Rattle.grammar.specs.Limits.{mostTypes}
+use Rattle.grammar.specs.Tables.{Tables}
+use Rattle.tree.specs.Limits.{mostNodes}
+use Rattle.tree.specs.Tree.{size}
+use Rattle.rules.specs.Limits.{mostRules, mostApplications}
+use Rattle.rules.specs.Rules as Rules
+use Rattle.rules.specs.Rules.{Piece, Rule, Application, applied, arguments, applications, conditionOf, shapes, pieces, pairsIn}
+use Rattle.rules.specs.Layout as Layout
+use Rattle.rules.specs.Layout.{PartAt, partAt, partOf}
+use Rattle.rules.specs.declared.Strategy.{Strategy}
+use Rattle.rules.specs.declared.Strategy.the-variants.{RootOnly, FirstMatch, Exhaustive}
+use Rattle.rules.specs.declared.Deconstruct.{Deconstruct}
+use Rattle.meaning.specs.Limits.{mostLive}
+use Rattle.meaning.specs.Computation.{Result, ok, stop, stuck, Comp, _>>=_, _>>_, return, never}
+use Rattle.meaning.specs.Meaning as M
+use Rattle.meaning.specs.Meaning.{Env, Bindings, live, total, variable, variables, liveWithin, nodesWithin, Ending, done, stopped, cannotGoOn, Found, put, calls}
+use Rattle.rewrite.specs.Marked.{unmarked}
+use Rattle.rewrite.specs.Arena.{Standing}
+use Rattle.rewrite.specs.Vars.{EnvAt, startsOf, Sound}
+use Rattle.rewrite.specs.Matching.{bindings}
+use Rattle.rewrite.specs.declared.Vars.{Vars}
+use Rattle.rewrite.specs.declared.Verdict.{Verdict}
+use Rattle.rewrite.specs.declared.Verdict.the-variants.{Matches, Differs, Stops}
+use Rattle.rules.specs.Views.{pairsAt, Planned}
+use Rattle.rewrite.specs.declared.arena.Frame.{Frame}
+use Rattle.rules.specs.declared.Plan.{Plan}
+use Rattle.calls.specs.declared.Taken.{Taken}
+use Rattle.calls.specs.declared.Found as Code
+use Rattle.calls.specs.declared.Found.the-variants.{At, Nowhere, Stopped}
+use Rattle.calls.specs.declared.Sought.{Sought}
+use Rattle.calls.specs.declared.Tested.{Tested}
+use Rattle.calls.specs.declared.Built.{Built}
+use Rattle.calls.specs.declared.Chained.{Chained}
+use Rattle.calls.specs.declared.Called.{Called}
+
+-- THE SMALL FUNCTIONS
+
+-- how many nodes are tried at most: all, or the root alone
+abbrev pub triedOf : Strategy → ℕ → ℕ
+triedOf RootOnly zero = 0
+triedOf RootOnly (suc n) = 1
+triedOf FirstMatch n = n
+triedOf Exhaustive n = n
+
+abbrev pub againOf : Strategy → Bool
+againOf RootOnly = false
+againOf FirstMatch = false
+againOf Exhaustive = true
+
+-- a chain's count; 0, if that is no count
+abbrev pub countOf : Words → ℕ → ℕ
+countOf pairs at = pick (leb (getD pairs at 0) mostApplications) (getD pairs at 0) 0
+
+abbrev pub turnedBy : Bool → Verdict → Verdict
+turnedBy negated (Stops n) = Stops n
+turnedBy true Matches = Differs
+turnedBy false Matches = Matches
+turnedBy true Differs = Matches
+turnedBy false Differs = Differs
+
+-- WHAT IS OPEN
+
+-- there is room for what may still be live, and for the scratch above it
+pub record Room (w : Words) (frame : Frame) : Type 0 where
+  pub sound : Sound (frame .vars)
+  pub few : frame .live ≤ mostLive
+  pub low : frame .top ≤ 2 * frame .live
+  pub long : 16384 ≤ length w
+
+-- what is open only grows
+pub record Grown (before after : Frame) : Type 0 where
+  pub sound : Sound (after .vars)
+  pub few : after .live ≤ mostLive
+  pub low : after .top ≤ 2 * after .live
+  pub more : before .live ≤ after .live
+  pub higher : before .top ≤ after .top
+
+-- the variables' trees stand below the free memory, and so many nodes are live
+pub record Held (g : Grammar) (w : Words) (frame : Frame) (b : Bindings) : Type 0 where
+  pub stands : EnvAt g (take (frame .top) w) (startsOf (frame .vars)) (b .env)
+  pub counted : frame .live ≡ b .besides + total (b .env)
+
+-- the tree of n nodes on top becomes a variable
+pub record MoreFrame (frame : Frame) (n : ℕ) (r : Frame) : Type 0 where
+  pub grown : Grown frame r
+  pub bound : frame .vars .n < 16 → r ≡ record { vars = record { n = frame .vars .n + 1; starts = set (frame .vars .starts) (frame .vars .n) (frame .top) }; live = frame .live + n; top = frame .top + 2 * n }
+
+-- what the engine works with: a grammar's tables, and the places of a book's rules
+pub record Setting (heads rows : Words) (types : ℕ) (book starts : Words) (g : Grammar) (rules : Rules.Rules) : Type 0 where
+  pub tables : Tables g heads rows
+  pub few : types ≤ mostTypes
+  pub placed : (n : ℕ) (r : Rule) → getElem? rules n ≡ some r → (n < mostRules) × ((next : ℕ) × (Layout.rule types book (getD starts n 0) ≡ value r next))
+
+-- ANSWERS
+
+-- it goes on or stops by name
+abbrev pub Sure : {A : Type 0} → Result A → Type 0
+Sure m = m ≡ stuck → ⊥
+
+-- 0 says that a computation gives a value of which P holds; any other number that it stops by it
+abbrev pub Says : {A : Type 0} → (A → Type 0) → ℕ → ℕ → Result A → Type 0
+Says {A} P zero left m = (a : A) × P a × (m ≡ ok a left)
+Says P (suc k) left m = m ≡ stop (suc k) left
+
+-- what a verdict says of a computation that gives a match or none
+abbrev pub TakenAs : Grammar → Words → ℕ → Verdict → Frame → ℕ → Result (Option Bindings) → Type 0
+TakenAs g w besides Matches frame left m = (env : Env) × Held g w frame (bindings env besides) × (m ≡ ok (some (bindings env besides)) left)
+TakenAs g w besides Differs frame left m = m ≡ ok none left
+TakenAs g w besides (Stops n) frame left m = m ≡ stop n left
+
+-- .. and of one that tests
+abbrev pub TestedAs : Verdict → ℕ → Result Bool → Type 0
+TestedAs Matches left m = m ≡ ok true left
+TestedAs Differs left m = m ≡ ok false left
+TestedAs (Stops n) left m = m ≡ stop n left
+
+-- .. and where a search ended of one that searches; a rule's replacement stands at `next`
+abbrev pub SoughtAs : Grammar → Words → ℕ → Words → Rule → Code.Found → Frame → ℕ → ℕ → Result (Option Found) → Type 0
+SoughtAs g w besides book r (At i) frame left next m =
+    (env : Env) × Held g w frame (bindings env besides) × (m ≡ ok (some (record { place = 2 * i; bound = bindings env besides })) left)
+    × ((ps : List Piece) → r .replacement ≡ some ps → ps ≡ pieces (pairsAt book next))
+SoughtAs g w besides book r Nowhere frame left next m = m ≡ ok none left
+SoughtAs g w besides book r (Stopped n) frame left next m = m ≡ stop n left
+
+-- how a call ended, by its number
+abbrev pub EndedAs : ℕ → Ending → Type 0
+EndedAs zero e = e ≡ done
+EndedAs (suc k) e = e ≡ stopped (suc k)
+
+-- a match is one of the scope's nodes, and cost an attempt
+abbrev pub FoundFits : ℕ → ℕ → Code.Found → ℕ → Type 0
+FoundFits n left (At i) now = (i < n) × (now < left)
+FoundFits n left Nowhere now = now ≤ left
+FoundFits n left (Stopped k) now = now ≤ left
+
+-- a marked tree of some type
+abbrev pub Tree : Grammar → Words → ℕ → ℕ → Words → Type 0
+Tree g w base n ws = (t : ℕ) × Standing g w base n t ws
+
+-- PARTS
+
+module _ (w w′ : Words) (frame : Frame) (left : ℕ) (r : Taken) where
+  -- the answer is the computation's
+  pub record Takes (With : Grammar → Rules.Rules → Type 0) (f : Grammar → Rules.Rules → Bindings → Comp (Option Bindings)) : Type 0 where
+    pub grown : Grown frame (r .frame)
+    pub less : r .left ≤ left
+    pub long : length w′ ≡ length w
+    pub meant : (g : Grammar) (rules : Rules.Rules) (b : Bindings) → With g rules → Held g w frame b → Sure (f g rules b left)
+        → (take (frame .top) w′ ≡ take (frame .top) w) × TakenAs g w′ (b .besides) (r .verdict) (r .frame) (r .left) (f g rules b left)
+
+-- a part at the level of calls `deep`
+abbrev pub partOn : ℕ → Rules.Part → Grammar → Rules.Rules → Bindings → Comp (Option Bindings)
+partOn deep p g rules b = M.part true g rules (calls true g rules deep) p b
+
+-- .. whatever stands there; stuck, if none does
+abbrev pub partRead : ℕ → Words → Read PartAt → Grammar → Rules.Rules → Bindings → Comp (Option Bindings)
+partRead deep book (value q next) g rules b = partOn deep (partOf book q) g rules b
+partRead deep book (refused n p) g rules b = never
+
+-- the part that takes a variable apart, or searches it
+abbrev pub deconstructIn : Words → Bool → ℕ → ℕ → ℕ → Rules.Part
+deconstructIn book true s x p = Rules.search s (getD book x 0) (shapes (pairsAt book p))
+deconstructIn book false s x p = Rules.deconstruct (getD book x 0) (shapes (pairsAt book p))
+
+pub record Deconstructs (book w : Words) (d : Deconstruct) (next : ℕ) (frame : Frame) (left : ℕ) (r : Taken) : Type 0 where
+  pub next-is : r .next ≡ next
+  pub takes : (deep : ℕ) → Takes w w frame left r (λ g rules. length g ≤ mostTypes) (partOn deep (deconstructIn book (d .searches) (d .searched) (d .variable) (d .pattern)))
+
+module _ (heads rows : Words) (types : ℕ) (book starts w w′ : Words) where
+  abbrev pub With : Grammar → Rules.Rules → Type 0
+  With g rules = Setting heads rows types book starts g rules
+
+  pub record Constructs (at next : ℕ) (frame : Frame) (deep left : ℕ) (r : Taken) : Type 0 where
+    pub next-is : r .next ≡ next
+    pub takes : (u : ℕ) → Takes w w′ frame left r With (partOn deep (Rules.construct u (pieces (pairsAt book at))))
+
+  pub record Conditions (negated : Bool) (at next : ℕ) (frame : Frame) (deep left : ℕ) (r : Taken) : Type 0 where
+    pub next-is : r .next ≡ next
+    pub takes : Takes w w′ frame left r With (partOn deep (Rules.condition negated (getD (pairsAt book at) 1 0) (conditionOf (pairsAt book at))))
+
+  pub record Steps (at : ℕ) (frame : Frame) (deep left : ℕ) (r : Taken) : Type 0 where
+    pub next-is : (q : PartAt) (next : ℕ) → partAt types book at ≡ value q next → r .next ≡ next
+    pub takes : Takes w w′ frame left r With (partRead deep book (partAt types book at))
+
+  -- SEARCH
+
+  pub record Seeks (plan : Plan) (base n : ℕ) (frame : Frame) (deep left : ℕ) (r : Sought) : Type 0 where
+    pub grown : Grown frame (r .frame)
+    pub fits : FoundFits n left (r .found) (r .left)
+    pub long : length w′ ≡ length w
+    pub meant : (g : Grammar) (rules : Rules.Rules) (rule : Rule) (b : Bindings) (scope : Words) → With g rules → Planned types book rule plan → Held g w frame b → Tree g (take (frame .top) w) base n scope
+        → Sure (M.seek true g rules (calls true g rules deep) rule scope 0 b left)
+        → (take (frame .top) w′ ≡ take (frame .top) w)
+        × SoughtAs g w′ (b .besides) book rule (r .found) (r .frame) (r .left) (r .next) (M.seek true g rules (calls true g rules deep) rule scope 0 b left)
+
+  -- CONDITIONS
+
+  -- a test of the tree of n nodes at `start`, with the variables b
+  pub record Tests (start n : ℕ) (frame : Frame) (left : ℕ) (r : Tested) (f : Grammar → Rules.Rules → Words → Bindings → Comp Bool) : Type 0 where
+    pub less : r .left ≤ left
+    pub long : length w′ ≡ length w
+    pub meant : (g : Grammar) (rules : Rules.Rules) (scope : Words) (b : Bindings) → With g rules → Held g w frame b → Tree g (take (frame .top) w) start n scope → Sure (f g rules scope b left)
+        → (take (frame .top) w′ ≡ take (frame .top) w) × TestedAs (r .verdict) (r .left) (f g rules scope b left)
+
+  -- a call in a condition, its arguments the variables
+  abbrev pub CallMatches : ℕ → ℕ → ℕ → Frame → ℕ → ℕ → Tested → Type 0
+  CallMatches at start n frame deep left r =
+      (r .left ≤ left)
+      × ((rule : Rule) (next : ℕ) → Layout.rule types book at ≡ value rule next → Tests start n frame left r (λ g rules scope b. M.callMatches true g rules (calls true g rules deep) rule (b .env) scope (b .besides)))
+
+-- one application of a condition
+abbrev pub succeedsAt : ℕ → Words → ℕ → Grammar → Rules.Rules → Words → Bindings → Comp Bool
+succeedsAt deep pairs at g rules scope b = do
+  args ← variables (b .env) (arguments (getD pairs (at + 1) 0) (drop (at + 2) pairs))
+  M.succeeds true g rules (calls true g rules deep) (applied (getD pairs at 0)) args scope (live b)
+
+-- one application of a chain
+abbrev pub applyAt : ℕ → Words → ℕ → Grammar → Rules.Rules → Env → Words → ℕ → Comp Words
+applyAt deep pairs at g rules env scope besides = do
+  args ← variables env (arguments (getD pairs (at + 1) 0) (drop (at + 2) pairs))
+  M.apply true g rules (calls true g rules deep) (applied (getD pairs at 0)) args scope besides
+
+-- the applications of a chain, its count at `from`
+abbrev pub chainAt : Words → ℕ → List Application
+chainAt pairs from = applications (countOf pairs from) (drop (from + 2) pairs)
+
+-- a chain in a tree under way of n nodes
+abbrev pub chainPiece : ℕ → ℕ → List Application → Grammar → Rules.Rules → Env → ℕ → ℕ → Comp Words
+chainPiece deep x apps g rules env besides n = do
+  t ← variable env x
+  liveWithin (besides + n + size t)
+  u ← M.applyChain true g rules (calls true g rules deep) apps env t (besides + n)
+  nodesWithin (n + size u)
+  return u
+
+module _ (heads rows : Words) (types : ℕ) (book starts w w′ : Words) where
+  abbrev pub Succeeds : Words → ℕ → ℕ → ℕ → Frame → ℕ → ℕ → Tested → Type 0
+  Succeeds pairs at start n frame deep left r = Tests heads rows types book starts w w′ start n frame left r (succeedsAt deep pairs at)
+
+  abbrev pub AnySucceeds : Words → ℕ → ℕ → Frame → ℕ → ℕ → Tested → Type 0
+  AnySucceeds pairs start n frame deep left r =
+      Tests heads rows types book starts w w′ start n frame left r (λ g rules scope b. M.anySucceeds true g rules (calls true g rules deep) (chainAt pairs 2) (b .env) scope (live b))
+
+  -- REPLACEMENTS
+
+  -- what was built of the tree of n nodes at base
+  pub record Builds (base n : ℕ) (vars : Vars) (besides left : ℕ) (r : Built) (f : Grammar → Rules.Rules → Env → Words → Comp Words) : Type 0 where
+    pub few : r .nodes ≤ mostNodes
+    pub fits : besides + r .nodes ≤ mostLive
+    pub less : r .left ≤ left
+    pub long : length w′ ≡ length w
+    pub meant : (g : Grammar) (rules : Rules.Rules) (env : Env) (scope : Words) → Setting heads rows types book starts g rules → EnvAt g (take base w) (startsOf vars) env → Tree g w base n scope
+        → Sure (f g rules env scope left)
+        → (take base w′ ≡ take base w) × Says (Tree g w′ base (r .nodes)) (r .stop) (r .left) (f g rules env scope left)
+
+  abbrev pub Applies : Words → ℕ → ℕ → ℕ → Vars → ℕ → ℕ → ℕ → Built → Type 0
+  Applies pairs at base n vars besides deep left r = Builds base n vars besides left r (λ g rules env scope. applyAt deep pairs at g rules env scope besides)
+
+  pub record Chains (pairs : Words) (from base n : ℕ) (vars : Vars) (besides deep left : ℕ) (r : Chained) : Type 0 where
+    pub builds : Builds base n vars besides left (r .built) (λ g rules env scope. M.applyChain true g rules (calls true g rules deep) (chainAt pairs from) env scope besides)
+    pub later : from + 2 ≤ r .next
+    pub near : r .next < 2 ^ 40
+    pub next-is : r .built .stop ≡ 0 → r .next ≡ from + 2 + 2 * pairsIn (chainAt pairs from)
+
+  -- what a piece adds to the tree under way of n nodes on top
+  pub record FillsChain (pairs : Words) (i n : ℕ) (frame : Frame) (deep left : ℕ) (r : Chained) : Type 0 where
+    pub few : r .built .stop ≡ 0 → r .built .nodes ≤ mostNodes
+    pub fits : r .built .stop ≡ 0 → frame .live + r .built .nodes ≤ mostLive
+    pub less : r .built .left ≤ left
+    pub long : length w′ ≡ length w
+    pub near : r .next < 2 ^ 40
+    pub next-is : r .built .stop ≡ 0 → r .next ≡ i + 4 + 2 * pairsIn (chainAt pairs (i + 2))
+    pub meant : (g : Grammar) (rules : Rules.Rules) (b : Bindings) → Setting heads rows types book starts g rules → Held g w frame b
+        → Sure (chainPiece deep (getD pairs (i + 1) 0) (chainAt pairs (i + 2)) g rules (b .env) (live b) n left)
+        → (take (frame .top + 2 * n) w′ ≡ take (frame .top + 2 * n) w)
+        × Says (λ u. (r .built .nodes ≡ n + size u) × Tree g w′ (frame .top + 2 * n) (size u) u) (r .built .stop) (r .built .left) (chainPiece deep (getD pairs (i + 1) 0) (chainAt pairs (i + 2)) g rules (b .env) (live b) n left)
+
+  -- what was built on top, with P
+  pub record Fresh (frame : Frame) (left : ℕ) (r : Built) (P : Grammar → Words → Type 0) (f : Grammar → Rules.Rules → Bindings → Comp Words) : Type 0 where
+    pub few : r .stop ≡ 0 → r .nodes ≤ mostNodes
+    pub fits : r .stop ≡ 0 → frame .live + r .nodes ≤ mostLive
+    pub less : r .left ≤ left
+    pub long : length w′ ≡ length w
+    pub meant : (g : Grammar) (rules : Rules.Rules) (b : Bindings) → Setting heads rows types book starts g rules → Held g w frame b → Sure (f g rules b left)
+        → (take (frame .top) w′ ≡ take (frame .top) w) × Says (P g) (r .stop) (r .left) (f g rules b left)
+
+  -- .. not marked yet
+  abbrev pub Fills : ℕ → Frame → ℕ → ℕ → Built → Type 0
+  Fills at frame deep left r =
+      Fresh frame left r (λ g ws. (length ws ≡ 2 * r .nodes) × (unmarked (take (2 * r .nodes) (drop (frame .top) w′)) ≡ unmarked ws))
+      (λ g rules b. M.fill true g rules (calls true g rules deep) (pieces (pairsAt book at)) (b .env) (live b) 0)
+
+  -- .. a tree of whatever type is asked
+  abbrev pub Finishes : ℕ → Frame → ℕ → ℕ → Built → Type 0
+  Finishes at frame deep left r =
+      (u : ℕ) → Fresh frame left r (λ g ws. Standing g w′ (frame .top) (r .nodes) u ws) (λ g rules b. M.finish true g rules (calls true g rules deep) u (pieces (pairsAt book at)) b)
+
+  -- the scope of n nodes at base after a replacement, or as it was
+  pub record Replaces (at base n i : ℕ) (frame : Frame) (deep left : ℕ) (r : Built) : Type 0 where
+    pub few : r .stop ≡ 0 → r .nodes ≤ mostNodes
+    pub fits : r .stop ≡ 0 → frame .live + r .nodes ≤ mostLive + n
+    pub less : r .left ≤ left
+    pub long : length w′ ≡ length w
+    pub meant : (g : Grammar) (rules : Rules.Rules) (b : Bindings) (t target : ℕ) (scope : Words) → Setting heads rows types book starts g rules → Held g w frame b → Standing g w base n t scope
+        → Sure (M.replace true g rules (calls true g rules deep) target (pieces (pairsAt book at)) scope (record { place = 2 * i; bound = b }) left)
+        → (take base w′ ≡ take base w) × ((r .stop ≡ 0 → ⊥) → take (base + 2 * n) w′ ≡ take (base + 2 * n) w)
+        × Says (Standing g w′ base (r .nodes) t) (r .stop) (r .left) (M.replace true g rules (calls true g rules deep) target (pieces (pairsAt book at)) scope (record { place = 2 * i; bound = b }) left)
+
+  -- what a call leaves of its scope: so many nodes, which stand at base
+  abbrev pub Left : Grammar → ℕ → Called → M.Called → Type 0
+  Left g base r c = EndedAs (r .stop) (c .ending) × (r .left ≡ c .left) × (r .replacements ≡ c .replacements) × Tree g w′ base (r .nodes) (c .scope)
+
+  -- A CALL, of the rule whose map stands at `at`
+  pub record Calls (at base n : ℕ) (vars : Vars) (besides deep left : ℕ) (r : Called) : Type 0 where
+    pub few : r .nodes ≤ mostNodes
+    pub fits : (k : ℕ) → k ≤ besides → k + n ≤ mostLive → k + r .nodes ≤ mostLive
+    pub less : r .left ≤ left
+    pub long : length w′ ≡ length w
+    pub meant : (g : Grammar) (rules : Rules.Rules) (rule : Rule) (next : ℕ) (args : Env) (scope : Words) (others : ℕ) → Setting heads rows types book starts g rules
+        → Layout.rule types book at ≡ value rule next → EnvAt g (take base w) (startsOf vars) args → besides ≡ others + total args → Tree g w base n scope
+        → (M.call true g rules (calls true g rules deep) rule args scope others left .ending ≡ cannotGoOn → ⊥)
+        → (take base w′ ≡ take base w) × Left g base r (M.call true g rules (calls true g rules deep) rule args scope others left)

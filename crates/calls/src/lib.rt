@@ -1,0 +1,1019 @@
+// The recursive calls of a run. Trees lie on work memory as on a stack: the scopes of the open calls, what their parts construct, the tree under way.
+//
+// Every member of the cycle may call those below it, and `apply` and `succeeds` the calls one level deeper. All that is below what a member is given stays
+// as it is.
+use grammar::limits::HEADS;
+use grammar::limits::ROWS;
+use rewrite::MOST_LIVE;
+use rewrite::Matched;
+use rewrite::Vars;
+use rewrite::Verdict;
+use rewrite::arena;
+use rewrite::arena::Frame;
+use rules::Condition;
+use rules::Construct;
+use rules::Deconstruct;
+use rules::Part;
+use rules::PartRead;
+use rules::Plan;
+use rules::Strategy;
+use rules::limits::MARK_CHAIN;
+use rules::limits::MARK_VARIABLE;
+ghost use mathlib.Core.Path.{_≡_};
+ghost use Prim.Native.Nat.{ℕ, _+_, _*_, _<_, _≤_, _^_};
+ghost use lib.ListN.{length, getD};
+ghost use Rattle.rewrite.specs.Vars.{Sound};
+ghost use Rattle.calls.specs.Engine.{triedOf, againOf, countOf, turnedBy, Room, MoreFrame, Deconstructs, Constructs, Conditions, Steps, Seeks, CallMatches, Succeeds, AnySucceeds, Applies, Chains, FillsChain, Fills, Finishes, Replaces, Calls};
+
+const STARTS: usize = 64;
+
+const FIRST_OPERATION: u32 = 1000;
+
+const MOST_APPLICATIONS: u32 = 4;
+
+// What a part's step found, what is open then, the attempts left, and where the next part stands.
+pub struct Taken {
+    pub verdict: Verdict,
+    pub frame: Frame,
+    pub left: u32,
+    pub next: usize,
+}
+
+// Where a search ended: at a node, by its number in the scope; nowhere; or by a stop.
+pub enum Found {
+    At(usize),
+    Nowhere,
+    Stopped(u32),
+}
+
+// What a search found, what is open then, the attempts left, and where the rule's replacement stands.
+pub struct Sought {
+    pub found: Found,
+    pub frame: Frame,
+    pub left: u32,
+    pub next: usize,
+}
+
+// Whether an application of a condition succeeds, and the attempts left.
+pub struct Tested {
+    pub verdict: Verdict,
+    pub left: u32,
+}
+
+// A tree that was built: 0 or the number of the stop, its nodes, the attempts left.
+pub struct Built {
+    pub stop: u32,
+    pub nodes: usize,
+    pub left: u32,
+}
+
+// What a chain made of its tree, and where the pairs after the chain begin.
+pub struct Chained {
+    pub built: Built,
+    pub next: usize,
+}
+
+// What a call left: 0 or the number of the stop, the nodes of its scope, the attempts left, and its replacements.
+pub struct Called {
+    pub stop: u32,
+    pub nodes: usize,
+    pub left: u32,
+    pub replacements: u32,
+}
+
+fn taking(verdict: Verdict, frame: Frame, left: u32, next: usize) -> Taken
+    ensures { λ r. ⌜ r ≡ record { verdict = verdict; frame = frame; left = left; next = next } ⌝ }
+{
+    Taken {
+        verdict,
+        frame,
+        left,
+        next,
+    }
+}
+
+fn seeking(found: Found, frame: Frame, left: u32, next: usize) -> Sought
+    ensures { λ r. ⌜ r ≡ record { found = found; frame = frame; left = left; next = next } ⌝ }
+{
+    Sought {
+        found,
+        frame,
+        left,
+        next,
+    }
+}
+
+fn building(stop: u32, nodes: usize, left: u32) -> Built
+    ensures { λ r. ⌜ r ≡ record { stop = stop; nodes = nodes; left = left } ⌝ }
+{
+    Built { stop, nodes, left }
+}
+
+// How many nodes are tried at most: all, or the root alone.
+fn tried(strategy: Strategy, n: usize) -> usize
+    ensures { λ r. ⌜ r ≡ triedOf strategy n ⌝ }
+{
+    match strategy {
+        Strategy::RootOnly => { if 0 < n { 1 } else { 0 } }
+        Strategy::FirstMatch => n,
+        Strategy::Exhaustive => n,
+    }
+}
+
+// Does the search begin again after a replacement?
+fn again(strategy: Strategy) -> bool
+    ensures { λ r. ⌜ r ≡ againOf strategy ⌝ }
+{
+    match strategy {
+        Strategy::RootOnly => false,
+        Strategy::FirstMatch => false,
+        Strategy::Exhaustive => true,
+    }
+}
+
+// Where rule n stands.
+fn rule_at(starts: &[usize; STARTS], n: u32) -> usize
+    ensures { λ r. ⌜ (n < 64 → r ≡ getD (now (starts .entry)) n 0) ⌝ }
+{
+    let i = words::wide(n);
+    if i < STARTS { starts[i] } else { 0 }
+}
+
+// How many applications a chain has, its count at `at`; 0, if that is no count.
+fn chain_count(pairs: &[u32], at: usize) -> u32
+    ensures { λ r. ⌜ (r ≡ countOf (now (pairs .entry)) at) × (r ≤ 4) ⌝ }
+{
+    let k = words::word(pairs, at);
+    if MOST_APPLICATIONS < k { 0 } else { k }
+}
+
+// The other verdict, if the condition holds where none succeeds.
+fn turned(verdict: Verdict, negated: bool) -> Verdict
+    ensures { λ r. ⌜ r ≡ turnedBy negated verdict ⌝ }
+{
+    match verdict {
+        Verdict::Stops(n) => Verdict::Stops(n),
+        Verdict::Matches => {
+            if negated {
+                Verdict::Differs
+            } else {
+                Verdict::Matches
+            }
+        }
+        Verdict::Differs => {
+            if negated {
+                Verdict::Matches
+            } else {
+                Verdict::Differs
+            }
+        }
+    }
+}
+
+// What is open after a match.
+fn after_match(m: Matched, top: usize) -> Frame
+    ensures { λ r. ⌜ r ≡ record { vars = m .vars; live = m .live; top = top } ⌝ }
+{
+    let vars = m.vars;
+    let live = m.live;
+    Frame { vars, live, top }
+}
+
+// A part that takes a variable apart.
+fn deconstruct(
+    book: &[u32],
+    w: &[u32],
+    d: Deconstruct,
+    next: usize,
+    frame: Frame,
+    left: u32,
+) -> Taken
+    requires { ⌜ Room (now w) frame ⌝ }
+    ensures { λ r. ⌜ Deconstructs (now (book .entry)) (now (w .entry)) d next frame left r ⌝ }
+{
+    let pairs = rules::pairs_of(book, d.pattern);
+    let vars = frame.vars;
+    let live = frame.live;
+    let top = frame.top;
+    let start = rewrite::start_of(vars, words::word(book, d.variable));
+    let n = arena::nodes_at(w, start, top);
+    if n == 0 {
+        return taking(Verdict::Differs, frame, left, next);
+    }
+    let end = start + 2 * n;
+    let arena = &w[..top];
+    if d.searches {
+        let m = rewrite::match_first(
+            d.searched,
+            pairs,
+            arena,
+            &arena[start..end],
+            start,
+            vars,
+            live,
+        );
+        let verdict = m.verdict;
+        let after = after_match(m, top);
+        return taking(verdict, after, left, next);
+    }
+    let m = rewrite::match_pattern(pairs, arena, &arena[start..end], start, vars, live);
+    let verdict = m.verdict;
+    let after = after_match(m, top);
+    taking(verdict, after, left, next)
+}
+
+// The tree of n nodes on top becomes a variable.
+fn constructed(frame: Frame, n: usize) -> Frame
+    requires { ⌜ Sound (frame .vars) × (frame .live + n ≤ 6144) × (frame .top ≤ 2 * frame .live) ⌝ }
+    ensures { λ r. ⌜ MoreFrame frame n r ⌝ }
+{
+    let vars = frame.vars;
+    let live = frame.live;
+    let top = frame.top;
+    let k = vars.n;
+    if 16 <= k {
+        return frame;
+    }
+    let bound = rewrite::bind(vars, top as u32);
+    Frame {
+        vars: bound,
+        live: live + n,
+        top: top + 2 * n,
+    }
+}
+
+// THE CYCLE
+
+// A part that builds a tree.
+fn construct(
+    heads: &[u32; HEADS],
+    rows: &[u8; ROWS],
+    types: u32,
+    book: &[u32],
+    starts: &[usize; STARTS],
+    w: &mut [u32],
+    at: usize,
+    next: usize,
+    frame: Frame,
+    deep: usize,
+    left: u32,
+) -> Taken
+    requires { ⌜ Room (now w) frame × (1 ≤ types) ⌝ }
+    ensures { λ r. ⌜ Constructs (now (heads .entry)) (now (rows .entry)) types (now (book .entry)) (now (starts .entry)) (now (w .entry)) (now (w .exit)) at next frame deep left r ⌝ }
+{
+    let b = finish(heads, rows, types, book, starts, w, at, frame, deep, left);
+    let stop = b.stop;
+    if stop != 0 {
+        return taking(Verdict::Stops(stop), frame, b.left, next);
+    }
+    let more = constructed(frame, b.nodes);
+    taking(Verdict::Matches, more, b.left, next)
+}
+
+// A part that tests.
+fn condition(
+    heads: &[u32; HEADS],
+    rows: &[u8; ROWS],
+    types: u32,
+    book: &[u32],
+    starts: &[usize; STARTS],
+    w: &mut [u32],
+    c: Condition,
+    next: usize,
+    frame: Frame,
+    deep: usize,
+    left: u32,
+) -> Taken
+    requires { ⌜ Room (now w) frame × (1 ≤ types) ⌝ }
+    ensures { λ r. ⌜ Conditions (now (heads .entry)) (now (rows .entry)) types (now (book .entry)) (now (starts .entry)) (now (w .entry)) (now (w .exit)) (c .negated) (c .chain) next frame deep left r ⌝ }
+{
+    let pairs = rules::pairs_of(book, c.chain);
+    let vars = frame.vars;
+    let start = rewrite::start_of(vars, words::word(pairs, 1));
+    let n = arena::nodes_at(w, start, frame.top);
+    if MOST_LIVE < frame.live + n {
+        return taking(Verdict::Stops(44), frame, left, next);
+    }
+    let t = any_succeeds(
+        heads,
+        rows,
+        types,
+        book,
+        starts,
+        w,
+        pairs,
+        start,
+        n,
+        frame,
+        deep,
+        left,
+    );
+    let verdict = t.verdict;
+    let v = turned(verdict, c.negated);
+    taking(v, frame, t.left, next)
+}
+
+// The part whose map stands at a position.
+fn step(
+    heads: &[u32; HEADS],
+    rows: &[u8; ROWS],
+    types: u32,
+    book: &[u32],
+    starts: &[usize; STARTS],
+    w: &mut [u32],
+    at: usize,
+    frame: Frame,
+    deep: usize,
+    left: u32,
+) -> Taken
+    requires { ⌜ Room (now w) frame × (1 ≤ types) ⌝ }
+    ensures { λ r. ⌜ Steps (now (heads .entry)) (now (rows .entry)) types (now (book .entry)) (now (starts .entry)) (now (w .entry)) (now (w .exit)) at frame deep left r ⌝ }
+{
+    let r = rules::read_part(types, book, at);
+    match r {
+        PartRead::NoPart(_, _) => taking(Verdict::Differs, frame, left, at),
+        PartRead::Found(f) => {
+            let part = f.part;
+            let next = f.next;
+            match part {
+                Part::Deconstruct(d) => deconstruct(book, w, d, next, frame, left),
+                Part::Construct(c) => construct(
+                    heads,
+                    rows,
+                    types,
+                    book,
+                    starts,
+                    w,
+                    c.replacement,
+                    next,
+                    frame,
+                    deep,
+                    left,
+                ),
+                Part::Condition(c) => {
+                    condition(
+                        heads,
+                        rows,
+                        types,
+                        book,
+                        starts,
+                        w,
+                        c,
+                        next,
+                        frame,
+                        deep,
+                        left,
+                    )
+                }
+            }
+        }
+    }
+}
+
+// The first node of the scope, n nodes from base on, at which an attempt matches. Document 01's nested loops over nodes and parts: left by a label at the first
+// match, yielding its position by `break`.
+fn seek(
+    heads: &[u32; HEADS],
+    rows: &[u8; ROWS],
+    types: u32,
+    book: &[u32],
+    starts: &[usize; STARTS],
+    w: &mut [u32],
+    plan: Plan,
+    base: usize,
+    n: usize,
+    frame: Frame,
+    deep: usize,
+    left: u32,
+) -> Sought
+    requires { ⌜ Room (now w) frame × (1 ≤ types) × (plan .count ≤ 8) × (base < 2 ^ 32) × (n ≤ 2048) × (0 < n → base + 2 * n ≤ frame .top) ⌝ }
+    ensures { λ r. ⌜ Seeks (now (heads .entry)) (now (rows .entry)) types (now (book .entry)) (now (starts .entry)) (now (w .entry)) (now (w .exit)) plan base n frame deep left r ⌝ }
+{
+    let pairs = rules::pairs_of(book, plan.pattern);
+    let strategy = plan.strategy;
+    let last = tried(strategy, n);
+    let end = base + 2 * n;
+    let mut fuel = left;
+    let mut i: usize = 0;
+    let found = 'nodes: loop {
+        if last <= i {
+            break 'nodes seeking(Found::Nowhere, frame, fuel, 0);
+        }
+        let p = base + 2 * i;
+        if rewrite::type_in(w[p]) != plan.target {
+            i = i + 1;
+            continue 'nodes;
+        }
+        if fuel == 0 {
+            break 'nodes seeking(Found::Stopped(40), frame, fuel, 0);
+        }
+        fuel = fuel - 1;
+        let vars = frame.vars;
+        let arena = &w[..frame.top];
+        let m = rewrite::match_pattern(pairs, arena, &arena[p..end], p, vars, frame.live);
+        let verdict = m.verdict;
+        match verdict {
+            Verdict::Differs => {
+                i = i + 1;
+                continue 'nodes;
+            }
+            Verdict::Stops(no) => {
+                break 'nodes seeking(Found::Stopped(no), frame, fuel, 0);
+            }
+            Verdict::Matches => {}
+        }
+        let mut now = after_match(m, frame.top);
+        let mut at = plan.first;
+        let mut k = plan.count;
+        while 0 < k {
+            let t = step(heads, rows, types, book, starts, w, at, now, deep, fuel);
+            fuel = t.left;
+            let verdict = t.verdict;
+            match verdict {
+                Verdict::Differs => {
+                    i = i + 1;
+                    continue 'nodes;
+                }
+                Verdict::Stops(no) => {
+                    break 'nodes seeking(Found::Stopped(no), frame, fuel, 0);
+                }
+                Verdict::Matches => {
+                    let after = t.frame;
+                    now = after;
+                    at = t.next;
+                    k = k - 1;
+                }
+            }
+        }
+        break 'nodes seeking(Found::At(i), now, fuel, at);
+    };
+    found
+}
+
+// Is there a match in the tree of n nodes at `start`? The open call's variables are the arguments.
+fn matches(
+    heads: &[u32; HEADS],
+    rows: &[u8; ROWS],
+    types: u32,
+    book: &[u32],
+    starts: &[usize; STARTS],
+    w: &mut [u32],
+    at: usize,
+    start: usize,
+    n: usize,
+    frame: Frame,
+    deep: usize,
+    left: u32,
+) -> Tested
+    requires { ⌜ Sound (frame .vars) × (frame .live ≤ 2 ^ 17) × (frame .top ≤ 2 * frame .live) × (frame .top ≤ 12288) × (16384 ≤ length (now w)) × (1 ≤ types) × (start < 2 ^ 32) × (n ≤ 2048) × (0 < n → start + 2 * n ≤ frame .top) ⌝ }
+    ensures { λ r. ⌜ CallMatches (now (heads .entry)) (now (rows .entry)) types (now (book .entry)) (now (starts .entry)) (now (w .entry)) (now (w .exit)) at start n frame deep left r ⌝ }
+{
+    let plan = rules::plan_of(types, book, at);
+    let live = frame.live + n;
+    if MOST_LIVE < live {
+        return Tested {
+            verdict: Verdict::Stops(44),
+            left,
+        };
+    }
+    let vars = frame.vars;
+    let inner = Frame {
+        vars,
+        live,
+        top: frame.top,
+    };
+    let s = seek(
+        heads,
+        rows,
+        types,
+        book,
+        starts,
+        w,
+        plan,
+        start,
+        n,
+        inner,
+        deep,
+        left,
+    );
+    let found = s.found;
+    match found {
+        Found::At(_) => Tested {
+            verdict: Verdict::Matches,
+            left: s.left,
+        },
+        Found::Nowhere => Tested {
+            verdict: Verdict::Differs,
+            left: s.left,
+        },
+        Found::Stopped(no) => Tested {
+            verdict: Verdict::Stops(no),
+            left: s.left,
+        },
+    }
+}
+
+// Does the application whose first word is at `at` succeed on the tree of n nodes at `start`?
+fn succeeds(
+    heads: &[u32; HEADS],
+    rows: &[u8; ROWS],
+    types: u32,
+    book: &[u32],
+    starts: &[usize; STARTS],
+    w: &mut [u32],
+    pairs: &[u32],
+    at: usize,
+    start: usize,
+    n: usize,
+    frame: Frame,
+    deep: usize,
+    left: u32,
+) -> Tested
+    requires { ⌜ Room (now w) frame × (1 ≤ types) × (at < 2 ^ 36) × (start < 2 ^ 32) × (n ≤ 2048) × (0 < n → start + 2 * n ≤ frame .top) ⌝ }
+    ensures { λ r. ⌜ Succeeds (now (heads .entry)) (now (rows .entry)) types (now (book .entry)) (now (starts .entry)) (now (w .entry)) (now (w .exit)) (now (pairs .entry)) at start n frame deep left r ⌝ }
+{
+    let a = words::word(pairs, at);
+    let vars = frame.vars;
+    let args = arena::gather(w, pairs, at + 2, words::word(pairs, at + 1), vars);
+    let given = args.vars;
+    if a < FIRST_OPERATION {
+        if deep == 0 {
+            return Tested {
+                verdict: Verdict::Stops(41),
+                left,
+            };
+        }
+        let inner = Frame {
+            vars: given,
+            live: frame.live + args.total,
+            top: frame.top,
+        };
+        let rule = rule_at(starts, a);
+        return matches(
+            heads,
+            rows,
+            types,
+            book,
+            starts,
+            w,
+            rule,
+            start,
+            n,
+            inner,
+            deep - 1,
+            left,
+        );
+    }
+    let b = arena::first_value(w, given);
+    if rewrite::operations::holds(a, words::word(w, start + 1), b) {
+        return Tested {
+            verdict: Verdict::Matches,
+            left,
+        };
+    }
+    Tested {
+        verdict: Verdict::Differs,
+        left,
+    }
+}
+
+// Does one of the chain's applications succeed? They are tried in order up to the first that does.
+fn any_succeeds(
+    heads: &[u32; HEADS],
+    rows: &[u8; ROWS],
+    types: u32,
+    book: &[u32],
+    starts: &[usize; STARTS],
+    w: &mut [u32],
+    pairs: &[u32],
+    start: usize,
+    n: usize,
+    frame: Frame,
+    deep: usize,
+    left: u32,
+) -> Tested
+    requires { ⌜ Room (now w) frame × (1 ≤ types) × (start < 2 ^ 32) × (n ≤ 2048) × (0 < n → start + 2 * n ≤ frame .top) ⌝ }
+    ensures { λ r. ⌜ AnySucceeds (now (heads .entry)) (now (rows .entry)) types (now (book .entry)) (now (starts .entry)) (now (w .entry)) (now (w .exit)) (now (pairs .entry)) start n frame deep left r ⌝ }
+{
+    let mut k = chain_count(pairs, 2);
+    let mut at: usize = 4;
+    let mut fuel = left;
+    while 0 < k {
+        let t = succeeds(
+            heads,
+            rows,
+            types,
+            book,
+            starts,
+            w,
+            pairs,
+            at,
+            start,
+            n,
+            frame,
+            deep,
+            fuel,
+        );
+        let verdict = t.verdict;
+        match verdict {
+            Verdict::Stops(_) => {
+                return t;
+            }
+            Verdict::Matches => {
+                return t;
+            }
+            Verdict::Differs => {
+                fuel = t.left;
+                at = at + 2 + 2 * words::wide(words::word(pairs, at + 1));
+                k = k - 1;
+            }
+        }
+    }
+    Tested {
+        verdict: Verdict::Differs,
+        left: fuel,
+    }
+}
+
+// Applies the application whose first word is at `at` to the tree of n nodes at base, which is on top.
+fn apply(
+    heads: &[u32; HEADS],
+    rows: &[u8; ROWS],
+    types: u32,
+    book: &[u32],
+    starts: &[usize; STARTS],
+    w: &mut [u32],
+    pairs: &[u32],
+    at: usize,
+    base: usize,
+    n: usize,
+    vars: Vars,
+    besides: usize,
+    deep: usize,
+    left: u32,
+) -> Built
+    requires { ⌜ Sound vars × (besides + n ≤ 6144) × (base ≤ 2 * besides) × (n ≤ 2048) × (16384 ≤ length (now w)) × (1 ≤ types) × (at < 2 ^ 36) ⌝ }
+    ensures { λ r. ⌜ Applies (now (heads .entry)) (now (rows .entry)) types (now (book .entry)) (now (starts .entry)) (now (w .entry)) (now (w .exit)) (now (pairs .entry)) at base n vars besides deep left r ⌝ }
+{
+    let a = words::word(pairs, at);
+    let args = arena::gather(w, pairs, at + 2, words::word(pairs, at + 1), vars);
+    let given = args.vars;
+    if a < FIRST_OPERATION {
+        if deep == 0 {
+            return building(41, n, left);
+        }
+        let rule = rule_at(starts, a);
+        let live = besides + args.total;
+        let c = call(
+            heads,
+            rows,
+            types,
+            book,
+            starts,
+            w,
+            rule,
+            base,
+            n,
+            given,
+            live,
+            deep - 1,
+            left,
+        );
+        return building(c.stop, c.nodes, c.left);
+    }
+    let b = arena::first_value(w, given);
+    let stop = arena::compute_at(w, base, a, b);
+    building(stop, n, left)
+}
+
+// Applies a chain, its count at `from`, to the tree of n nodes at base, one application after the other.
+fn chain(
+    heads: &[u32; HEADS],
+    rows: &[u8; ROWS],
+    types: u32,
+    book: &[u32],
+    starts: &[usize; STARTS],
+    w: &mut [u32],
+    pairs: &[u32],
+    from: usize,
+    base: usize,
+    n: usize,
+    vars: Vars,
+    besides: usize,
+    deep: usize,
+    left: u32,
+) -> Chained
+    requires { ⌜ Sound vars × (besides + n ≤ 6144) × (base ≤ 2 * besides) × (n ≤ 2048) × (16384 ≤ length (now w)) × (1 ≤ types) × (from ≤ 1024) ⌝ }
+    ensures { λ r. ⌜ Chains (now (heads .entry)) (now (rows .entry)) types (now (book .entry)) (now (starts .entry)) (now (w .entry)) (now (w .exit)) (now (pairs .entry)) from base n vars besides deep left r ⌝ }
+{
+    let mut k = chain_count(pairs, from);
+    let mut at = from + 2;
+    let mut fuel = left;
+    let mut nodes = n;
+    while 0 < k {
+        let b = apply(
+            heads,
+            rows,
+            types,
+            book,
+            starts,
+            w,
+            pairs,
+            at,
+            base,
+            nodes,
+            vars,
+            besides,
+            deep,
+            fuel,
+        );
+        if b.stop != 0 {
+            return Chained { built: b, next: at };
+        }
+        fuel = b.left;
+        nodes = b.nodes;
+        at = at + 2 + 2 * words::wide(words::word(pairs, at + 1));
+        k = k - 1;
+    }
+    let b = building(0, nodes, fuel);
+    Chained { built: b, next: at }
+}
+
+// A chain of applications in a replacement, at the pair i, in a tree under way of n nodes.
+fn fill_chain(
+    heads: &[u32; HEADS],
+    rows: &[u8; ROWS],
+    types: u32,
+    book: &[u32],
+    starts: &[usize; STARTS],
+    w: &mut [u32],
+    pairs: &[u32],
+    i: usize,
+    n: usize,
+    frame: Frame,
+    deep: usize,
+    left: u32,
+) -> Chained
+    requires { ⌜ Room (now w) frame × (1 ≤ types) × (i ≤ 256) × (frame .live + n ≤ 6144) × (n ≤ 2048) ⌝ }
+    ensures { λ r. ⌜ FillsChain (now (heads .entry)) (now (rows .entry)) types (now (book .entry)) (now (starts .entry)) (now (w .entry)) (now (w .exit)) (now (pairs .entry)) i n frame deep left r ⌝ }
+{
+    let vars = frame.vars;
+    let base = frame.top + 2 * n;
+    let start = rewrite::start_of(vars, words::word(pairs, i + 1));
+    let m = arena::nodes_at(w, start, frame.top);
+    let besides = frame.live + n;
+    if MOST_LIVE < besides + m {
+        let b = building(44, n, left);
+        return Chained { built: b, next: i };
+    }
+    arena::push_tree(w, start, m, base);
+    let c = chain(
+        heads,
+        rows,
+        types,
+        book,
+        starts,
+        w,
+        pairs,
+        i + 2,
+        base,
+        m,
+        vars,
+        besides,
+        deep,
+        left,
+    );
+    let b = c.built;
+    if b.stop != 0 {
+        return c;
+    }
+    let nodes = n + b.nodes;
+    let stop = arena::over(nodes, 0);
+    let r = building(stop, nodes, b.left);
+    Chained {
+        built: r,
+        next: c.next,
+    }
+}
+
+// Fills a replacement, the pairs whose count stands at `at`, on top: its nodes are not marked yet.
+fn fill(
+    heads: &[u32; HEADS],
+    rows: &[u8; ROWS],
+    types: u32,
+    book: &[u32],
+    starts: &[usize; STARTS],
+    w: &mut [u32],
+    at: usize,
+    frame: Frame,
+    deep: usize,
+    left: u32,
+) -> Built
+    requires { ⌜ Room (now w) frame × (1 ≤ types) ⌝ }
+    ensures { λ r. ⌜ Fills (now (heads .entry)) (now (rows .entry)) types (now (book .entry)) (now (starts .entry)) (now (w .entry)) (now (w .exit)) at frame deep left r ⌝ }
+{
+    let pairs = rules::pairs_of(book, at);
+    let vars = frame.vars;
+    let top = frame.top;
+    let live = frame.live;
+    let mut fuel = left;
+    let mut n: usize = 0;
+    let mut i: usize = 0;
+    while i + 2 <= pairs.len() {
+        let t = pairs[i];
+        let v = pairs[i + 1];
+        if t == MARK_CHAIN {
+            let c = fill_chain(
+                heads,
+                rows,
+                types,
+                book,
+                starts,
+                w,
+                pairs,
+                i,
+                n,
+                frame,
+                deep,
+                fuel,
+            );
+            let b = c.built;
+            if b.stop != 0 {
+                return b;
+            }
+            n = b.nodes;
+            fuel = b.left;
+            i = c.next;
+        } else if t == MARK_VARIABLE {
+            let start = rewrite::start_of(vars, v);
+            let m = arena::nodes_at(w, start, top);
+            let stop = arena::over(n + m, live + n + m);
+            if stop != 0 {
+                return building(stop, n, fuel);
+            }
+            arena::push_tree(w, start, m, top + 2 * n);
+            n = n + m;
+            i = i + 2;
+        } else {
+            let stop = arena::over(n + 1, live + n + 1);
+            if stop != 0 {
+                return building(stop, n, fuel);
+            }
+            arena::push_node(w, top + 2 * n, t, v);
+            n = n + 1;
+            i = i + 2;
+        }
+    }
+    building(0, n, fuel)
+}
+
+// Fills a replacement and finishes it: its nodes are marked, and its nesting is tested.
+fn finish(
+    heads: &[u32; HEADS],
+    rows: &[u8; ROWS],
+    types: u32,
+    book: &[u32],
+    starts: &[usize; STARTS],
+    w: &mut [u32],
+    at: usize,
+    frame: Frame,
+    deep: usize,
+    left: u32,
+) -> Built
+    requires { ⌜ Room (now w) frame × (1 ≤ types) ⌝ }
+    ensures { λ r. ⌜ Finishes (now (heads .entry)) (now (rows .entry)) types (now (book .entry)) (now (starts .entry)) (now (w .entry)) (now (w .exit)) at frame deep left r ⌝ }
+{
+    let b = fill(heads, rows, types, book, starts, w, at, frame, deep, left);
+    if b.stop != 0 {
+        return b;
+    }
+    let stop = arena::close(heads, rows, w, frame.top, b.nodes);
+    building(stop, b.nodes, b.left)
+}
+
+// Finishes the replacement of a match and puts it in place of node i.
+fn replace(
+    heads: &[u32; HEADS],
+    rows: &[u8; ROWS],
+    types: u32,
+    book: &[u32],
+    starts: &[usize; STARTS],
+    w: &mut [u32],
+    at: usize,
+    base: usize,
+    n: usize,
+    i: usize,
+    frame: Frame,
+    deep: usize,
+    left: u32,
+) -> Built
+    requires { ⌜ Room (now w) frame × (1 ≤ types) × (i < n) × (n ≤ 2048) × (base + 2 * n ≤ frame .top) ⌝ }
+    ensures { λ r. ⌜ Replaces (now (heads .entry)) (now (rows .entry)) types (now (book .entry)) (now (starts .entry)) (now (w .entry)) (now (w .exit)) at base n i frame deep left r ⌝ }
+{
+    let b = finish(heads, rows, types, book, starts, w, at, frame, deep, left);
+    if b.stop != 0 {
+        return building(b.stop, n, b.left);
+    }
+    let p = arena::replace_tree(heads, rows, w, base, n, i, frame.top, b.nodes);
+    building(p.stop, p.nodes, b.left)
+}
+
+// Rewrites the scope, n nodes from base on, which is on top: the rounds of search and replacement. The variables are the arguments; so many nodes are live besides
+// the scope.
+pub fn call(
+    heads: &[u32; HEADS],
+    rows: &[u8; ROWS],
+    types: u32,
+    book: &[u32],
+    starts: &[usize; STARTS],
+    w: &mut [u32],
+    at: usize,
+    base: usize,
+    n: usize,
+    vars: Vars,
+    besides: usize,
+    deep: usize,
+    left: u32,
+) -> Called
+    requires { ⌜ Sound vars × (besides ≤ 2 ^ 17) × (base ≤ 2 * besides) × (base ≤ 12288) × (n ≤ 2048) × (16384 ≤ length (now w)) × (1 ≤ types) ⌝ }
+    ensures { λ r. ⌜ Calls (now (heads .entry)) (now (rows .entry)) types (now (book .entry)) (now (starts .entry)) (now (w .entry)) (now (w .exit)) at base n vars besides deep left r ⌝ }
+{
+    let plan = rules::plan_of(types, book, at);
+    let strategy = plan.strategy;
+    let repeats = again(strategy);
+    let mut nodes = n;
+    let mut fuel = left;
+    let mut count: u32 = 0;
+    loop {
+        let live = besides + nodes;
+        if MOST_LIVE < live {
+            return calling(44, nodes, fuel, count);
+        }
+        let frame = Frame {
+            vars,
+            live,
+            top: base + 2 * nodes,
+        };
+        let s = seek(
+            heads,
+            rows,
+            types,
+            book,
+            starts,
+            w,
+            plan,
+            base,
+            nodes,
+            frame,
+            deep,
+            fuel,
+        );
+        let found = s.found;
+        match found {
+            Found::Nowhere => {
+                return calling(0, nodes, s.left, count);
+            }
+            Found::Stopped(no) => {
+                return calling(no, nodes, s.left, count);
+            }
+            Found::At(i) => {
+                let after = s.frame;
+                let b = replace(
+                    heads,
+                    rows,
+                    types,
+                    book,
+                    starts,
+                    w,
+                    s.next,
+                    base,
+                    nodes,
+                    i,
+                    after,
+                    deep,
+                    s.left,
+                );
+                if b.stop != 0 {
+                    return calling(b.stop, nodes, b.left, count);
+                }
+                nodes = b.nodes;
+                fuel = b.left;
+                count = count + 1;
+                if !repeats {
+                    return calling(0, nodes, fuel, count);
+                }
+            }
+        }
+    }
+}
+
+fn calling(stop: u32, nodes: usize, left: u32, replacements: u32) -> Called
+    ensures { λ r. ⌜ r ≡ record { stop = stop; nodes = nodes; left = left; replacements = replacements } ⌝ }
+{
+    Called {
+        stop,
+        nodes,
+        left,
+        replacements,
+    }
+}

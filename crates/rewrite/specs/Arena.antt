@@ -1,0 +1,78 @@
+-- What the functions on the stack of trees promise. Assumes nothing: these are definitions.
+use Prim.Native.Nat.{ℕ, zero, suc, _+_, _*_, _<_, _≤_}
+use mathlib.Core.Path.{_≡_}
+use mathlib.Core.List.{List, [], _∷_}
+use lib.ListN.{length, getD, take, drop, set}
+use lib.Dec.{leb}
+use Rattle.words.specs.Reader.{Words, pick}
+use Rattle.grammar.specs.Grammar.{Grammar}
+use Rattle.grammar.specs.Limits.{mostTypes}
+use Rattle.grammar.specs.Tables.{Tables}
+use Rattle.tree.specs.Limits.{mostNodes, mostNesting}
+use Rattle.tree.specs.Tree.{Trees, Tree, size, nesting, firstTree}
+use Rattle.rules.specs.Rules.{Operation, applied, operation, arguments}
+use Rattle.meaning.specs.Limits.{mostLive}
+use Rattle.meaning.specs.Computation.{Result, ok, stop, stuck}
+use Rattle.meaning.specs.Operations.{compute}
+use Rattle.meaning.specs.Meaning.{Env, total, variables, put}
+use Rattle.rewrite.specs.Marked.{marked, unmarked}
+use Rattle.rewrite.specs.Vars.{Stands, EnvAt, startsOf, Sound}
+use Rattle.rewrite.specs.Operating.{argumentsOf}
+use Rattle.rewrite.specs.declared.Vars.{Vars}
+use Rattle.rewrite.specs.declared.arena.Args.{Args}
+use Rattle.rewrite.specs.declared.arena.Placed.{Placed}
+
+-- r is how many nodes the tree at `start` has, if it ends by `top`
+pub record NodesAt (w : Words) (start top r : ℕ) : Type 0 where
+  pub small : r ≤ mostNodes
+  pub inside : 0 < r → start + 2 * r ≤ top
+  pub stands : (g : Grammar) (ws : Words) → length g ≤ mostTypes → Stands g (take top w) start ws → r ≡ size ws
+
+-- 42, 44, or 0 where neither limit would be crossed
+abbrev pub overBy : ℕ → ℕ → ℕ
+overBy n live = pick (leb n mostNodes) (pick (leb live mostLive) 0 44) 42
+
+-- r has the variables that the n pairs from `at` on name, if there are no more than 16, and their nodes; their trees stand below any place below which the
+-- variables' do
+pub record Gathered (w pairs : Words) (at n : ℕ) (vars : Vars) (r : Args) : Type 0 where
+  pub sound : Sound (r .vars)
+  pub small : r .total ≤ 65536
+  pub stands : (g : Grammar) (top : ℕ) (env args : Env) (left : ℕ) → length g ≤ mostTypes → EnvAt g (take top w) (startsOf vars) env → n ≤ 16
+      → variables env (arguments n (drop at pairs)) left ≡ ok args left → EnvAt g (take top w) (startsOf (r .vars)) args × (r .total ≡ total args)
+
+-- the tree of n nodes at top, marked wrongly or not at all, is marked, and r is 43 if it nests too deep
+pub record Closed (heads rows w w′ : Words) (top n r : ℕ) : Type 0 where
+  pub long : length w′ ≡ length w
+  pub closed : (g : Grammar) (u : ℕ) (ws : Words) → Tables g heads rows → Trees g (u ∷ []) ws → size ws ≡ n → n ≤ mostNodes → unmarked (take (2 * n) (drop top w)) ≡ ws
+      → (take top w′ ≡ take top w) × (take (2 * n) (drop top w′) ≡ marked g ws) × (r ≡ pick (leb (nesting g ws) mostNesting) 0 43)
+
+-- a marked tree of n nodes stands at base
+pub record Standing (g : Grammar) (w : Words) (base n t : ℕ) (ws : Words) : Type 0 where
+  pub tree : Tree g t ws
+  pub nodes : size ws ≡ n
+  pub words : take (2 * n) (drop base w) ≡ marked g ws
+
+-- after an attempt to put a tree in place: 0, and the scope stands as it is then; or a stop, and nothing is changed
+abbrev pub PlacedAs : Grammar → Words → Words → ℕ → ℕ → Words → ℕ → ℕ → Type 0
+PlacedAs g w w′ base t scope zero nodes = (take base w′ ≡ take base w) × Standing g w′ base nodes t scope
+PlacedAs g w w′ base t scope (suc k) nodes = w′ ≡ w
+
+-- the tree of m nodes at `from` in the place of node i of the scope of n nodes at base, which has the target's type like it
+pub record Replaced (heads rows w w′ : Words) (base n i from m : ℕ) (r : Placed) : Type 0 where
+  pub long : length w′ ≡ length w
+  pub most : r .nodes ≤ n + m
+  pub few : r .stop ≡ 0 → n ≤ mostNodes → r .nodes ≤ mostNodes
+  pub replaced : (g : Grammar) (t target : ℕ) (scope ws : Words) → Tables g heads rows → Standing g w base n t scope → Standing g w from m target ws
+      → Tree g target (firstTree g (drop (2 * i) scope))
+      → (r .stop ≡ pick (leb (size (put g scope (2 * i) ws)) mostNodes) (pick (leb (nesting g (put g scope (2 * i) ws)) mostNesting) 0 43) 42)
+      × PlacedAs g w w′ base t (put g scope (2 * i) ws) (r .stop) (r .nodes)
+
+-- what an operation made of the number at base: 0, and its value is written; or the stop, and nothing is changed
+abbrev pub ComputedAs : Words → Words → ℕ → Result ℕ → ℕ → ℕ → Type 0
+ComputedAs w w′ base m left zero = (v : ℕ) × (m ≡ ok v left) × (w′ ≡ set w (base + 1) v)
+ComputedAs w w′ base m left (suc k) = (m ≡ stop (suc k) left) × (w′ ≡ w)
+
+pub record Computed (w w′ : Words) (base op b r : ℕ) : Type 0 where
+  pub long : length w′ ≡ length w
+  pub computed : (o : Operation) (left : ℕ) → applied op ≡ operation o → (compute o (getD w (base + 1) 0) (argumentsOf o b) left ≡ stuck → ⊥)
+      → ComputedAs w w′ base (compute o (getD w (base + 1) 0) (argumentsOf o b) left) left r
