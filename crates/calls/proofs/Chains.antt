@@ -74,10 +74,3 @@ unfolding pairsIn
 pairs-step pairs at k h =
     let e = ap pairsIn (applications-step pairs at k h) in
     omega (arith, e, arguments-length (getD pairs (at + 1) 0) (drop (at + 2) pairs))
-
--- steps one after the other
-pub then-then : {A B C : Type 0} (m : Result A) (k : A → Comp B) (f : B → Comp C) → thenOf m (λ a l. thenOf (k a l) f) ≡ thenOf (thenOf m k) f
-unfolding thenOf
-then-then (ok a l) k f = refl
-then-then (stop n l) k f = refl
-then-then stuck k f = refl

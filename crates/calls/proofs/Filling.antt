@@ -36,11 +36,8 @@ use Rattle.rewrite.specs.declared.arena.Frame.{Frame}
 use Rattle.calls.specs.declared.Built.{Built}
 use Rattle.calls.specs.declared.Chained.{Chained}
 use Rattle.calls.proofs.Frames.{take-less, stretch-kept, tree-length, stands-whole, env-up, env-kept, variable-stands, held-kept}
-use Rattle.calls.proofs.Going.{then-ok, then-stop, sure-first, sure-as, variable-sure, live-fits, live-over, nodes-fit, says-ok, says-stop, stop-says}
+use Rattle.calls.proofs.Going.{then-ok, then-stop, sure-first, sure-as, variable-sure, live-fits, live-over, nodes-fit, says-ok, says-stop, stop-says, then-nested}
 
--- A VARIABLE'S TREE
-
--- .. stands where the variable does
 -- WORDS PUSHED
 
 module _ (w w′ x : Words) (to n : ℕ) (l : length x ≡ n) (fits : to + n ≤ length w) (e : w′ ≡ take to w ++ (x ++ drop (to + n) w)) where
@@ -202,12 +199,6 @@ unfolding chainOf
 chain-unwritten ws h = rw (h, chainOf)
 
 -- COMPUTATIONS ONE AFTER THE OTHER
-
-then-nested : {A B C : Type 0} (m : Result A) (k : A → Comp B) (h : B → Comp C) (j : A → Comp C) → ((a : A) (l : ℕ) → thenOf (k a l) h ≡ j a l) → thenOf (thenOf m k) h ≡ thenOf m j
-unfolding thenOf
-then-nested (ok a l) k h j f = f a l
-then-nested (stop n l) k h j f = refl
-then-nested stuck k h j f = refl
 
 then-stuck : {A B : Type 0} (m : Result A) (k : A → Comp B) → m ≡ stuck → thenOf m k ≡ stuck
 unfolding thenOf

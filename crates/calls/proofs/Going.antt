@@ -29,6 +29,16 @@ module _ {A B : Type 0} (m : Result A) (k : A → Comp B) where
   unfolding thenOf
   sure-first s e = s (rw e)
 
+-- one after the other, whichever two are taken together
+pub then-nested : {A B C : Type 0} (m : Result A) (k : A → Comp B) (h : B → Comp C) (j : A → Comp C) → ((a : A) (l : ℕ) → thenOf (k a l) h ≡ j a l) → thenOf (thenOf m k) h ≡ thenOf m j
+unfolding thenOf
+then-nested (ok a l) k h j f = f a l
+then-nested (stop n l) k h j f = refl
+then-nested stuck k h j f = refl
+
+pub then-then : {A B C : Type 0} (m : Result A) (k : A → Comp B) (h : B → Comp C) → thenOf m (λ a l. thenOf (k a l) h) ≡ thenOf (thenOf m k) h
+then-then m k h = sym (then-nested m k h (λ a l. thenOf (k a l) h) (λ a l. refl))
+
 -- an equal computation is not stuck either
 pub sure-as : {A : Type 0} {m n : Result A} → m ≡ n → Sure m → Sure n
 sure-as e s q = s (e ∙ q)

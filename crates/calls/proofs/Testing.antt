@@ -36,10 +36,10 @@ use Rattle.calls.specs.declared.Found.the-variants.{At, Nowhere, Stopped
 use Rattle.calls.specs.declared.Sought.{Sought}
 use Rattle.calls.specs.declared.Taken.{Taken}
 use Rattle.calls.specs.declared.Tested.{Tested}
-use Rattle.calls.proofs.Frames.{env-kept, standing-stands, standing-whole, stands-standing}
-use Rattle.calls.proofs.Going.{sure-first, sure-as, variable-sure, live-fits, live-over}
+use Rattle.calls.proofs.Frames.{env-kept, standing-stands, standing-whole, stands-standing, variable-stands}
+use Rattle.calls.proofs.Going.{sure-first, sure-as, variable-sure, live-fits, live-over, then-then}
 use Rattle.calls.proofs.Applied.{begin-sure, RuleGiven, rule-given, operation-given, arguments-length, rule-few, compare-arguments, value-there, gathered-values}
-use Rattle.calls.proofs.Chains.{condition-read, nextAt, applications-step, then-then}
+use Rattle.calls.proofs.Chains.{condition-read, nextAt, applications-step}
 
 -- A CALL IN A CONDITION
 
@@ -324,19 +324,6 @@ module _ (heads rows : Words) (types : ℕ) (book starts w₀ pairs : Words) (ba
     }
 
 -- A CONDITION
-
-some-below : {A : Type 0} (l : List A) (x : ℕ) (a : A) → getElem? l x ≡ some a → x < length l
-some-below [] x a e = let z : _≡_ {A = ℕ} 0 1 = cc in absurd (omega arith)
-some-below (b ∷ l) zero a e = omega arith
-some-below (b ∷ l) (suc x) a e = let h = some-below l x a e in omega arith
-
--- a variable's tree stands at its start
-pub variable-stands : (g : Grammar) (w : Words) (v : Vars) (env : Env) (x : ℕ) (t : Words) → Sound v → EnvAt g w (startsOf v) env → getElem? env x ≡ some t → Stands g w (startAt v x) t
-variable-stands g w v env x t s e h =
-    let below : x < v .n = omega (arith, some-below env x t h, env-length g w (startsOf v) env e, starts-length v s) in
-    let q = env-get g w (startsOf v) env x e (omega (arith, below, starts-length v s)) in
-    let same : q .0 ≡ t = cc (q .1, h) in
-    subst (λ u. Stands g w (startAt v x) u) same (subst (λ p. Stands g w p (q .0)) (sym (start-is v x s below)) (q .2))
 
 -- the bindings are kept if the condition holds
 abbrev holding : Bool → Bindings → Bool → Comp (Option Bindings)

@@ -179,6 +179,15 @@ fn after_match(m: Matched, top: usize) -> Frame
     Frame { vars, live, top }
 }
 
+// What a match found, as a part's step.
+fn match_taken(m: Matched, top: usize, left: u32, next: usize) -> Taken
+    ensures { λ r. ⌜ r ≡ record { verdict = m .verdict; frame = record { vars = m .vars; live = m .live; top = top }; left = left; next = next } ⌝ }
+{
+    let verdict = m.verdict;
+    let frame = after_match(m, top);
+    taking(verdict, frame, left, next)
+}
+
 // A part that takes a variable apart.
 fn deconstruct(
     book: &[u32],
@@ -212,14 +221,10 @@ fn deconstruct(
             vars,
             live,
         );
-        let verdict = m.verdict;
-        let after = after_match(m, top);
-        return taking(verdict, after, left, next);
+        return match_taken(m, top, left, next);
     }
     let m = rewrite::match_pattern(pairs, arena, &arena[start..end], start, vars, live);
-    let verdict = m.verdict;
-    let after = after_match(m, top);
-    taking(verdict, after, left, next)
+    match_taken(m, top, left, next)
 }
 
 // The tree of n nodes on top becomes a variable.

@@ -1,124 +1,115 @@
-use mathlib.Core.Bool.{true, false}
-use lib.ListN.{length, take, drop, getD, length-take}
-use Rattle.calls.proofs.Parting.{deconstruct-none, deconstruct-matched, ends-by, part-within}
-use Rattle.rewrite.specs.Vars.{startAt}
-use lib.Dec.{eqb}
 use mathlib.Core.Path.{_≡_, refl, sym, ap, _∙_}
 use Prim.Native.Nat.{ℕ, _+_, _*_, _-_, _≤_, _<_}
 use native.Mathlib.Omega.{arith}
+use Rattle.rewrite.specs.Vars.{startAt}
+use mathlib.Core.Bool.{true, false}
+use lib.ListN.{length, take, drop, getD, length-take}
+use Rattle.calls.proofs.Parting.{deconstruct-none, deconstruct-matched, ends-by, part-within}
 use borrow.Author.Needs.{needs}
 use Rattle.calls.proofs.deconstruct.Statement.{statement}
 use Rattle.calls.proofs.deconstruct.Tie as tie
 use Rattle.calls.proofs.deconstruct.Reads as reads
 use Rattle.calls.proofs.deconstruct.Lts as lts
-use Rattle.calls.proofs.after_match.Reads as after-match-reads
-use Rattle.rewrite.proofs.arena.nodes_at.Reads as nodes-at-reads
-use Rattle.rules.proofs.pairs_of.Reads as pairs-of-reads
+use Rattle.calls.proofs.match_taken.Reads as match-taken-reads
 use Rattle.calls.proofs.taking.Reads as taking-reads
+use Rattle.rewrite.proofs.arena.nodes_at.Reads as nodes-at-reads
 use Rattle.rewrite.proofs.match_first.Reads as match-first-reads
 use Rattle.rewrite.proofs.match_pattern.Reads as match-pattern-reads
 use Rattle.rewrite.proofs.start_of.Reads as start-of-reads
+use Rattle.rules.proofs.pairs_of.Reads as pairs-of-reads
 use Rattle.words.proofs.word.Reads as word-reads
 
--- src/lib.rt:195:9
+-- src/lib.rt:203:9
 pairs-of-requires : tie.Need-pairs-of-requires
 pairs-of-requires c κs = search needs
 
--- src/lib.rt:199:41
+-- src/lib.rt:207:41
 word-requires : tie.Need-word-requires
 word-requires c κs = search needs
 
--- src/lib.rt:199:9
+-- src/lib.rt:207:9
 start-of-requires : tie.Need-start-of-requires
 start-of-requires c κs = search needs
 
--- src/lib.rt:200:9
+-- src/lib.rt:208:9
 nodes-at-requires : tie.Need-nodes-at-requires
 nodes-at-requires c κs = search needs
 
--- src/lib.rt:202:9
+-- src/lib.rt:210:9
 taking-requires : tie.Need-taking-requires
 taking-requires c κs = search needs
 
--- src/lib.rt:202:9
+-- src/lib.rt:210:9
 returns : tie.Need-returns
 returns c = rw (c .taking .ensures) (deconstruct-none (c .before .before .before .before .before .before .before .before .before .args .book .now) (c .before .before .before .before .before .before .before .before .before .args .w .now) (c .before .before .before .before .before .before .before .before .before .args .d) (c .before .before .before .before .before .before .before .before .before .args .next) (c .before .before .before .before .before .before .before .before .before .args .frame) (c .before .before .before .before .before .before .before .before .before .args .left) (c .before .before .before .before .before .before .before .before .before .pre) _ _ (c .before .before .before .start-of .ensures .0 ∙ ap (λ k. startAt (c .before .before .before .before .before .before .before .before .before .args .frame .vars) k) (c .before .before .before .before .word .ensures)) (c .before .before .nodes-at .ensures) (c .before .if1 .taken))
 
--- src/lib.rt:204:23
+-- src/lib.rt:212:23
 mul-end : tie.Need-mul-end
 mul-end c = search needs
 
--- src/lib.rt:204:15
+-- src/lib.rt:212:15
 add-end : tie.Need-add-end
 add-end c = search needs
 
--- src/lib.rt:205:9
+-- src/lib.rt:213:9
 slice-aggregate-arena : tie.Need-slice-aggregate-arena
 slice-aggregate-arena c = omega (arith, length-take (c .before .before .before .before .before .before .before .before .before .args .frame .top) (c .before .before .before .before .before .before .before .before .before .args .w .now), c .before .before .before .before .before .before .before .before .before .pre .low, c .before .before .before .before .before .before .before .before .before .pre .few, c .before .before .before .before .before .before .before .before .before .pre .long)
 
--- src/lib.rt:207:64
+-- src/lib.rt:219:13
 mul-match-first : tie.Need-mul-match-first
 mul-match-first c = search needs
 
--- src/lib.rt:207:64
+-- src/lib.rt:219:13
 sub-match-first : tie.Need-sub-match-first
 sub-match-first c = search needs
 
--- src/lib.rt:207:64
+-- src/lib.rt:219:13
 part-match-first-start : tie.Need-part-match-first-start
 part-match-first-start c = search needs
 
--- src/lib.rt:207:64
+-- src/lib.rt:219:13
 part-match-first-end : tie.Need-part-match-first-end
 part-match-first-end c = omega (arith, ends-by (c .before .before .before .nodes-at .ensures) (c .before .before .if1 .left), length-take (c .before .before .before .before .before .before .before .before .before .before .args .frame .top) (c .before .before .before .before .before .before .before .before .before .before .args .w .now), c .before .before .before .before .before .before .before .before .before .before .pre .low, c .before .before .before .before .before .before .before .before .before .before .pre .few, c .before .before .before .before .before .before .before .before .before .before .pre .long)
 
--- src/lib.rt:207:13
+-- src/lib.rt:215:13
 match-first-requires : tie.Need-match-first-requires
 match-first-requires c κs = let i = ends-by (c .before .before .before .before .nodes-at .ensures) (c .before .before .before .if1 .left) in (c .before .before .before .before .before .before .before .before .pairs-of .ensures .1, omega (arith, c .before .before .before .before .before .before .before .before .before .before .before .pre .low, c .before .before .before .before .before .before .before .before .before .before .before .pre .few, part-within (c .before .before .before .before .before .before .before .before .before .before .before .args .w .now) (c .before .before .before .before .before .before .before .before .before .before .before .args .frame .top) (c .before .before .before .before .before .start-of .result) (c .before .before .before .before .before .start-of .result + 2 * c .before .before .before .before .nodes-at .result - c .before .before .before .before .before .start-of .result) (omega arith)), c .before .before .before .before .before .before .before .before .before .before .before .pre .sound, c .before .before .before .before .before .before .before .before .before .before .before .pre .few)
 
--- src/lib.rt:209:13
-after-match-requires : tie.Need-after-match-requires
-after-match-requires c κs = search needs
+-- src/lib.rt:224:9
+match-taken-requires : tie.Need-match-taken-requires
+match-taken-requires c κs = search needs
 
--- src/lib.rt:210:9
-taking-requires-2 : tie.Need-taking-requires-2
-taking-requires-2 c κs = search needs
-
--- src/lib.rt:210:9
+-- src/lib.rt:224:9
 returns-2 : tie.Need-returns-2
-returns-2 c = let z : c .before .before .before .before .before .before .before .before .start-of .result + 2 * c .before .before .before .before .before .before .before .nodes-at .result - c .before .before .before .before .before .before .before .before .start-of .result ≡ 2 * c .before .before .before .before .before .before .before .nodes-at .result = omega arith in rw (c .taking2 .ensures, c .before .after-match .ensures) (deconstruct-matched (c .before .before .before .before .before .before .before .before .before .before .before .before .before .before .args .book .now) (c .before .before .before .before .before .before .before .before .before .before .before .before .before .before .args .w .now) (c .before .before .before .before .before .before .before .before .before .before .before .before .before .before .args .d) (c .before .before .before .before .before .before .before .before .before .before .before .before .before .before .args .next) (c .before .before .before .before .before .before .before .before .before .before .before .before .before .before .args .frame) (c .before .before .before .before .before .before .before .before .before .before .before .before .before .before .args .left) (c .before .before .before .before .before .before .before .before .before .before .before .before .before .before .pre) _ _ (c .before .before .before .before .before .before .before .before .start-of .ensures .0 ∙ ap (λ k. startAt (c .before .before .before .before .before .before .before .before .before .before .before .before .before .before .args .frame .vars) k) (c .before .before .before .before .before .before .before .before .before .word .ensures)) (c .before .before .before .before .before .before .before .nodes-at .ensures) (take (c .before .before .before .before .before .before .before .before .before .before .before .before .before .before .args .frame .top) (c .before .before .before .before .before .before .before .before .before .before .before .before .before .before .args .w .now)) _ refl (ap (λ k. take k (drop (c .before .before .before .before .before .before .before .before .start-of .result) (take (c .before .before .before .before .before .before .before .before .before .before .before .before .before .before .args .frame .top) (c .before .before .before .before .before .before .before .before .before .before .before .before .before .before .args .w .now)))) z) _ (c .before .before .before .before .before .before .before .before .before .before .before .pairs-of .ensures .0) true (c .before .before .before .before .if2 .taken) _ (c .before .before .match-first .ensures true))
+returns-2 c = let z : c .before .before .before .before .before .before .before .start-of .result + 2 * c .before .before .before .before .before .before .nodes-at .result - c .before .before .before .before .before .before .before .start-of .result ≡ 2 * c .before .before .before .before .before .before .nodes-at .result = omega arith in rw (c .match-taken .ensures) (deconstruct-matched (c .before .before .before .before .before .before .before .before .before .before .before .before .before .args .book .now) (c .before .before .before .before .before .before .before .before .before .before .before .before .before .args .w .now) (c .before .before .before .before .before .before .before .before .before .before .before .before .before .args .d) (c .before .before .before .before .before .before .before .before .before .before .before .before .before .args .next) (c .before .before .before .before .before .before .before .before .before .before .before .before .before .args .frame) (c .before .before .before .before .before .before .before .before .before .before .before .before .before .args .left) (c .before .before .before .before .before .before .before .before .before .before .before .before .before .pre) _ _ (c .before .before .before .before .before .before .before .start-of .ensures .0 ∙ ap (λ k. startAt (c .before .before .before .before .before .before .before .before .before .before .before .before .before .args .frame .vars) k) (c .before .before .before .before .before .before .before .before .word .ensures)) (c .before .before .before .before .before .before .nodes-at .ensures) (take (c .before .before .before .before .before .before .before .before .before .before .before .before .before .args .frame .top) (c .before .before .before .before .before .before .before .before .before .before .before .before .before .args .w .now)) _ refl (ap (λ k. take k (drop (c .before .before .before .before .before .before .before .start-of .result) (take (c .before .before .before .before .before .before .before .before .before .before .before .before .before .args .frame .top) (c .before .before .before .before .before .before .before .before .before .before .before .before .before .args .w .now)))) z) _ (c .before .before .before .before .before .before .before .before .before .before .pairs-of .ensures .0) true (c .before .before .before .if2 .taken) _ (c .before .match-first .ensures true))
 
--- src/lib.rt:212:50
+-- src/lib.rt:226:50
 mul-match-pattern : tie.Need-mul-match-pattern
 mul-match-pattern c = search needs
 
--- src/lib.rt:212:50
+-- src/lib.rt:226:50
 sub-match-pattern : tie.Need-sub-match-pattern
 sub-match-pattern c = search needs
 
--- src/lib.rt:212:50
+-- src/lib.rt:226:50
 part-match-pattern-start : tie.Need-part-match-pattern-start
 part-match-pattern-start c = search needs
 
--- src/lib.rt:212:50
+-- src/lib.rt:226:50
 part-match-pattern-end : tie.Need-part-match-pattern-end
 part-match-pattern-end c = omega (arith, ends-by (c .before .before .before .nodes-at .ensures) (c .before .before .if1 .left), length-take (c .before .before .before .before .before .before .before .before .before .before .args .frame .top) (c .before .before .before .before .before .before .before .before .before .before .args .w .now), c .before .before .before .before .before .before .before .before .before .before .pre .low, c .before .before .before .before .before .before .before .before .before .before .pre .few, c .before .before .before .before .before .before .before .before .before .before .pre .long)
 
--- src/lib.rt:212:9
+-- src/lib.rt:226:9
 match-pattern-requires : tie.Need-match-pattern-requires
 match-pattern-requires c κs = let i = ends-by (c .before .before .before .before .nodes-at .ensures) (c .before .before .before .if1 .left) in (c .before .before .before .before .before .before .before .before .pairs-of .ensures .1, omega (arith, c .before .before .before .before .before .before .before .before .before .before .before .pre .low, c .before .before .before .before .before .before .before .before .before .before .before .pre .few), c .before .before .before .before .before .before .before .before .before .before .before .pre .sound, c .before .before .before .before .before .before .before .before .before .before .before .pre .few)
 
--- src/lib.rt:214:9
-after-match-requires-2 : tie.Need-after-match-requires-2
-after-match-requires-2 c κs = search needs
+-- src/lib.rt:227:5
+match-taken-requires-2 : tie.Need-match-taken-requires-2
+match-taken-requires-2 c κs = search needs
 
--- src/lib.rt:215:5
-taking-requires-3 : tie.Need-taking-requires-3
-taking-requires-3 c κs = search needs
-
--- src/lib.rt:191:1
+-- src/lib.rt:192:1
 returns-3 : tie.Need-returns-3
-returns-3 c = let z : c .before .before .before .before .before .before .before .before .start-of .result + 2 * c .before .before .before .before .before .before .before .nodes-at .result - c .before .before .before .before .before .before .before .before .start-of .result ≡ 2 * c .before .before .before .before .before .before .before .nodes-at .result = omega arith in rw (c .taking3 .ensures, c .before .after-match2 .ensures) (deconstruct-matched (c .before .before .before .before .before .before .before .before .before .before .before .before .before .before .args .book .now) (c .before .before .before .before .before .before .before .before .before .before .before .before .before .before .args .w .now) (c .before .before .before .before .before .before .before .before .before .before .before .before .before .before .args .d) (c .before .before .before .before .before .before .before .before .before .before .before .before .before .before .args .next) (c .before .before .before .before .before .before .before .before .before .before .before .before .before .before .args .frame) (c .before .before .before .before .before .before .before .before .before .before .before .before .before .before .args .left) (c .before .before .before .before .before .before .before .before .before .before .before .before .before .before .pre) _ _ (c .before .before .before .before .before .before .before .before .start-of .ensures .0 ∙ ap (λ k. startAt (c .before .before .before .before .before .before .before .before .before .before .before .before .before .before .args .frame .vars) k) (c .before .before .before .before .before .before .before .before .before .word .ensures)) (c .before .before .before .before .before .before .before .nodes-at .ensures) (take (c .before .before .before .before .before .before .before .before .before .before .before .before .before .before .args .frame .top) (c .before .before .before .before .before .before .before .before .before .before .before .before .before .before .args .w .now)) _ refl (ap (λ k. take k (drop (c .before .before .before .before .before .before .before .before .start-of .result) (take (c .before .before .before .before .before .before .before .before .before .before .before .before .before .before .args .frame .top) (c .before .before .before .before .before .before .before .before .before .before .before .before .before .before .args .w .now)))) z) _ (c .before .before .before .before .before .before .before .before .before .before .before .pairs-of .ensures .0) false (c .before .before .before .before .if2 .left) _ (c .before .before .match-pattern .ensures true))
+returns-3 c = let z : c .before .before .before .before .before .before .before .start-of .result + 2 * c .before .before .before .before .before .before .nodes-at .result - c .before .before .before .before .before .before .before .start-of .result ≡ 2 * c .before .before .before .before .before .before .nodes-at .result = omega arith in rw (c .match-taken2 .ensures) (deconstruct-matched (c .before .before .before .before .before .before .before .before .before .before .before .before .before .args .book .now) (c .before .before .before .before .before .before .before .before .before .before .before .before .before .args .w .now) (c .before .before .before .before .before .before .before .before .before .before .before .before .before .args .d) (c .before .before .before .before .before .before .before .before .before .before .before .before .before .args .next) (c .before .before .before .before .before .before .before .before .before .before .before .before .before .args .frame) (c .before .before .before .before .before .before .before .before .before .before .before .before .before .args .left) (c .before .before .before .before .before .before .before .before .before .before .before .before .before .pre) _ _ (c .before .before .before .before .before .before .before .start-of .ensures .0 ∙ ap (λ k. startAt (c .before .before .before .before .before .before .before .before .before .before .before .before .before .args .frame .vars) k) (c .before .before .before .before .before .before .before .before .word .ensures)) (c .before .before .before .before .before .before .nodes-at .ensures) (take (c .before .before .before .before .before .before .before .before .before .before .before .before .before .args .frame .top) (c .before .before .before .before .before .before .before .before .before .before .before .before .before .args .w .now)) _ refl (ap (λ k. take k (drop (c .before .before .before .before .before .before .before .start-of .result) (take (c .before .before .before .before .before .before .before .before .before .before .before .before .before .args .frame .top) (c .before .before .before .before .before .before .before .before .before .before .before .before .before .args .w .now)))) z) _ (c .before .before .before .before .before .before .before .before .before .before .pairs-of .ensures .0) false (c .before .before .before .if2 .left) _ (c .before .match-pattern .ensures true))
 
 pub deconstruct-spec : {M : Type 1} → statement M
 deconstruct-spec =
@@ -138,14 +129,12 @@ deconstruct-spec =
     part-match-first-start
     part-match-first-end
     match-first-requires
-    after-match-requires
-    taking-requires-2
+    match-taken-requires
     returns-2
     mul-match-pattern
     sub-match-pattern
     part-match-pattern-start
     part-match-pattern-end
     match-pattern-requires
-    after-match-requires-2
-    taking-requires-3
+    match-taken-requires-2
     returns-3)

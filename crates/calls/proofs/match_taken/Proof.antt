@@ -1,0 +1,22 @@
+use borrow.Author.Needs.{needs}
+use Rattle.calls.proofs.match_taken.Statement.{statement}
+use Rattle.calls.proofs.match_taken.Tie as tie
+use Rattle.calls.proofs.match_taken.Reads as reads
+use Rattle.calls.proofs.match_taken.Lts as lts
+use Rattle.calls.proofs.after_match.Reads as after-match-reads
+use Rattle.calls.proofs.taking.Reads as taking-reads
+
+-- src/lib.rt:187:9
+after-match-requires : tie.Need-after-match-requires
+after-match-requires c κs = search needs
+
+-- src/lib.rt:188:5
+taking-requires : tie.Need-taking-requires
+taking-requires c κs = search needs
+
+-- src/lib.rt:183:1
+returns : tie.Need-returns
+returns c = rw (c .taking .ensures, c .before .after-match .ensures)
+
+pub match-taken-spec : {M : Type 1} → statement M
+match-taken-spec = tie.close (tie.spec after-match-requires taking-requires returns)
