@@ -54,6 +54,10 @@ use Rattle.calls.proofs.Frames.{take-less, tree-length, some-nodes, sta
 use Rattle.calls.proofs.Going.{then-ok, then-stop, sure-first, sure-as}
 use Rattle.calls.proofs.Parting.{means-taken}
 
+-- the matcher's answer with the variables of an equal frame
+pub answers-as : {arena part : Words} {at : ℕ} {f : Grammar → Words → Bindings → Comp (Option Bindings)} {m : Matched} (a b : Frame) → a ≡ b → Answers arena part at (a .vars) (a .live) f m → Answers arena part at (b .vars) (b .live) f m
+answers-as a b e x = rw e at x
+
 -- HOW MANY NODES ARE TRIED
 
 pub tried-some : (n : ℕ) → 0 < n → 1 ≡ triedOf RootOnly n

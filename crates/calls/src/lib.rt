@@ -400,6 +400,7 @@ fn seek(
     let end = base + 2 * n;
     let mut fuel = left;
     let mut i: usize = 0;
+    let mut now: Frame = frame;
     let found = 'nodes: loop {
         if last <= i {
             break 'nodes seeking(Found::Nowhere, frame, fuel, 0);
@@ -413,9 +414,9 @@ fn seek(
             break 'nodes seeking(Found::Stopped(40), frame, fuel, 0);
         }
         fuel = fuel - 1;
-        let vars = frame.vars;
+        let vars = now.vars;
         let arena = &w[..frame.top];
-        let m = rewrite::match_pattern(pairs, arena, &arena[p..end], p, vars, frame.live);
+        let m = rewrite::match_pattern(pairs, arena, &arena[p..end], p, vars, now.live);
         let verdict = m.verdict;
         match verdict {
             Verdict::Differs => {
@@ -427,7 +428,7 @@ fn seek(
             }
             Verdict::Matches => {}
         }
-        let mut now = after_match(m, frame.top);
+        now = after_match(m, frame.top);
         let mut at = plan.first;
         let mut k = plan.count;
         while 0 < k {
@@ -436,6 +437,7 @@ fn seek(
             let verdict = t.verdict;
             match verdict {
                 Verdict::Differs => {
+                    now = frame;
                     i = i + 1;
                     continue 'nodes;
                 }
