@@ -31,6 +31,42 @@ tamarind_answer tamarind_check_tree(const uint32_t *grammar, size_t grammar_len,
 tamarind_answer tamarind_check_rules(const uint32_t *grammar, size_t grammar_len,
                                      const uint32_t *rules, size_t rules_len);
 
+/* The fewest words of the two memories that a run accepts, and the greatest
+ * budget. */
+#define TAMARIND_RESULT_WORDS 4096
+#define TAMARIND_WORK_WORDS 16384
+#define TAMARIND_GREATEST_BUDGET 1000000
+
+/* How a run ended. */
+#define TAMARIND_DONE 0
+#define TAMARIND_STOPPED 1
+#define TAMARIND_REFUSED 2
+
+/* The outcome of a run. */
+typedef struct {
+    uint32_t ending;       /* one of the three above */
+    uint32_t number;       /* of the stop, 40 to 45, or of the refusal; 0 when done */
+    uint64_t position;     /* of a refusal, otherwise 0 */
+    uint32_t attempts;     /* attempts that were started; 0 when refused */
+    uint32_t replacements; /* that the first call put in place; 0 when refused */
+    uint64_t filled;       /* words of the result that are the tree; 0 when refused */
+} tamarind_outcome;
+
+/* Checks everything (refusals 1 to 5, 10 to 12, 20 to 24, 30 to 33) and rewrites
+ * the tree by the rule book with at most `budget` attempts.
+ *
+ * `result` and `work` share no word with each other or with the inputs, and may
+ * hold any words. A refused run changes none of them. Otherwise the first
+ * `filled` words of the result are a tree, its other words are unchanged, and
+ * all words of `work` are 0. The words to post are the filled ones if the run is
+ * done, otherwise those of `tree`. */
+tamarind_outcome tamarind_run(const uint32_t *grammar, size_t grammar_len,
+                              const uint32_t *rules, size_t rules_len,
+                              const uint32_t *tree, size_t tree_len,
+                              uint32_t budget,
+                              uint32_t *result, size_t result_len,
+                              uint32_t *work, size_t work_len);
+
 #ifdef __cplusplus
 }
 #endif

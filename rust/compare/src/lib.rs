@@ -1,9 +1,14 @@
 //! Compares the proved core with the reference, a core written apart from the
 //! same papers.
 
+mod memories;
+mod runs;
+
 use std::collections::BTreeMap;
 
 use generate::{shrink, to_bench, Input};
+
+pub use runs::{compare_list, compare_run};
 
 /// A check's answer: nothing, or number and position.
 pub type Answer = Result<(), (u32, usize)>;
@@ -37,7 +42,8 @@ fn reference(result: Result<(), reference::Refusal>) -> Answer {
     result.map_err(|refusal| (refusal.number, refusal.position))
 }
 
-/// How often each answer was given: 0 stands for nothing refused.
+/// How often each answer was given: 0 stands for nothing refused, of a run for
+/// done.
 pub type Counts = BTreeMap<u32, u64>;
 
 /// Runs all checks of one input on both cores and counts the answers. A

@@ -1,37 +1,60 @@
-//! `compare --seed S --count N`: compares N inputs from seed S on.
+//! `compare --seed S --count N`: compares the checks of N inputs from seed S
+//! on; with `--runs`, N lists of runs.
 
 use std::process::ExitCode;
 
-use compare::{compare_checks, Counts};
-use generate::check_input;
+use compare::{compare_checks, compare_list, Counts};
+use generate::{check_input, run_list};
 
 fn main() -> ExitCode {
-    let Some((seed, count)) = arguments() else {
-        eprintln!("usage: compare [--seed S] [--count N]");
+    let Some(arguments) = arguments() else {
+        eprintln!("usage: compare [--runs] [--seed S] [--count N]");
         return ExitCode::from(2);
     };
+    let Arguments { runs, seed, count } = arguments;
     let mut counts = Counts::new();
     for seed in seed..seed + count {
-        if let Err(disagreement) = compare_checks(&check_input(seed), &mut counts) {
+        let agreed = if runs {
+            compare_list(&run_list(seed), &mut counts)
+        } else {
+            compare_checks(&check_input(seed), &mut counts)
+        };
+        if let Err(disagreement) = agreed {
             println!("seed {seed}: {disagreement}");
             return ExitCode::FAILURE;
         }
     }
-    println!("{count} inputs from seed {seed} on agree; answers by number: {counts:?}");
+    if runs {
+        let total: u64 = counts.values().sum();
+        println!("{total} runs in {count} lists from seed {seed} on agree; endings by number: {counts:?}");
+    } else {
+        println!("{count} inputs from seed {seed} on agree; answers by number: {counts:?}");
+    }
     ExitCode::SUCCESS
 }
 
-/// The seed and the count, or `None` if the arguments cannot be read.
-fn arguments() -> Option<(u64, u64)> {
-    let (mut seed, mut count) = (0, 20_000);
+/// What is to be compared.
+struct Arguments {
+    runs: bool,
+    seed: u64,
+    count: u64,
+}
+
+/// The arguments, or `None` if they cannot be read.
+fn arguments() -> Option<Arguments> {
+    let mut read = Arguments {
+        runs: false,
+        seed: 0,
+        count: 20_000,
+    };
     let mut arguments = std::env::args().skip(1);
     while let Some(name) = arguments.next() {
-        let value = arguments.next()?.parse().ok()?;
         match name.as_str() {
-            "--seed" => seed = value,
-            "--count" => count = value,
+            "--runs" => read.runs = true,
+            "--seed" => read.seed = arguments.next()?.parse().ok()?,
+            "--count" => read.count = arguments.next()?.parse().ok()?,
             _ => return None,
         }
     }
-    Some((seed, count))
+    Some(read)
 }

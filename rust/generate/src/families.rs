@@ -320,6 +320,72 @@ pub fn live_nodes_near_limit(seed: u64) -> Input {
     input(LIST, &[main, called], tree, random.pick(&[1, 2, 3, 50]))
 }
 
+/// Live nodes that come to 6,144 exactly, or a few more or less, at one kind of
+/// step: a chain's copy, a call's arguments, a binding in the call, one in a
+/// search there, a copied variable.
+pub fn live_nodes_at_limit(seed: u64) -> Input {
+    let random = &mut Random::new(seed);
+    let last_step = random.below(5);
+    let arguments = random.below(5);
+    let found_late = random.chance(50);
+    // The tree itself, its variable, the chain's copy, and what follows.
+    let mut trees = 3;
+    trees += if last_step >= 1 { arguments } else { 0 };
+    trees += usize::from(last_step >= 2) + usize::from(last_step >= 4);
+    trees += usize::from(last_step >= 3 && !found_late);
+    let total = limits::LIVE_NODES - 4 + random.below(8);
+    let numbers = (total / trees).min(limits::NODES) / 2 - 1;
+    let tree = list(random, numbers);
+    let mut chain = vec![(66, 0), (1, 0), (1, arguments as u32)];
+    chain.extend(vec![(65, 0); arguments]);
+    let mut main = whole(&chain);
+    main.parts = built_nodes(total - trees * (2 * numbers + 2));
+    let called = called_at_limit(arguments as u32, last_step, found_late);
+    let budget = random.pick(&[1, 2, 3, 50]);
+    input(LIST, &[main, called], tree, budget)
+}
+
+/// Parts that build so many nodes: sequences, which have an odd count each.
+fn built_nodes(mut nodes: usize) -> Vec<PartText> {
+    let mut parts = Vec::new();
+    while nodes > 0 {
+        let numbers = (nodes - 1).min(120) / 2;
+        let mut built = [(1, 0), (2, 5)].repeat(numbers);
+        built.push((1, 1));
+        nodes -= built.len();
+        parts.push(construct(1, &built));
+    }
+    parts
+}
+
+/// The rule that is called with so many arguments: it goes on as far as the
+/// last step, by its pattern, its search and its replacement.
+fn called_at_limit(arguments: u32, last_step: usize, found_late: bool) -> RuleText {
+    let own = arguments;
+    let mut called = whole(&[(0, 0), (1, 1)]);
+    called.parameters = vec![0; arguments as usize];
+    if last_step < 2 {
+        called.pattern = vec![(0, 0), (1, 1)];
+    }
+    if last_step >= 3 {
+        // Either the whole sequence, or its last number, after all others.
+        let pattern = if found_late {
+            vec![(1, 0), (64, 2), (1, 1)]
+        } else {
+            vec![(64, 1)]
+        };
+        called.parts.push(PartText::Deconstruct {
+            searched: Some(1),
+            variable: own,
+            pattern,
+        });
+    }
+    if last_step == 4 {
+        called.replacement = Some(vec![(65, own)]);
+    }
+    called
+}
+
 /// Searches, in parts and by rules, for patterns that bind something before
 /// they fail on most nodes.
 pub fn searches(seed: u64) -> Input {
@@ -426,6 +492,36 @@ pub fn conditions(seed: u64) -> Input {
     let numbers = random.between(0, 5);
     let tree = list(random, numbers);
     input(LIST, &rules, tree, 60)
+}
+
+/// Numbers that are lowered by 1.00 while they are greater than 0: many
+/// attempts and replacements before the end. One that is no whole number comes
+/// below 0 at last (stop 45).
+pub fn counting_down(seed: u64) -> Input {
+    let random = &mut Random::new(seed);
+    let positive = PartText::Condition {
+        negated: false,
+        chain: vec![(66, 0), (1, 0), (1_009, 1), (65, 2)],
+    };
+    let rule = RuleText {
+        target: 2,
+        reach: 2,
+        pattern: vec![(64, 2)],
+        parts: vec![construct(2, &[(2, 100)]), construct(2, &[(2, 0)]), positive],
+        replacement: Some(vec![(66, 0), (1, 0), (1_001, 1), (65, 1)]),
+        ..RuleText::default()
+    };
+    let numbers = random.between(1, 24);
+    let most = random.between(1, 24);
+    let mut tree = vec![0, 0];
+    for _ in 0..numbers {
+        tree.extend([1, 0, 2, random.between(0, most) as u32 * 100]);
+    }
+    if random.chance(30) {
+        *tree.last_mut().expect("a number") += 50;
+    }
+    tree.extend([1, 1]);
+    input(LIST, &[rule], tree, limits::BUDGET as usize)
 }
 
 /// Operations and comparisons when about 6,144 nodes are live.

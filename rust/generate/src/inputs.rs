@@ -12,8 +12,12 @@ use crate::random::Random;
 use crate::rulebooks::{damaged_rules, rules};
 use crate::trees::{damaged_tree, random_tree, tree_at_limits, Shapes};
 
-/// The greatest budget of generated runs, so that each is short.
+/// The greatest budget of most generated runs, so that each is short.
 const MOST_ATTEMPTS: u32 = 2_000;
+/// The greatest budget of runs that would not end without it.
+const MOST_ENDLESS_ATTEMPTS: u32 = 20_000;
+/// The most nodes of a tree that is given that budget.
+const MOST_ENDLESS_NODES: usize = 40;
 
 /// An input whose grammar, rules and tree pass their checks, but for rules
 /// that sometimes do not.
@@ -95,7 +99,8 @@ pub fn run_input(seed: u64) -> Input {
         0 | 1 => families::calls_near_limit(seed),
         2 => families::nodes_near_limit(seed),
         3 | 4 => families::nesting_near_limit(seed),
-        5 | 6 => families::live_nodes_near_limit(seed),
+        5 => families::live_nodes_near_limit(seed),
+        6 => families::live_nodes_at_limit(seed),
         7 => families::operations_near_limit(seed),
         8 => families::conditions(seed),
         9 => families::searches(seed),
@@ -108,10 +113,75 @@ pub fn run_input(seed: u64) -> Input {
     }
 }
 
+/// An input for a run as it comes: mostly one that runs, sometimes one with a
+/// great budget or a long run, sometimes one that is refused.
+pub fn any_run_input(seed: u64) -> Input {
+    let mut random = Random::new(seed);
+    let seed = u64::from(random.word());
+    match random.below(20) {
+        0..=3 => refused_input(seed),
+        4 => with_large_budget(seed, run_input(seed)),
+        5 => with_budget_near_need(seed, families::counting_down(seed)),
+        _ => run_input(seed),
+    }
+}
+
+/// An input that is mostly refused, some with faults in several places, of
+/// which only the first is told.
+pub fn refused_input(seed: u64) -> Input {
+    let mut random = Random::new(seed);
+    let mut input = check_input(u64::from(random.word()));
+    let other = check_input(u64::from(random.word()));
+    match random.below(10) {
+        0 => input.budget = random.pick(&[0, limits::BUDGET + 1, u32::MAX]),
+        1 => input.tree = other.tree,
+        2 => input.rules = other.rules,
+        3 => input.grammar = other.grammar,
+        4 => input = with_tree_at_limits(seed),
+        _ => {}
+    }
+    // What passes after all must not run for long.
+    if (1..=limits::BUDGET).contains(&input.budget) {
+        input.budget = input.budget.min(MOST_ATTEMPTS);
+    }
+    input
+}
+
+/// An input in which only the tree may be refused, at a limit.
+fn with_tree_at_limits(seed: u64) -> Input {
+    let mut input = typed_input(seed);
+    let decoded = Grammar::read(&input.grammar).expect("a valid grammar");
+    input.tree = tree_at_limits(seed, &decoded);
+    input
+}
+
+/// Gives an input a budget far over what its run needs, or, where the run does
+/// not end by itself, a greater one that the tree is small enough for.
+pub fn with_large_budget(seed: u64, mut input: Input) -> Input {
+    let mut random = Random::new(seed);
+    let ends = matches!(
+        run_with(&input, MOST_ATTEMPTS),
+        Outcome::Ended {
+            stop: None | Some(41..),
+            ..
+        }
+    );
+    let most = if ends {
+        limits::BUDGET
+    } else if input.tree.len() <= 2 * MOST_ENDLESS_NODES {
+        MOST_ENDLESS_ATTEMPTS
+    } else {
+        return input;
+    };
+    let any = random.between(MOST_ATTEMPTS as usize, most as usize) as u32;
+    input.budget = random.pick(&[any, any, most - 1, most]);
+    input
+}
+
 /// Gives an input the budget that its run needs, or one more or less.
 pub fn with_budget_near_need(seed: u64, mut input: Input) -> Input {
     let mut random = Random::new(seed);
-    let needed = match run_with(&input, MOST_ATTEMPTS) {
+    let needed = match run_with(&input, input.budget.max(MOST_ATTEMPTS)) {
         Outcome::Ended {
             stop: None | Some(41..),
             attempts,

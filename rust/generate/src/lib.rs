@@ -6,17 +6,22 @@ mod families;
 mod grammars;
 mod inputs;
 mod labeled;
+mod lists;
 mod random;
 mod rulebooks;
 mod shrink;
 mod trees;
 
 pub use families::{
-    calls_near_limit, conditions, live_nodes_near_limit, nesting_near_limit, nodes_near_limit,
-    operations_near_limit, searches,
+    calls_near_limit, conditions, counting_down, live_nodes_at_limit, live_nodes_near_limit,
+    nesting_near_limit, nodes_near_limit, operations_near_limit, searches,
 };
 pub use grammars::{any_grammar, damaged_grammar, grammar, long_grammar};
-pub use inputs::{check_input, reference_outcome, run_input, typed_input, with_budget_near_need};
+pub use inputs::{
+    any_run_input, check_input, reference_outcome, refused_input, run_input, typed_input,
+    with_budget_near_need, with_large_budget,
+};
+pub use lists::{run_list, RunList};
 pub use random::Random;
 pub use reference::bench::Input;
 pub use rulebooks::{damaged_rules, rules};

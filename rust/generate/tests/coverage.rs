@@ -2,9 +2,14 @@
 
 use std::collections::BTreeMap;
 
-use generate::{check_input, reference_outcome, run_input, shrink, to_bench, typed_input, Input};
+use generate::{
+    calls_near_limit, check_input, counting_down, live_nodes_at_limit, live_nodes_near_limit,
+    nesting_near_limit, nodes_near_limit, operations_near_limit, reference_outcome, run_input,
+    run_list, shrink, to_bench, typed_input, Input,
+};
 use reference::bench;
 use reference::grammar::Grammar;
+use reference::limits;
 use reference::tree::Tree;
 use reference::{check_grammar, check_rules, check_tree, Outcome};
 
@@ -170,4 +175,56 @@ fn shrinking_keeps_the_failure_and_makes_it_small() {
         to_bench(&small)
     );
     assert!(words(&small) <= words(&input) && words(&small) < 60);
+}
+
+#[test]
+fn each_family_reaches_its_stop_and_misses_it() {
+    type Family = (&'static str, u32, fn(u64) -> Input);
+    let families: [Family; 7] = [
+        ("calls_near_limit", 41, calls_near_limit),
+        ("nodes_near_limit", 42, nodes_near_limit),
+        ("nesting_near_limit", 43, nesting_near_limit),
+        ("live_nodes_near_limit", 44, live_nodes_near_limit),
+        ("live_nodes_at_limit", 44, live_nodes_at_limit),
+        ("operations_near_limit", 45, operations_near_limit),
+        ("counting_down", 45, counting_down),
+    ];
+    for (name, number, family) in families {
+        let (mut reached, mut missed) = (0, 0);
+        for seed in 0..500 {
+            match reference_outcome(&family(seed)) {
+                Outcome::Ended { stop: None, .. } => missed += 1,
+                Outcome::Ended { stop, .. } => reached += u32::from(stop == Some(number)),
+                Outcome::Refused(refusal) => panic!("{name} {seed}: {refusal:?}"),
+            }
+        }
+        println!("of 500 runs of {name} {reached} stop with {number}, {missed} are done");
+        assert!(reached >= LEAST && missed >= LEAST / 2, "{name}");
+    }
+}
+
+#[test]
+fn lists_have_refused_runs_and_memories_of_every_kind() {
+    let (mut short, mut least, mut longer, mut between) = (0, 0, 0, 0);
+    for seed in 0..1_000 {
+        let list = run_list(seed);
+        for (words, limit) in [
+            (&list.result, limits::RESULT_WORDS),
+            (&list.work, limits::WORK_WORDS),
+        ] {
+            short += u32::from(words.len() < limit);
+            least += u32::from(words.len() == limit);
+            longer += u32::from(words.len() > limit);
+        }
+        let refused = |input| matches!(reference_outcome(input), Outcome::Refused(_));
+        let refused: Vec<bool> = list.inputs.iter().map(refused).collect();
+        between += u32::from(
+            refused
+                .windows(3)
+                .any(|three| three == [false, true, false]),
+        );
+    }
+    println!("of 2000 memories {short} are too short, {least} just long enough, {longer} longer");
+    println!("{between} of 1000 lists have a refused run between two accepted ones");
+    assert!(short >= LEAST && least >= LEAST && longer >= LEAST && between >= LEAST);
 }

@@ -19,8 +19,11 @@ fn a_c_program_links_and_runs() {
     assert!(compiled.success());
     let output = Command::new(&program).output().expect("the program runs");
     let printed = String::from_utf8(output.stdout).expect("text");
-    assert_eq!(
-        printed,
-        "0 0\n10 8\n12 1\n0 0\n31 2\n12 1\n0 0\n20 9\n12 1\n"
-    );
+    let checks = "0 0\n10 8\n12 1\n0 0\n31 2\n12 1\n0 0\n20 9\n12 1\n";
+    let runs = "\
+        0 0 0 3 1 12 memories right\n\
+        1 40 0 2 1 12 memories right\n\
+        2 23 8 0 0 0 memories right\n\
+        2 3 0 0 0 0 memories right\n";
+    assert_eq!(printed, [checks, runs].concat());
 }
