@@ -19,6 +19,7 @@ use rules::Plan;
 use rules::Strategy;
 use rules::limits::MARK_CHAIN;
 use rules::limits::MARK_VARIABLE;
+use rules::limits::MOST_APPLICATIONS;
 ghost use mathlib.Core.Path.{_≡_};
 ghost use Prim.Native.Nat.{ℕ, _+_, _*_, _<_, _≤_, _^_};
 ghost use lib.ListN.{length, getD};
@@ -28,8 +29,6 @@ ghost use Rattle.calls.specs.Engine.{triedOf, againOf, countOf, turnedBy
 const STARTS: usize = 64;
 
 const FIRST_OPERATION: u32 = 1000;
-
-const MOST_APPLICATIONS: u32 = 4;
 
 // What a part's step found, what is open then, the attempts left, and where the next part stands.
 pub struct Taken {

@@ -14,16 +14,19 @@ use Rattle.tree.specs.Reading.{readTree}
 use Rattle.tree.proofs.Trees.{trees-even}
 use Rattle.tree.proofs.Accepted.{accepted-tree, tree-is-accepted}
 use Rattle.rules.specs.Typing.{readRules}
+use Rattle.rules.specs.WellTyped.{WellTyped}
 use Rattle.rules.proofs.Exactly.{passes-exactly}
-use Rattle.meaning.specs.Limits.{leastResult}
+use Rattle.meaning.specs.Limits.{leastResult, leastWork}
 use Rattle.meaning.specs.Meaning.{Called, run}
 use Rattle.meaning.specs.Outcome.{Inputs, Decoded, callFits, decode, endedAs, outcomeOf, outcome}
 use Rattle.meaning.specs.Runs.{Went, Sure}
+use Rattle.meaning.specs.Sound.{Sound}
 use Rattle.meaning.proofs.Sound.{soundness}
 
 -- what the checks went through
-pub record Read-all (result : ℕ) (x : Inputs) (d : Decoded) : Type 0 where
+pub record Read-all (result work : ℕ) (x : Inputs) (d : Decoded) : Type 0 where
   pub room : leastResult ≤ result
+  pub space : leastWork ≤ work
   pub m : ℕ
   pub n : ℕ
   pub grammar : readGrammar (x .grammar) ≡ value (d .grammar) m
@@ -33,24 +36,34 @@ pub record Read-all (result : ℕ) (x : Inputs) (d : Decoded) : Type 0 where
 value-accepted : {A : Type 0} {q : Read A} {a : A} {n : ℕ} → q ≡ value a n → accepted q ≡ true
 value-accepted e = rw e
 
-read-all : (result work : ℕ) (x : Inputs) (d : Decoded) (next : ℕ) → decode result work x ≡ value d next → Read-all result x d
+pub read-all : (result work : ℕ) (x : Inputs) (d : Decoded) (next : ℕ) → decode result work x ≡ value d next → Read-all result work x d
 unfolding decode callFits
 read-all result work x d next e =
     let c = then-value (callFits result work x 0) _ e in
-    let room = require-value (leb leastResult result) 1 0 0 _ (c .2) .0 in
+    let room = require-value (leb leastResult result) 1 0 0 _ (c .2) in
+    let space = require-value (leb leastWork work) 2 0 0 _ (room .1) in
     let a = then-value (readGrammar (x .grammar)) _ (c .3) in
     let r = then-value (readRules (a .0) (x .rules)) _ (a .3) in
     let t = then-value (readTree (a .0) (x .tree)) _ (r .3) in
     let same : _≡_ {A = Decoded} (record { grammar = a .0; rules = r .0 }) d = cc (t .3) in
-    rw (← same) (record { room = leb-true leastResult result room; m = a .1; n = r .1; grammar = a .2; rules = r .2; tree = value-accepted (t .2) })
+    rw (← same) (record { room = leb-true leastResult result (room .0); space = leb-true leastWork work (space .0); m = a .1; n = r .1; grammar = a .2; rules = r .2; tree = value-accepted (t .2) })
+
+module _ (result work : ℕ) (x : Inputs) (d : Decoded) (q : Read-all result work x d) where
+  pub read-tree : Tree (d .grammar) 0 (x .tree)
+  read-tree = accepted-tree (d .grammar) 0 (x .tree) (q .tree)
+
+  pub read-typed : WellTyped (d .grammar) (d .rules)
+  read-typed = passes-exactly (x .grammar) (x .rules) (d .grammar) (q .m) (q .grammar) (d .rules) .sound (q .n, q .rules) .1
+
+  pub read-sound : Sound (d .grammar) 0 (x .budget) (run true (d .grammar) (d .rules) (x .tree) (x .budget)) (run false (d .grammar) (d .rules) (x .tree) (x .budget))
+  read-sound = soundness (d .grammar) (d .rules) read-typed (x .tree) read-tree (x .budget)
 
 went : (result work : ℕ) (x : Inputs) (d : Decoded) (next : ℕ) → decode result work x ≡ value d next → (c : Called) → c ≡ run false (d .grammar) (d .rules) (x .tree) (x .budget)
     → Went result work x (c .ending) (x .budget - c .left) (c .replacements) (c .scope)
 unfolding endedAs
 went result work x d next e c is =
     let q = read-all result work x d next e in
-    let typed = passes-exactly (x .grammar) (x .rules) (d .grammar) (q .m) (q .grammar) (d .rules) .sound (q .n, q .rules) .1 in
-    let s = soundness (d .grammar) (d .rules) typed (x .tree) (accepted-tree (d .grammar) 0 (x .tree) (q .tree)) (x .budget) in
+    let s = read-sound result work x d q in
     let same : run true (d .grammar) (d .rules) (x .tree) (x .budget) ≡ c = s .agree ∙ sym is in
     let tree : Tree (d .grammar) 0 (c .scope) = rw same at (s .scope) in
     record {

@@ -26,7 +26,7 @@ nesting-there {g} {t} w ws at n l r s few e =
     child-of g t [] ws (getD w at 0) l (rw f (omega arith)) r (word-there w (marked g ws) at (2 * n) e (omega (arith, tree-some ws r))) .nested ∙ ap (nesting g) f
 
 -- no node is marked yet
-none-marked : (g : Grammar) (w ws : Words) (top n : ℕ) → length ws ≡ 2 * n → unmarked (take (2 * n) (drop top w)) ≡ ws → Unfinished g w top (top + 2 * n) (top + 2 * n) ws
+pub none-marked : (g : Grammar) (w ws : Words) (top n : ℕ) → length ws ≡ 2 * n → unmarked (take (2 * n) (drop top w)) ≡ ws → Unfinished g w top (top + 2 * n) (top + 2 * n) ws
 unfolding marked
 none-marked g w ws top n l e =
     let z : top + 2 * n - top ≡ 2 * n = omega arith in

@@ -27,6 +27,12 @@ unmark l none = refl
 unmark {g} l (node {t} {v} {ts} {ws} fine r) =
     ap₂ (λ a b. a ∷ v ∷ b) (mark-type t (size (firstTree g (t ∷ v ∷ ws))) _ (omega (arith, type-there g t v fine))) (unmark l r)
 
+-- a tree without marks has none to take off
+pub unmarked-same : {g : Grammar} {ts : List ℕ} {ws : Words} → length g ≤ 64 → Trees g ts ws → unmarked ws ≡ ws
+unfolding unmarked
+unmarked-same l none = refl
+unmarked-same {g} l (node {t} {v} {ts} {ws} fine r) = let e : t % 64 ≡ t = omega (arith, type-there g t v fine) in ap₂ (λ a b. a ∷ v ∷ b) e (unmarked-same l r)
+
 pub equal-marked : {g : Grammar} {ts us : List ℕ} {a b : Words} → length g ≤ 64 → Trees g ts a → Trees g us b → equalWords (marked g a) (marked g b) ≡ equalWords a b
 equal-marked {g} {a = a} {b} l p q = equal-alike (marked g a) (marked g b) a b (λ e. sym (unmark l p) ∙ ap unmarked e ∙ unmark l q) (λ e. ap (marked g) e)
 

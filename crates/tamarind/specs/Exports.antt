@@ -1,9 +1,19 @@
 -- What the exported functions hand back. Assumes nothing: these are definitions.
 use Prim.Native.Nat.{ℕ}
+use mathlib.Core.Path.{_≡_}
+use lib.ListN.{length}
 use Rattle.words.specs.Reader.{Read, value, refused}
 use Rattle.words.specs.declared.Check.{Check}
 use Rattle.words.specs.declared.Check.the-variants.{Passed, Refused}
+use Rattle.meaning.specs.Meaning.{done, stopped, cannotGoOn}
+use Rattle.meaning.specs.Outcome.{Inputs, Outcome, ended, outcome, resultAfter, workAfter}
+use Rattle.meaning.specs.Outcome as Meant
+use Rattle.meaning.specs.Runs.{Memories}
 use Rattle.tamarind.specs.declared.Answer.{Answer}
+use Rattle.tamarind.specs.declared.RunAnswer.{RunAnswer}
+use Rattle.tamarind.specs.declared.Outcome as Code
+use Rattle.tamarind.specs.declared.Outcome.the-variants as Run
+use Rattle.tamarind.specs.Run.{numberOf}
 
 -- the paper's number and position of the refusal; 0 and 0 where nothing is refused
 abbrev pub exported : {A : Type 0} → Read A → Answer
@@ -14,3 +24,29 @@ exported (refused n p) = record { number = n; position = p }
 abbrev pub exportedCheck : Check → Answer
 exportedCheck (Passed p) = record { number = 0; position = 0 }
 exportedCheck (Refused n p) = record { number = n; position = p }
+
+-- A RUN
+
+-- an accepted run's answer: how it ended, the stop's number, and its counts
+abbrev pub exportedCounts : ℕ → ℕ → ℕ → ℕ → ℕ → RunAnswer
+exportedCounts ending number attempts replacements filled =
+    record { ending = ending; number = number; position = 0; attempts = attempts; replacements = replacements; filled = filled }
+
+-- "ending or refusal, number, position, trials, replacements, filled count .., as far as an outcome has them": 0 done, 1 stopped, 2 refused; 3 never stands
+unfoldable pub exportedRun : Outcome → RunAnswer
+exportedRun (Meant.refused n p) = record { ending = 2; number = n; position = p; attempts = 0; replacements = 0; filled = 0 }
+exportedRun (ended done a k ws) = exportedCounts 0 0 a k (length ws)
+exportedRun (ended (stopped n) a k ws) = exportedCounts 1 n a k (length ws)
+exportedRun (ended cannotGoOn a k ws) = exportedCounts 3 0 a k (length ws)
+
+-- the same of the answer of `run`
+abbrev pub exportedOutcome : Code.Outcome → RunAnswer
+exportedOutcome (Run.Refused n p) = record { ending = 2; number = n; position = p; attempts = 0; replacements = 0; filled = 0 }
+exportedOutcome (Run.Done c) = exportedCounts 0 0 (c .attempts) (c .replacements) (c .filled)
+exportedOutcome (Run.Stopped s c) = exportedCounts 1 (numberOf s) (c .attempts) (c .replacements) (c .filled)
+
+-- what a run brought, the memories before it, its answer, and the memories after it: all are the meaning's
+pub record RunExported (x : Inputs) (before : Memories) (r : RunAnswer) (after : Memories) : Type 0 where
+  pub answered : r ≡ exportedRun (outcome (length (before .result)) (length (before .work)) x)
+  pub result : after .result ≡ resultAfter (outcome (length (before .result)) (length (before .work)) x) (before .result)
+  pub work : after .work ≡ workAfter (outcome (length (before .result)) (length (before .work)) x) (before .work)

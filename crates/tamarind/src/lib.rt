@@ -1,10 +1,22 @@
 // The product's face: the callable functions, and their exports for C and Rust.
+use calls::Called;
+use grammar::limits::HEADS;
+use grammar::limits::ROWS;
+use rewrite::Vars;
 use words::Check;
 ghost use mathlib.Core.Path.{_≡_};
+ghost use mathlib.Core.List.{_++_};
+ghost use Prim.Native.Nat.{_<_, _≤_, _^_};
+ghost use lib.ListN.{length, drop, replicate};
+ghost use Rattle.words.specs.Reader.{Words};
+ghost use Rattle.words.specs.Views.{answer};
 ghost use Rattle.grammar.specs.Grammar.{checkGrammar};
 ghost use Rattle.tree.specs.Reading.{checkTree};
 ghost use Rattle.rules.specs.Typing.{checkRules};
-ghost use Rattle.tamarind.specs.Exports.{exported, exportedCheck};
+ghost use Rattle.meaning.specs.Outcome.{callFits, output};
+ghost use Rattle.rewrite.specs.Vars.{Sound};
+ghost use Rattle.tamarind.specs.Run.{numberOf, inputsOf, memories, Runs, Named, InputsRead, Laid, Answered, Accepted};
+ghost use Rattle.tamarind.specs.Exports.{exported, exportedCheck, exportedCounts, exportedOutcome, RunExported};
 
 // A single check's answer: the number of the refusal and its position; 0 and 0 where nothing is refused.
 #[repr(C)]
@@ -54,4 +66,315 @@ pub extern "C" fn tamarind_check_rules(grammar: &[u32], rules: &[u32]) -> Answer
 {
     let c = typing::check_rules(grammar, rules);
     export(c)
+}
+
+const LEAST_RESULT: usize = 4096;
+
+const LEAST_WORK: usize = 16384;
+
+const MOST_BUDGET: u32 = 1000000;
+
+const MOST_CALLS: usize = 32;
+
+// Why a run stopped.
+pub enum Stop {
+    // 40
+    AttemptsSpent,
+    // 41
+    CallsTooDeep,
+    // 42
+    TooManyNodes,
+    // 43
+    NestsTooDeep,
+    // 44
+    TooManyLive,
+    // 45
+    OutOfRange,
+}
+
+// What an accepted run counted: its attempts, the first call's replacements, and the words that it filled.
+pub struct Counts {
+    pub attempts: u32,
+    pub replacements: u32,
+    pub filled: usize,
+}
+
+// The outcome of a run.
+pub enum Outcome {
+    Refused(u32, usize),
+    Done(Counts),
+    Stopped(Stop, Counts),
+}
+
+// The cause that a stop's number names.
+fn cause(number: u32) -> Stop
+    ensures { λ r. ⌜ Named number r ⌝ }
+{
+    if number == 40 {
+        return Stop::AttemptsSpent;
+    }
+    if number == 41 {
+        return Stop::CallsTooDeep;
+    }
+    if number == 42 {
+        return Stop::TooManyNodes;
+    }
+    if number == 43 {
+        return Stop::NestsTooDeep;
+    }
+    if number == 44 {
+        return Stop::TooManyLive;
+    }
+    Stop::OutOfRange
+}
+
+// The check of the call itself: 1 to 5.
+fn call_fits(result: usize, work: usize, budget: u32, grammar: &[u32], rules: &[u32]) -> Check
+    ensures { λ r. ⌜ ((tree : Words) → r ≡ answer (callFits result work (inputsOf budget (now (grammar .entry)) (now (rules .entry)) tree) 0)) ⌝ }
+{
+    if result < LEAST_RESULT {
+        return Check::Refused(1, 0);
+    }
+    if work < LEAST_WORK {
+        return Check::Refused(2, 0);
+    }
+    if budget == 0 {
+        return Check::Refused(3, 0);
+    }
+    if MOST_BUDGET < budget {
+        return Check::Refused(3, 0);
+    }
+    if grammar::limits::MOST_WORDS < grammar.len() {
+        return Check::Refused(4, 0);
+    }
+    if rules::limits::MOST_WORDS < rules.len() {
+        return Check::Refused(5, 0);
+    }
+    Check::Passed(0)
+}
+
+// The checks of the grammar, the rules and the tree, in this order; the grammar's tables are filled on the way.
+fn read_inputs(
+    grammar: &[u32],
+    rules: &[u32],
+    tree: &[u32],
+    heads: &mut [u32; HEADS],
+    rows: &mut [u8; ROWS],
+) -> Check
+    requires { ⌜ (now heads ≡ replicate 128 0) × (now rows ≡ replicate 9216 0) × (length (now rules) < 2 ^ 32) ⌝ }
+    ensures { λ r. ⌜ InputsRead (now (grammar .entry)) (now (rules .entry)) (now (tree .entry)) (now (heads .exit)) (now (rows .exit)) r ⌝ }
+{
+    let c = grammar::read_grammar(grammar);
+    match c {
+        Check::Refused(no, p) => Check::Refused(no, p),
+        Check::Passed(_) => {
+            grammar::tables::fill(grammar, heads, rows);
+            let types = words::word(grammar, 0);
+            let d = typing::read_rules(heads, rows, types, rules);
+            match d {
+                Check::Refused(no, p) => Check::Refused(no, p),
+                Check::Passed(_) => tree::read_tree(heads, rows, tree),
+            }
+        }
+    }
+}
+
+// Copies the tree to the bottom of work memory.
+fn load(tree: &[u32], work: &mut [u32])
+    requires { ⌜ length (now tree) ≤ length (now work) ⌝ }
+    ensures { λ _. ⌜ now (work .exit) ≡ now (tree .entry) ++ drop (length (now (tree .entry))) (now (work .entry)) ⌝ }
+{
+    let mut i: usize = 0;
+    while i < tree.len() {
+        work[i] = tree[i];
+        i = i + 1;
+    }
+}
+
+// Puts the tree at the bottom of work memory, marked.
+fn lay_tree(heads: &[u32; HEADS], rows: &[u8; ROWS], tree: &[u32], work: &mut [u32])
+    requires { ⌜ length (now tree) ≤ length (now work) ⌝ }
+    ensures { λ _. ⌜ Laid (now (heads .entry)) (now (rows .entry)) (now (tree .entry)) (now (work .entry)) (now (work .exit)) ⌝ }
+{
+    let end = tree.len();
+    load(tree, work);
+    rewrite::mark_tree(heads, rows, work, 0, end, end);
+}
+
+// The answer that the first call gives, with so many words filled.
+fn answer_of(c: Called, budget: u32, filled: usize) -> Outcome
+    requires { ⌜ c .left ≤ budget ⌝ }
+    ensures { λ r. ⌜ Answered c budget filled r ⌝ }
+{
+    let counts = Counts {
+        attempts: budget - c.left,
+        replacements: c.replacements,
+        filled,
+    };
+    if c.stop == 0 {
+        return Outcome::Done(counts);
+    }
+    Outcome::Stopped(cause(c.stop), counts)
+}
+
+fn no_variables() -> Vars
+    ensures { λ r. ⌜ Sound r × (r .n ≡ 0) ⌝ }
+{
+    Vars {
+        n: 0,
+        starts: [0u32; 16],
+    }
+}
+
+// Runs what nothing refuses: the main rule on the tree.
+fn execute(
+    grammar: &[u32],
+    heads: &[u32; HEADS],
+    rows: &[u8; ROWS],
+    rules: &[u32],
+    tree: &[u32],
+    budget: u32,
+    result: &mut [u32],
+    work: &mut [u32],
+) -> Outcome
+    requires { ⌜ Accepted (inputsOf budget (now grammar) (now rules) (now tree)) (length (now result)) (length (now work)) (now heads) (now rows) ⌝ }
+    ensures { λ r. ⌜ Runs (inputsOf budget (now (grammar .entry)) (now (rules .entry)) (now (tree .entry))) (memories (now (result .entry)) (now (work .entry))) r (memories (now (result .exit)) (now (work .exit))) ⌝ }
+{
+    let types = words::word(grammar, 0);
+    let starts = typing::rule_starts(types, rules, words::word(rules, 0));
+    let main = pairs::start_of(&starts, 0);
+    let vars = no_variables();
+    lay_tree(heads, rows, tree, work);
+    let c = calls::call(
+        heads,
+        rows,
+        types,
+        rules,
+        &starts,
+        work,
+        main,
+        0,
+        tree.len() / 2,
+        vars,
+        0,
+        MOST_CALLS - 1,
+        budget,
+    );
+    let filled = 2 * c.nodes;
+    let scope = &work[..];
+    rewrite::write_result(&scope[..filled], result);
+    words::clear(work);
+    answer_of(c, budget, filled)
+}
+
+// A run: every check, then the main rule on the tree.
+pub fn run(
+    grammar: &[u32],
+    rules: &[u32],
+    tree: &[u32],
+    budget: u32,
+    result: &mut [u32],
+    work: &mut [u32],
+) -> Outcome
+    ensures { λ r. ⌜ Runs (inputsOf budget (now (grammar .entry)) (now (rules .entry)) (now (tree .entry))) (memories (now (result .entry)) (now (work .entry))) r (memories (now (result .exit)) (now (work .exit))) ⌝ }
+{
+    let f = call_fits(result.len(), work.len(), budget, grammar, rules);
+    match f {
+        Check::Refused(no, p) => Outcome::Refused(no, p),
+        Check::Passed(_) => {
+            let mut heads = [0u32; HEADS];
+            let mut rows = [0u8; ROWS];
+            let c = read_inputs(grammar, rules, tree, &mut heads, &mut rows);
+            match c {
+                Check::Refused(no, p) => Outcome::Refused(no, p),
+                Check::Passed(_) => {
+                    execute(grammar, &heads, &rows, rules, tree, budget, result, work)
+                }
+            }
+        }
+    }
+}
+
+// The words to post: the filled part of the result if the run was done, else the tree; the tree also where the count lies past the result's end.
+pub fn words_to_post<'a>(done: bool, filled: usize, result: &'a [u32], tree: &'a [u32]) -> &'a [u32]
+    ensures { λ r. ⌜ now r ≡ output done filled (now (result .entry)) (now (tree .entry)) ⌝ }
+{
+    if done {
+        if filled <= result.len() {
+            return &result[..filled];
+        }
+    }
+    tree
+}
+
+// A run's answer as it is exported. The ending is 0 done, 1 stopped, 2 refused; the number is that of the stop or the refusal, the position the refusal's.
+#[repr(C)]
+pub struct RunAnswer {
+    pub ending: u32,
+    pub number: u32,
+    pub position: usize,
+    pub attempts: u32,
+    pub replacements: u32,
+    pub filled: usize,
+}
+
+// A stop's number.
+fn number_of(cause: Stop) -> u32
+    ensures { λ r. ⌜ r ≡ numberOf cause ⌝ }
+{
+    match cause {
+        Stop::AttemptsSpent => 40,
+        Stop::CallsTooDeep => 41,
+        Stop::TooManyNodes => 42,
+        Stop::NestsTooDeep => 43,
+        Stop::TooManyLive => 44,
+        Stop::OutOfRange => 45,
+    }
+}
+
+// An accepted run's answer as it is exported.
+fn export_counts(ending: u32, number: u32, counts: Counts) -> RunAnswer
+    ensures { λ r. ⌜ r ≡ exportedCounts ending number (counts .attempts) (counts .replacements) (counts .filled) ⌝ }
+{
+    RunAnswer {
+        ending,
+        number,
+        position: 0,
+        attempts: counts.attempts,
+        replacements: counts.replacements,
+        filled: counts.filled,
+    }
+}
+
+fn export_run(outcome: Outcome) -> RunAnswer
+    ensures { λ r. ⌜ r ≡ exportedOutcome outcome ⌝ }
+{
+    match outcome {
+        Outcome::Refused(number, position) => RunAnswer {
+            ending: 2,
+            number,
+            position,
+            attempts: 0,
+            replacements: 0,
+            filled: 0,
+        },
+        Outcome::Done(counts) => export_counts(0, 0, counts),
+        Outcome::Stopped(cause, counts) => export_counts(1, number_of(cause), counts),
+    }
+}
+
+// A run.
+#[no_mangle]
+pub extern "C" fn tamarind_run(
+    grammar: &[u32],
+    rules: &[u32],
+    tree: &[u32],
+    budget: u32,
+    result: &mut [u32],
+    work: &mut [u32],
+) -> RunAnswer
+    ensures { λ r. ⌜ RunExported (inputsOf budget (now (grammar .entry)) (now (rules .entry)) (now (tree .entry))) (memories (now (result .entry)) (now (work .entry))) r (memories (now (result .exit)) (now (work .exit))) ⌝ }
+{
+    let r = run(grammar, rules, tree, budget, result, work);
+    export_run(r)
 }

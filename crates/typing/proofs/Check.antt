@@ -7,7 +7,7 @@ use mathlib.Core.Option.{Option, none, some}
 use native.Mathlib.Omega.{arith}
 use native.Mathlib.Nat.{add-zero}
 use native.Mathlib.Numerals.{add-one}
-use lib.ListN.{length, getD, take, set, replicate}
+use lib.ListN.{length, getD, take, set, replicate, getElem?}
 use lib.Seq.{sets, take-suc-set}
 use lib.Dec.{ltb}
 use borrow.Author.Tests.{le-leb, lt-leb}
@@ -124,15 +124,34 @@ module _ (types : ℕ) (ws : Words) where
       let u = many-suc (rule types ws) n at e in
       rw (u .5, u .3) (rules-headed n (u .1) (u .2) next (u .4) a (omega arith))
 
+  start-is : (n a : ℕ) → n ≤ 64 → a < n → getD (sets (replicate 64 0) 0 (positions types ws n 1)) a 0 ≡ getD (positions types ws n 1) a 0
+  start-is n a l h =
+      let z : 0 + a ≡ a = omega arith in
+      rw z at (getD-within (replicate 64 0) 0 a (positions types ws n 1) (omega (arith, positions-length n 1)) (omega (arith, positions-length n 1)))
+
   pub book-of : (starts : Words) (n : ℕ) (rules : Rules) (next : ℕ) → many n (rule types ws) 1 ≡ value rules next → n ≡ getD ws 0 0 → n ≤ 64 → starts ≡ sets (replicate 64 0) 0 (positions types ws n 1) → Book types ws starts rules
   book-of starts n rules next e en l s =
       let m = many-length (rule types ws) n 1 rules next e in
-      record { count = m ∙ en; heads = λ a h. rw (s, at-start a (omega arith)) (rules-headed n 1 rules next e a (omega arith)) }
-    where
-      at-start : (a : ℕ) → a < n → getD (sets (replicate 64 0) 0 (positions types ws n 1)) a 0 ≡ getD (positions types ws n 1) a 0
-      at-start a h =
-          let z : 0 + a ≡ a = omega arith in
-          rw z at (getD-within (replicate 64 0) 0 a (positions types ws n 1) (omega (arith, positions-length n 1)) (omega (arith, positions-length n 1)))
+      record { count = m ∙ en; heads = λ a h. rw (s, start-is n a l (omega arith)) (rules-headed n 1 rules next e a (omega arith)) }
+
+  -- each rule that was read stands at its position
+  rules-placed : (n at : ℕ) (rules : Rules) (next : ℕ) → many n (rule types ws) at ≡ value rules next → (a : ℕ) (r : Rule) → getElem? rules a ≡ some r
+      → (a < n) × ((m : ℕ) × (rule types ws (getD (positions types ws n at) a 0) ≡ value r m))
+  unfolding positions many
+  rules-placed zero at rules next e a r h =
+      let y : [] ≡ rules = cc in
+      let x : none ≡ some r = rw (← y) at h in
+      let z : _≡_ {A = ℕ} 0 1 = cc x in absurd (omega arith)
+  rules-placed (suc n) at rules next e zero r h =
+      let u = many-suc (rule types ws) n at e in
+      let x : some (u .0) ≡ some r = rw (u .5) at h in
+      let y : u .0 ≡ r = cc x in
+      (omega arith, (u .1, u .3 ∙ ap (λ k. value k (u .1)) y))
+  rules-placed (suc n) at rules next e (suc a) r h =
+      let u = many-suc (rule types ws) n at e in
+      let x : getElem? (u .2) a ≡ some r = rw (u .5) at h in
+      let p = rules-placed n (u .1) (u .2) next (u .4) a r x in
+      (omega (arith, p .0), rw (u .3) (p .1))
 
 -- ALL THE RULES
 
@@ -221,6 +240,28 @@ module _ (types : ℕ) (ws : Words) (a : accepted (readLayout types ws) ≡ true
           go : (q : Read (List (Unit {0}))) → answer q ≡ answer (andThen (andThen q (λ us. return (tt {0}))) (λ u. return (layout-of types ws a .rules)))
           go (value us next) = refl
           go (refused i p) = refl
+
+-- THE RULES THAT WERE READ stand where the table says
+
+module _ (g : Grammar) (types : ℕ) (ws : Words) (rules : Rules) (last : ℕ) (k : length g ≡ types) (e : readRules g ws ≡ value rules last) where
+  read-layout : (n : ℕ) × (readLayout types ws ≡ value rules n)
+  unfolding readRules
+  read-layout =
+      let a = then-value (readLayout (length g) ws) (λ rs next. andThen (rulesTyped g rs ws) (λ u. return rs)) e in
+      let b = then-value (rulesTyped g (a .0) ws) (λ u. return (a .0)) (a .3) in
+      let y : a .0 ≡ rules = cc (b .3) in
+      (a .1, ap (λ t. readLayout t ws) (sym k) ∙ a .2 ∙ ap (λ rs. value rs (a .1)) y)
+
+  pub read-laid : accepted (readLayout types ws) ≡ true
+  read-laid = rw (read-layout .1)
+
+  pub read-placed : {starts : Words} {n : ℕ} → n ≡ getD ws 0 0 → starts ≡ sets (replicate 64 0) 0 (positions types ws n 1)
+      → (a : ℕ) (r : Rule) → getElem? rules a ≡ some r → (a < mostRules) × ((next : ℕ) × (rule types ws (getD starts a 0) ≡ value r next))
+  read-placed {starts} {n} en s a r h =
+      let l = layout-shape types ws rules (read-layout .0) (read-layout .1) in
+      let z : n ≡ l .0 = en ∙ sym (l .1) in
+      let p = rules-placed types ws n 1 rules (read-layout .0) (rw z (l .4)) a r h in
+      (omega (arith, p .0, l .3), rw (s, start-is types ws n a (omega (arith, l .3)) (p .0)) (p .1))
 
 -- THE PLACES BOOK, LAYOUT AND BOOK, TYPING
 

@@ -1,23 +1,18 @@
-use Rattle.tamarind.proofs.Laws.{export-passed, export-refused}
+-- `tamarind::export` meets its contract. Assumes nothing.
 use borrow.Author.Needs.{needs}
+use Rattle.tamarind.proofs.Laws.{export-passed, export-refused}
 use Rattle.tamarind.proofs.export.Statement.{statement}
 use Rattle.tamarind.proofs.export.Tie as tie
-use Rattle.tamarind.proofs.export.Reads as reads
-use Rattle.tamarind.proofs.export.Lts as lts
 
--- src/lib.rt:19:29
 enum-told : tie.Need-enum-told
 enum-told c = search needs
 
--- src/lib.rt:23:24
 enum-known-c : tie.Need-enum-known-c
 enum-known-c c = search needs
 
--- src/lib.rt:15:1
 returns : tie.Need-returns
 returns c = export-passed (c .before .before .args .c) (c .enum-told .given .1)
 
--- src/lib.rt:15:1
 returns-2 : tie.Need-returns-2
 returns-2 c = export-refused (c .before .before .before .args .c) (c .before .c .given .1)
 
