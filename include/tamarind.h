@@ -46,10 +46,10 @@ tamarind_answer tamarind_check_rules(const uint32_t *grammar, size_t grammar_len
 typedef struct {
     uint32_t ending;       /* one of the three above */
     uint32_t number;       /* of the stop, 40 to 45, or of the refusal; 0 when done */
-    uint64_t position;     /* of a refusal, otherwise 0 */
+    size_t position;       /* of a refusal, otherwise 0 */
     uint32_t attempts;     /* attempts that were started; 0 when refused */
     uint32_t replacements; /* that the first call put in place; 0 when refused */
-    uint64_t filled;       /* words of the result that are the tree; 0 when refused */
+    size_t filled;         /* words of the result that are the tree; 0 when refused */
 } tamarind_outcome;
 
 /* Checks everything (refusals 1 to 5, 10 to 12, 20 to 24, 30 to 33) and rewrites

@@ -29,10 +29,10 @@ impl From<Answer> for Result<(), Refusal> {
 pub struct RunAnswer {
     ending: u32,
     number: u32,
-    position: u64,
+    position: usize,
     attempts: u32,
     replacements: u32,
-    filled: u64,
+    filled: usize,
 }
 
 const DONE: u32 = 0;
