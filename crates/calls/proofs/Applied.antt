@@ -21,7 +21,7 @@ use Rattle.rules.specs.Limits.{mostParameters}
 use Rattle.rules.specs.Rules.{Operation, add, subtract, quotient, remainder, round, truncate, equal, greater, Applied, rule, operation, nothing, operations, applied, arguments, Rule, Rules}
 use Rattle.rules.specs.Layout as Layout
 use Rattle.rules.specs.Layout.{Head, bit, onlyIf, field, reach, typeField, parameters, headFields, head, strategyOf}
-use Rattle.rules.proofs.Laid.{rule-value}
+use Rattle.rules.proofs.Laid.{head-few, rule-value}
 use Rattle.meaning.specs.Computation.{Result, ok, stop, stuck, Comp, thenOf, stopUnless, check, present}
 use Rattle.meaning.specs.Operations.{rounded, truncated, inRange, divisor, withOne, withNone, compute, compare}
 use Rattle.meaning.specs.Meaning.{Env, live, start, fits, begin, liveWithin, variables, valueOf, valuesOf, withValue, isNumberToken}
@@ -95,32 +95,6 @@ an-operation (operation o) h z = (o, refl)
 an-operation nothing h z = absurd (z refl)
 
 -- A RULE HAS FEW PARAMETERS
-
-parameters-few : (types : ℕ) (ws : Words) (m at : ℕ) (ps : List ℕ) (next : ℕ) → parameters types ws m at ≡ value ps next → length ps ≤ mostParameters
-unfolding parameters field
-parameters-few types ws m at ps next = go (bit 1 m)
-  where
-    go : (b : Bool) → onlyIf b [] (_>>=_ (field ws 1 mostParameters) (λ k. many k (typeField types ws))) at ≡ value ps next → length ps ≤ mostParameters
-    go true e =
-        let a = then-value (field ws 1 mostParameters at) (λ k. many k (typeField types ws)) e in
-        let n = in-value 20 21 ws 1 mostParameters at (a .2) in
-        omega (arith, n .3, many-length (typeField types ws) (a .0) (a .1) ps next (a .3))
-    go false e = let z : [] ≡ ps = cc in rw (← z) (omega arith)
-
-abbrev headOf : ℕ → ℕ → ℕ → List ℕ → Head
-headOf m t r ps = record { map = m; target = t; strategy = strategyOf r; parameters = ps }
-
-head-few : (types : ℕ) (ws : Words) (at : ℕ) (h : Head) (next : ℕ) → head types ws at ≡ value h next → length (h .parameters) ≤ mostParameters
-unfolding head headFields
-head-few types ws at h next e =
-    let a = then-value (field ws 0 15 at) (λ m. _>>=_ (typeField types ws) (λ t. headFields types ws m t)) e in
-    let b = then-value (typeField types ws (a .1)) (λ t. headFields types ws (a .0) t) (a .3) in
-    let c = then-value (reach ws (a .0) (b .1)) (λ r. _>>=_ (parameters types ws (a .0)) (λ ps. return (headOf (a .0) (b .0) r ps))) (b .3) in
-    let d = then-value (parameters types ws (a .0) (c .1)) (λ ps. return (headOf (a .0) (b .0) (c .0) ps)) (c .3) in
-    told (a .0) (b .0) (c .0) (d .0) (cc (d .3)) (parameters-few types ws (a .0) (c .1) (d .0) (d .1) (d .2))
-  where
-    told : (m t r : ℕ) (ps : List ℕ) → headOf m t r ps ≡ h → length ps ≤ mostParameters → length (h .parameters) ≤ mostParameters
-    told m t r ps y l = rw (← y) l
 
 pub rule-few : (types : ℕ) (ws : Words) (at : ℕ) (r : Rule) (next : ℕ) → Layout.rule types ws at ≡ value r next → length (r .parameters) ≤ mostParameters
 rule-few types ws at r next e =

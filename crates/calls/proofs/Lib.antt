@@ -10,5 +10,4 @@ pub mod Testing
 pub mod Filling
 pub mod Finishing
 pub mod Replacing
-pub mod Numbered
 pub mod Rounds

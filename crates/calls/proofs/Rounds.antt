@@ -35,7 +35,8 @@ use Rattle.calls.specs.declared.Built.{Built}
 use Rattle.calls.specs.declared.Called.{Called}
 use Rattle.calls.proofs.Frames.{take-less, env-up, env-kept, standing-kept, standing-below}
 use Rattle.calls.proofs.Going.{then-ok, then-stop, sure-first, sure-as, check-sure, surely-sure, says-ok, says-stop}
-use Rattle.calls.proofs.Numbered.{stop-number, sought-numbered}
+use Rattle.calls.proofs.Applied.{begin-sure}
+use Rattle.meaning.proofs.Numbered.{stop-number, sought-numbered}
 
 -- HOW A CALL OPENS
 
@@ -46,15 +47,6 @@ live-within n l h = rw (le-leb n mostLive h)
 live-beyond : (n l : ℕ) → mostLive < n → liveWithin n l ≡ stop 44 l
 unfolding liveWithin stopUnless
 live-beyond n l h = rw (lt-leb n mostLive h)
-
--- all that begins a call but the limit is passed
-begin-sure : (g : Grammar) (r : Rule) (args : Env) (scope : Words) (others l : ℕ) → Sure (begin true g r args scope others l)
-    → begin true g r args scope others l ≡ liveWithin (live (start args scope others)) l
-unfolding begin
-begin-sure g r args scope others l s =
-    let x = surely-sure (eqb (length args) (length (r .parameters))) l _ s in
-    let y = check-sure (fits g r args scope) l _ (sure-as (x .1) s) in
-    x .1 ∙ y .1
 
 opened-sure : (scope : Words) (rest : ℕ → M.Called) (m : Result (Unit {0})) → (opened scope rest m .ending ≡ cannotGoOn → ⊥) → Sure m
 unfolding opened
@@ -81,7 +73,7 @@ module _ (g : Grammar) (rules : Rules.Rules) (deeper : M.Calls) (r : Rule) (args
   with-begins (some ps) h =
       let rest : ℕ → M.Called = λ now. M.rounds true g rules deeper (suc now) r ps args scope others 0 now in
       let m = begin true g r args scope others left in
-      let e = begin-sure g r args scope others left (opened-sure scope rest m h) in
+      let e = begin-sure g r args scope others left (opened-sure scope rest m h) .1 in
       (ps, refl, (λ f. opened-ok scope rest m left (e ∙ live-within (live (start args scope others)) left f), λ f. opened-stop scope rest m 44 left (e ∙ live-beyond (live (start args scope others)) left f)))
 
   call-begins : (M.call true g rules deeper r args scope others left .ending ≡ cannotGoOn → ⊥)

@@ -5,3 +5,4 @@ pub mod Level
 pub mod Sound
 pub mod FromWords
 pub mod Runs
+pub mod Numbered
