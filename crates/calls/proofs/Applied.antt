@@ -10,7 +10,7 @@ use lib.Seq.{getD-take, getD-drop, take-set-lt, drop-set-add}
 use lib.Dec.{eqb, leb, ltb}
 use borrow.Author.Tests.{lt-ltb, le-ltb, leb-true, eqb-true}
 use Rattle.words.specs.Reader.{Words, value, _>>=_, return, many}
-use Rattle.words.proofs.Laws.{then-value, in-value, many-length, and-both}
+use Rattle.words.proofs.Laws.{and-both}
 use Rattle.grammar.specs.Limits.{mostTypes, greatestNumber}
 use Rattle.grammar.specs.Grammar.{Kind, token, opt, sequence, forms, Grammar}
 use Rattle.grammar.specs.Kinds.{kindOf, childrenOf, children, isNumberKind, isNumber}
@@ -20,7 +20,7 @@ use Rattle.tree.proofs.Trees.{tells, none-left, child-trees, passes-tree}
 use Rattle.rules.specs.Limits.{mostParameters}
 use Rattle.rules.specs.Rules.{Operation, add, subtract, quotient, remainder, round, truncate, equal, greater, Applied, rule, operation, nothing, operations, applied, arguments, Rule, Rules}
 use Rattle.rules.specs.Layout as Layout
-use Rattle.rules.specs.Layout.{Head, bit, onlyIf, field, reach, typeField, parameters, headFields, head, strategyOf}
+use Rattle.rules.specs.Layout.{parameters}
 use Rattle.rules.proofs.Laid.{head-few, rule-value}
 use Rattle.meaning.specs.Computation.{Result, ok, stop, stuck, Comp, thenOf, stopUnless, check, present}
 use Rattle.meaning.specs.Operations.{rounded, truncated, inRange, divisor, withOne, withNone, compute, compare}

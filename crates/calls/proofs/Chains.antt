@@ -13,7 +13,6 @@ use Rattle.words.specs.Reader.{Words, and, between}
 use Rattle.words.proofs.Laws.{and-both}
 use Rattle.rules.specs.Limits.{markChain}
 use Rattle.rules.specs.Rules.{Application, applied, arguments, applications, pairsIn, applicationsWritten, chainWritten, unreadable, chainOf, conditionOf}
-use Rattle.meaning.specs.Computation.{Result, ok, stop, stuck, Comp, thenOf}
 use Rattle.calls.specs.Engine.{countOf, chainAt}
 use Rattle.calls.proofs.Applied.{arguments-length}
 

@@ -8,8 +8,8 @@ use native.Mathlib.Omega.{arith}
 use native.Mathlib.Nat.{add-zero}
 use lib.ListN.{length, getD, take, drop, getElem?, length-take, length-drop, length-append}
 use lib.Seq.{take-at, drop-at, take-add, drop-drop, drop-nil, getD-drop, length-take-le}
-use lib.Dec.{eqb, leb, ltb}
-use borrow.Author.Tests.{eq-eqb, ne-eqb, leb-true, leb-false, ltb-true, ltb-false}
+use lib.Dec.{eqb, leb}
+use borrow.Author.Tests.{eq-eqb, ne-eqb, leb-true, leb-false}
 use Rattle.words.specs.Reader.{Words, pick, and, between}
 use Rattle.words.proofs.Laws.{and-both}
 use Rattle.words.proofs.Stretches.{drop-pair}
@@ -24,11 +24,9 @@ use Rattle.meaning.specs.Limits.{mostLive}
 use Rattle.meaning.specs.Computation.{Result, ok, stop, stuck, Comp, thenOf, _>>=_, _>>_, return, stopUnless, present}
 use Rattle.meaning.specs.Meaning.{Env, Bindings, live, variable, variables, nodesWithin, liveWithin, apply, applyChain, fill, calls}
 use Rattle.rewrite.specs.Marked.{typeIn, marked, unmarked}
-use Rattle.rewrite.specs.Vars.{Stands, EnvAt, startsOf, startAt, Sound}
-use Rattle.rewrite.specs.declared.Vars.{Vars}
+use Rattle.rewrite.specs.Vars.{Stands, startsOf, startAt}
 use Rattle.rewrite.proofs.Marking.{type-there}
 use Rattle.rewrite.proofs.Same.{unmark}
-use Rattle.rewrite.proofs.Matcher.{env-length, env-get, env-past, starts-length, start-is}
 use Rattle.rewrite.specs.Arena.{NodesAt, overBy, Standing}
 use Rattle.rules.specs.Views.{pairsAt}
 use Rattle.calls.specs.Engine.{Room, Held, Setting, Sure, Says, Tree, chainAt, chainPiece, Chains, FillsChain, Fills}

@@ -27,7 +27,7 @@ use Rattle.rewrite.specs.declared.Verdict.the-variants.{Matches, Stops}
 use Rattle.rewrite.proofs.Matcher.{env-length, env-more, starts-length, starts-more, total-more}
 use Rattle.rewrite.specs.Arena.{Closed, Standing}
 use Rattle.rules.specs.Views.{pairsAt}
-use Rattle.calls.specs.Engine.{Room, Grown, Held, MoreFrame, Setting, Sure, Says, TakenAs, Constructs, Fills, Finishes, partOn}
+use Rattle.calls.specs.Engine.{Room, Held, MoreFrame, Setting, Sure, Says, TakenAs, Constructs, Fills, Finishes, partOn}
 use Rattle.rewrite.specs.declared.arena.Frame.{Frame}
 use Rattle.calls.specs.declared.Built.{Built}
 use Rattle.calls.specs.declared.Taken.{Taken}

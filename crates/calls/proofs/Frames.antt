@@ -1,14 +1,14 @@
 -- What stands below a place of work memory, and what stays when the words above it change. Assumes nothing.
 use Prim.Native.Nat.{ℕ, zero, suc, _+_, _-_, _*_, _<_, _≤_}
 use mathlib.Core.Path.{_≡_, refl, sym, ap, _∙_}
-use mathlib.Core.List.{List, [], _∷_, _++_}
+use mathlib.Core.List.{List, [], _∷_}
 use native.Mathlib.Omega.{arith}
-use mathlib.Core.Option.{Option, some}
+use mathlib.Core.Option.{some}
 use lib.ListN.{length, getD, take, drop, getElem?, length-take, length-drop}
 use lib.Seq.{take-take}
 use Rattle.words.specs.Reader.{Words}
 use Rattle.grammar.specs.Grammar.{Grammar}
-use Rattle.tree.specs.Tree.{Trees, Tree, size}
+use Rattle.tree.specs.Tree.{Tree, size}
 use Rattle.tree.proofs.Trees.{tells, trees-even}
 use Rattle.meaning.specs.Limits.{mostLive}
 use Rattle.meaning.specs.Meaning.{Env, Bindings}

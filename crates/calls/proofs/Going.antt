@@ -1,17 +1,16 @@
 -- Computations that are not stuck: what each step then has passed, and what is left to do. Assumes nothing.
-use Prim.Native.Nat.{ℕ, zero, suc, _+_, _<_, _≤_}
-use mathlib.Core.Path.{_≡_, refl, sym, ap, _∙_}
-use mathlib.Core.List.{List, [], _∷_}
+use Prim.Native.Nat.{ℕ, zero, suc, _<_, _≤_}
+use mathlib.Core.Path.{_≡_, refl, sym, _∙_}
+use mathlib.Core.List.{[]}
 use mathlib.Core.Bool.{Bool, true, false}
 use mathlib.Core.Option.{Option, none, some}
 use native.Mathlib.Omega.{arith}
 use lib.ListN.{getElem?}
-use lib.Dec.{leb}
 use borrow.Author.Tests.{le-leb, lt-leb}
 use Rattle.words.specs.Reader.{Words}
 use Rattle.tree.specs.Limits.{mostNodes}
 use Rattle.meaning.specs.Limits.{mostLive}
-use Rattle.meaning.specs.Computation.{Result, ok, stop, stuck, Comp, thenOf, stopUnless, surely, check, present, choose, whether}
+use Rattle.meaning.specs.Computation.{Result, ok, stop, stuck, Comp, thenOf, stopUnless, surely, check, present}
 use Rattle.meaning.specs.Meaning.{Env, nodesWithin, liveWithin, variable}
 use Rattle.calls.specs.Engine.{Sure, Says}
 

@@ -1,23 +1,18 @@
 -- What a part's step does: a variable is taken apart or searched here; the other kinds are the cycle's own. Assumes nothing.
-use Prim.Native.Nat.{ℕ, zero, suc, _+_, _-_, _*_, _<_, _≤_}
+use Prim.Native.Nat.{ℕ, zero, suc, _+_, _-_, _*_, _≤_}
 use mathlib.Core.Path.{_≡_, refl, sym, ap, _∙_}
-use mathlib.Core.List.{List, [], _∷_}
+use mathlib.Core.List.{[], _∷_}
 use mathlib.Core.Bool.{Bool, true, false}
 use mathlib.Core.Option.{Option, none, some}
 use native.Mathlib.Omega.{arith}
 use lib.ListN.{length, getD, take, drop, getElem?, length-take, length-drop}
-use lib.Seq.{take-take}
-use lib.Dec.{eqb}
-use Rattle.words.specs.Reader.{Words, pick, Read, value, refused, accepted}
-use Rattle.words.proofs.Laws.{then-value}
+use Rattle.words.specs.Reader.{Words, Read, value, refused}
 use Rattle.grammar.specs.Grammar.{Grammar}
 use Rattle.grammar.specs.Limits.{mostTypes}
-use Rattle.tree.specs.Tree.{size}
 use Rattle.tree.proofs.Rest.{tree-rest}
 use Rattle.rules.specs.Rules as Rules
 use Rattle.rules.specs.Rules.{shapes, pieces, conditionOf}
-use Rattle.rules.specs.Layout as Layout
-use Rattle.rules.specs.Layout.{PartAt, deconstructAt, constructAt, conditionAt, partAt, partOf, pairs, variableAt, deconstructFields, conditionFields, searchFields, constructFields, typeField, stretch}
+use Rattle.rules.specs.Layout.{PartAt, deconstructAt, constructAt, conditionAt, partAt, partOf, stretch}
 use Rattle.rules.specs.Views as Views
 use Rattle.rules.specs.Views.{pairsAt, partAs}
 use Rattle.rules.specs.declared.Deconstruct.{Deconstruct}
@@ -29,20 +24,20 @@ use Rattle.rules.specs.declared.FoundPart.{FoundPart}
 use Rattle.rules.specs.declared.PartRead.{PartRead}
 use Rattle.rules.specs.declared.PartRead.the-variants.{Found, NoPart}
 use Rattle.rules.proofs.Laid.{Told, part-tells}
-use Rattle.meaning.specs.Computation.{Result, ok, stop, stuck, Comp, thenOf}
+use Rattle.meaning.specs.Computation.{Result, Comp}
 use Rattle.meaning.specs.Meaning as M
-use Rattle.meaning.specs.Meaning.{Env, Bindings, variable, calls, match, matchFirst}
+use Rattle.meaning.specs.Meaning.{Bindings, variable, match, matchFirst}
 use Rattle.rewrite.specs.Arena.{NodesAt}
 use Rattle.rewrite.specs.Marked.{marked}
-use Rattle.rewrite.specs.Vars.{Stands, EnvAt, startsOf, startAt, Sound}
-use Rattle.rewrite.specs.Matching.{Stage, Means, Answers, bindings}
+use Rattle.rewrite.specs.Vars.{Stands, startAt}
+use Rattle.rewrite.specs.Matching.{Stage, Means, Answers}
 use Rattle.rewrite.proofs.Marks.{marked-length}
 use Rattle.rewrite.specs.declared.Vars.{Vars}
 use Rattle.rewrite.specs.declared.Verdict.{Verdict}
 use Rattle.rewrite.specs.declared.Verdict.the-variants.{Matches, Differs, Stops}
 use Rattle.rewrite.specs.declared.Matched.{Matched}
 use Rattle.rewrite.specs.declared.arena.Frame.{Frame}
-use Rattle.calls.specs.Engine.{Room, Grown, Held, Setting, Sure, TakenAs, Takes, partOn, partRead, deconstructIn, Deconstructs, Constructs, Conditions, Steps}
+use Rattle.calls.specs.Engine.{Room, Held, Setting, Sure, TakenAs, Takes, partOn, partRead, deconstructIn, Deconstructs, Constructs, Conditions, Steps}
 use Rattle.calls.specs.declared.Taken.{Taken}
 use Rattle.calls.proofs.Frames.{tree-length, some-nodes, variable-stands, grown-same, grown-matched}
 use Rattle.calls.proofs.Going.{sure-as, variable-sure}

@@ -6,7 +6,6 @@ use mathlib.Core.Bool.{Bool, true, false, not}
 use mathlib.Core.Option.{Option, none, some}
 use native.Mathlib.Omega.{arith}
 use lib.ListN.{length, take}
-use lib.Dec.{eqb}
 use borrow.Author.Tests.{le-leb, lt-leb}
 use Rattle.words.specs.Reader.{Words, value}
 use Rattle.grammar.specs.Grammar.{Grammar}
@@ -34,7 +33,7 @@ use Rattle.calls.specs.declared.Sought.{Sought}
 use Rattle.calls.specs.declared.Built.{Built}
 use Rattle.calls.specs.declared.Called.{Called}
 use Rattle.calls.proofs.Frames.{take-less, env-up, env-kept, standing-kept, standing-below}
-use Rattle.calls.proofs.Going.{then-ok, then-stop, sure-first, sure-as, check-sure, surely-sure, says-ok, says-stop}
+use Rattle.calls.proofs.Going.{then-ok, then-stop, sure-first, sure-as, says-ok, says-stop}
 use Rattle.calls.proofs.Applied.{begin-sure}
 use Rattle.meaning.proofs.Numbered.{stop-number, sought-numbered}
 

@@ -6,22 +6,18 @@ use mathlib.Core.Bool.{Bool, true, false}
 use mathlib.Core.Option.{Option, none, some}
 use mathlib.Core.Logic.{_⊎_, inl, inr, ⊎-elim}
 use native.Mathlib.Omega.{arith}
-use native.Mathlib.Numerals.{add-two}
 use lib.ListN.{length, getD, take, drop, length-take, length-drop}
 use lib.Seq.{drop-drop, getD-take, getD-drop}
 use lib.Dec.{eqb}
 use borrow.Author.Tests.{eq-eqb, ne-eqb}
-use Rattle.words.specs.Reader.{Words, or, Read, value, many}
+use Rattle.words.specs.Reader.{Words, or, value, many}
 use Rattle.words.proofs.Laws.{many-suc, many-none}
-use Rattle.words.proofs.Stretches.{drop-pair}
 use Rattle.grammar.specs.Grammar.{Grammar}
 use Rattle.grammar.specs.Limits.{mostTypes}
-use Rattle.grammar.specs.Kinds.{children, allowed}
-use Rattle.tree.specs.Tree.{Trees, size}
-use Rattle.tree.proofs.Trees.{tells, trees-even}
+use Rattle.grammar.specs.Kinds.{children}
 use Rattle.tree.proofs.Rest.{Rest, tree-rest, rest-node}
 use Rattle.rules.specs.Rules as Rules
-use Rattle.rules.specs.Rules.{Rule, Piece, rootOnly, firstMatch, exhaustive, searches, shapes, pieces}
+use Rattle.rules.specs.Rules.{Rule, rootOnly, firstMatch, exhaustive, searches, shapes, pieces}
 use Rattle.rules.specs.Layout as Layout
 use Rattle.rules.specs.Layout.{partAt, partOf}
 use Rattle.rules.specs.Views.{pairsAt, Planned, strategyAs}
@@ -33,26 +29,21 @@ use Rattle.meaning.specs.Limits.{mostLive}
 use Rattle.meaning.specs.Computation.{Result, ok, stop, stuck, Comp, thenOf, spend, choose, whether, return}
 use Rattle.meaning.specs.Meaning as M
 use Rattle.meaning.specs.Meaning.{Env, Bindings, Found, calls, match}
-use Rattle.rewrite.specs.Arena.{Standing}
-use Rattle.rewrite.specs.Marked.{marked, typeIn, markOf}
+use Rattle.rewrite.specs.Marked.{marked, typeIn}
 use Rattle.rewrite.specs.Vars.{Sound}
 use Rattle.rewrite.specs.Matching.{Stage, Means, Answers, bindings}
 use Rattle.rewrite.proofs.Marks.{marked-length}
 use Rattle.rewrite.proofs.Spans.{drop-take}
 use Rattle.rewrite.proofs.Matcher.{Node, node-of, two-marked}
-use Rattle.rewrite.specs.declared.Vars.{Vars}
-use Rattle.rewrite.specs.declared.Verdict.{Verdict}
 use Rattle.rewrite.specs.declared.Verdict.the-variants.{Matches, Differs, Stops}
 use Rattle.rewrite.specs.declared.Matched.{Matched}
 use Rattle.rewrite.specs.declared.arena.Frame.{Frame}
-use Rattle.calls.specs.Engine.{triedOf, Room, Grown, Held, Setting, Sure, TakenAs, Takes, partOn, partRead, SoughtAs, FoundFits, Tree, Steps, Seeks}
+use Rattle.calls.specs.Engine.{triedOf, Room, Grown, Held, Setting, Sure, TakenAs, partOn, partRead, SoughtAs, FoundFits, Tree, Steps, Seeks}
 use Rattle.calls.specs.declared.Taken.{Taken}
 use Rattle.calls.specs.declared.Found as Code
 use Rattle.calls.specs.declared.Found.the-variants.{At, Nowhere, Stopped}
-use Rattle.calls.specs.declared.Sought.{Sought}
-use Rattle.calls.proofs.Frames.{take-less, tree-length, some-nodes, standing-end, standing-inside, grown-same, grown-matched, grown-more, held-kept}
+use Rattle.calls.proofs.Frames.{take-less, some-nodes, standing-end, grown-same, grown-matched, grown-more}
 use Rattle.calls.proofs.Going.{then-ok, then-stop, sure-first, sure-as}
-use Rattle.calls.proofs.Parting.{means-taken}
 
 -- the matcher's answer with the variables of an equal frame
 pub answers-as : {arena part : Words} {at : ℕ} {f : Grammar → Words → Bindings → Comp (Option Bindings)} {m : Matched} (a b : Frame) → a ≡ b → Answers arena part at (a .vars) (a .live) f m → Answers arena part at (b .vars) (b .live) f m

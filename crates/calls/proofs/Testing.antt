@@ -1,7 +1,7 @@
 -- What the tests of a condition promise, from what their callees promise. Assumes nothing.
 use Prim.Native.Nat.{ℕ, zero, suc, _+_, _-_, _*_, _<_, _≤_, _^_}
 use mathlib.Core.Path.{_≡_, refl, sym, ap, _∙_, subst}
-use mathlib.Core.List.{List, [], _∷_}
+use mathlib.Core.List.{List, []}
 use mathlib.Core.Bool.{Bool, true, false, not}
 use mathlib.Core.Option.{Option, some}
 use native.Mathlib.Omega.{arith}
@@ -18,13 +18,11 @@ use Rattle.meaning.specs.Computation.{Result, ok, stop, stuck, Comp, thenOf, ch
 use Rattle.meaning.specs.Operations.{compare}
 use Rattle.meaning.specs.Meaning as M
 use Rattle.meaning.specs.Meaning.{Env, Bindings, live, total, start, begin, liveWithin, variables, valueOf, valuesOf, isNumberToken, areNumberTokens, calls}
-use Rattle.rewrite.specs.Vars.{Stands, EnvAt, startsOf, startAt, Sound}
+use Rattle.rewrite.specs.Vars.{Stands, startsOf, startAt}
 use Rattle.rewrite.specs.Matching.{bindings}
 use Rattle.rewrite.specs.Operating.{argumentsOf, Compared}
-use Rattle.rewrite.specs.declared.Vars.{Vars}
 use Rattle.rewrite.specs.declared.Verdict.{Verdict}
 use Rattle.rewrite.specs.declared.Verdict.the-variants.{Matches, Differs, Stops}
-use Rattle.rewrite.proofs.Matcher.{env-length, env-get, starts-length, start-is}
 use Rattle.rewrite.specs.Arena.{NodesAt, Gathered, Standing}
 use Rattle.rules.specs.Views.{pairsAt, Planned}
 use Rattle.calls.specs.Engine.{countOf, turnedBy, Room, Grown, Sure, TakenAs, TestedAs, SoughtAs, FoundFits, Tree, Held, Setting, partOn, Conditions, Seeks, CallMatches, succeedsAt, chainAt, Succeeds, AnySucceeds}

@@ -2,7 +2,7 @@
 -- attempts left never rise. Assumes nothing: these are definitions.
 use Prim.Native.Nat.{ℕ, zero, suc, _+_, _*_, _<_, _≤_, _^_}
 use mathlib.Core.Path.{_≡_}
-use mathlib.Core.List.{List, [], _∷_}
+use mathlib.Core.List.{List, []}
 use mathlib.Core.Bool.{Bool, true, false}
 use mathlib.Core.Option.{Option, none, some}
 use lib.ListN.{length, getD, take, drop, set, getElem?}
@@ -24,7 +24,7 @@ use Rattle.rules.specs.declared.Deconstruct.{Deconstruct}
 use Rattle.meaning.specs.Limits.{mostLive}
 use Rattle.meaning.specs.Computation.{Result, ok, stop, stuck, Comp, _>>=_, _>>_, return, never}
 use Rattle.meaning.specs.Meaning as M
-use Rattle.meaning.specs.Meaning.{Env, Bindings, live, total, variable, variables, liveWithin, nodesWithin, Ending, done, stopped, cannotGoOn, Found, put, calls}
+use Rattle.meaning.specs.Meaning.{Env, Bindings, live, total, variable, variables, liveWithin, nodesWithin, Ending, done, stopped, cannotGoOn, Found, calls}
 use Rattle.rewrite.specs.Marked.{unmarked}
 use Rattle.rewrite.specs.Arena.{Standing}
 use Rattle.rewrite.specs.Vars.{EnvAt, startsOf, Sound}

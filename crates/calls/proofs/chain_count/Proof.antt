@@ -3,9 +3,6 @@ use Rattle.calls.proofs.Chains.{count-over, count-is}
 use borrow.Author.Needs.{needs}
 use Rattle.calls.proofs.chain_count.Statement.{statement}
 use Rattle.calls.proofs.chain_count.Tie as tie
-use Rattle.calls.proofs.chain_count.Reads as reads
-use Rattle.calls.proofs.chain_count.Lts as lts
-use Rattle.words.proofs.word.Reads as word-reads
 
 -- src/lib.rt:154:9
 word-requires : tie.Need-word-requires

@@ -1,9 +1,6 @@
 use borrow.Author.Needs.{needs}
 use Rattle.calls.proofs.constructed.Statement.{statement}
 use Rattle.calls.proofs.constructed.Tie as tie
-use Rattle.calls.proofs.constructed.Reads as reads
-use Rattle.calls.proofs.constructed.Lts as lts
-use Rattle.rewrite.proofs.bind.Reads as bind-reads
 use Rattle.calls.proofs.Finishing.{more-none, more-bound}
 
 -- src/lib.rt:227:9

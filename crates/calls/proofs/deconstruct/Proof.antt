@@ -1,23 +1,13 @@
-use mathlib.Core.Path.{_≡_, refl, sym, ap, _∙_}
-use Prim.Native.Nat.{ℕ, _+_, _*_, _-_, _≤_, _<_}
+use mathlib.Core.Path.{_≡_, refl, ap, _∙_}
+use Prim.Native.Nat.{_+_, _*_, _-_}
 use native.Mathlib.Omega.{arith}
 use Rattle.rewrite.specs.Vars.{startAt}
 use mathlib.Core.Bool.{true, false}
-use lib.ListN.{length, take, drop, getD, length-take}
+use lib.ListN.{take, drop, length-take}
 use Rattle.calls.proofs.Parting.{deconstruct-none, deconstruct-matched, ends-by, part-within}
 use borrow.Author.Needs.{needs}
 use Rattle.calls.proofs.deconstruct.Statement.{statement}
 use Rattle.calls.proofs.deconstruct.Tie as tie
-use Rattle.calls.proofs.deconstruct.Reads as reads
-use Rattle.calls.proofs.deconstruct.Lts as lts
-use Rattle.calls.proofs.match_taken.Reads as match-taken-reads
-use Rattle.calls.proofs.taking.Reads as taking-reads
-use Rattle.rewrite.proofs.arena.nodes_at.Reads as nodes-at-reads
-use Rattle.rewrite.proofs.match_first.Reads as match-first-reads
-use Rattle.rewrite.proofs.match_pattern.Reads as match-pattern-reads
-use Rattle.rewrite.proofs.start_of.Reads as start-of-reads
-use Rattle.rules.proofs.pairs_of.Reads as pairs-of-reads
-use Rattle.words.proofs.word.Reads as word-reads
 
 -- src/lib.rt:203:9
 pairs-of-requires : tie.Need-pairs-of-requires

@@ -1,10 +1,6 @@
 use borrow.Author.Needs.{needs}
 use Rattle.calls.proofs.match_taken.Statement.{statement}
 use Rattle.calls.proofs.match_taken.Tie as tie
-use Rattle.calls.proofs.match_taken.Reads as reads
-use Rattle.calls.proofs.match_taken.Lts as lts
-use Rattle.calls.proofs.after_match.Reads as after-match-reads
-use Rattle.calls.proofs.taking.Reads as taking-reads
 
 -- src/lib.rt:187:9
 after-match-requires : tie.Need-after-match-requires

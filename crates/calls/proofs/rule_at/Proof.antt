@@ -4,9 +4,6 @@ use lib.ListN.{getD}
 use borrow.Author.Needs.{needs}
 use Rattle.calls.proofs.rule_at.Statement.{statement}
 use Rattle.calls.proofs.rule_at.Tie as tie
-use Rattle.calls.proofs.rule_at.Reads as reads
-use Rattle.calls.proofs.rule_at.Lts as lts
-use Rattle.words.proofs.wide.Reads as wide-reads
 
 -- src/lib.rt:146:9
 wide-requires : tie.Need-wide-requires

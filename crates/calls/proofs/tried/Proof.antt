@@ -3,8 +3,6 @@ use native.Mathlib.Omega.{arith}
 use borrow.Author.Needs.{needs}
 use Rattle.calls.proofs.tried.Statement.{statement}
 use Rattle.calls.proofs.tried.Tie as tie
-use Rattle.calls.proofs.tried.Reads as reads
-use Rattle.calls.proofs.tried.Lts as lts
 
 -- src/lib.rt:120:16
 enum-told : tie.Need-enum-told

@@ -3,8 +3,6 @@ use Rattle.calls.specs.Engine.{turnedBy}
 use borrow.Author.Needs.{needs}
 use Rattle.calls.proofs.turned.Statement.{statement}
 use Rattle.calls.proofs.turned.Tie as tie
-use Rattle.calls.proofs.turned.Reads as reads
-use Rattle.calls.proofs.turned.Lts as lts
 
 -- src/lib.rt:163:24
 enum-known-verdict : tie.Need-enum-known-verdict

@@ -1,8 +1,6 @@
-use Prim.Native.Nat.{ℕ, zero, suc, _+_, _*_, _-_, _≤_, _<_}
-use mathlib.Core.Path.{_≡_, refl, sym, ap, _∙_, subst}
+use Prim.Native.Nat.{ℕ, _-_}
 use native.Mathlib.Omega.{arith}
 use borrow.Author.Needs.{needs}
-use lib.ListN.{length, take, drop, getD}
 use Rattle.calls.proofs.Rounds.{Calling, Searched, Placed, calling-start, calls-over, searched, placed}
 use Rattle.calls.proofs.call.Reads as call
 use Rattle.calls.proofs.replace.Reads as replace

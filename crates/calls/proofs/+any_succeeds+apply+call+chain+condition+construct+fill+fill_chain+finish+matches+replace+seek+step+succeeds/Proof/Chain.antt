@@ -1,9 +1,8 @@
 use Rattle.calls.proofs.Applying.{Chaining, chaining-start, chaining-stop, chaining-more, chaining-end}
-use Prim.Native.Nat.{ℕ, zero, suc, _+_, _*_, _-_, _≤_, _<_}
-use mathlib.Core.Path.{_≡_, refl, sym, ap, _∙_, subst}
+use Prim.Native.Nat.{ℕ, _-_}
+use mathlib.Core.Path.{_∙_}
 use native.Mathlib.Omega.{arith}
 use borrow.Author.Needs.{needs}
-use lib.ListN.{length, take, drop, getD}
 use Rattle.calls.proofs.apply.Reads as apply
 use Rattle.calls.proofs.chain.Reads as chain
 use Rattle.calls.proofs.+any_succeeds+apply+call+chain+condition+construct+fill+fill_chain+finish+matches+replace+seek+step+succeeds.Lts-chain as chain-lts

@@ -1,12 +1,8 @@
 use Rattle.calls.proofs.Testing.{condition-over, condition-tested}
-use Prim.Native.Nat.{ℕ, zero, suc, _+_, _*_, _-_, _≤_, _<_}
-use mathlib.Core.Path.{_≡_, refl, sym, ap, _∙_, subst}
-use native.Mathlib.Omega.{arith}
+use Prim.Native.Nat.{ℕ, _-_}
 use borrow.Author.Needs.{needs}
-use lib.ListN.{length, take, drop, getD}
 use Rattle.calls.proofs.any_succeeds.Reads as any-succeeds
 use Rattle.calls.proofs.condition.Reads as condition
-use Rattle.calls.proofs.succeeds.Reads as succeeds
 use Rattle.calls.proofs.+any_succeeds+apply+call+chain+condition+construct+fill+fill_chain+finish+matches+replace+seek+step+succeeds.Lts-condition as condition-lts
 use Rattle.rewrite.proofs.arena.nodes_at.Reads as nodes-at-reads
 use Rattle.rules.proofs.pairs_of.Reads as pairs-of-reads
@@ -14,7 +10,7 @@ use Rattle.calls.proofs.taking.Reads as taking-reads
 use Rattle.calls.proofs.turned.Reads as turned-reads
 use Rattle.rewrite.proofs.start_of.Reads as start-of-reads
 use Rattle.words.proofs.word.Reads as word-reads
-use Rattle.calls.proofs.+any_succeeds+apply+call+chain+condition+construct+fill+fill_chain+finish+matches+replace+seek+step+succeeds.Proof.Common.{condition-at, any-succeeds-below, succeeds-below}
+use Rattle.calls.proofs.+any_succeeds+apply+call+chain+condition+construct+fill+fill_chain+finish+matches+replace+seek+step+succeeds.Proof.Common.{condition-at, any-succeeds-below}
 
 abbrev pub condition-claims : ℕ → condition-lts.Claims
 condition-claims t = (pairs-of-reads.Asked, pairs-of-reads.Learnt, word-reads.Asked, word-reads.Learnt, start-of-reads.Asked, start-of-reads.Learnt, nodes-at-reads.Asked, nodes-at-reads.Learnt, taking-reads.Asked, taking-reads.Learnt, any-succeeds-below t, any-succeeds.Post, turned-reads.Asked, turned-reads.Learnt)

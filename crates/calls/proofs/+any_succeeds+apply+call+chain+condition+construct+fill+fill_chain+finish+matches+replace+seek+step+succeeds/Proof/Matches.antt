@@ -1,11 +1,10 @@
 use Rattle.rewrite.specs.declared.Verdict.{Verdict}
 use Rattle.calls.proofs.Testing.{foundVerdict, matches-over, matches-found}
 use Rattle.calls.specs.Engine.{CallMatches}
-use Prim.Native.Nat.{ℕ, zero, suc, _+_, _*_, _-_, _≤_, _<_}
-use mathlib.Core.Path.{_≡_, refl, sym, ap, _∙_, subst}
+use Prim.Native.Nat.{ℕ, _-_}
+use mathlib.Core.Path.{_≡_, ap}
 use native.Mathlib.Omega.{arith}
 use borrow.Author.Needs.{needs}
-use lib.ListN.{length, take, drop, getD}
 use Rattle.calls.proofs.matches.Reads as matches
 use Rattle.calls.proofs.seek.Reads as seek
 use Rattle.calls.proofs.+any_succeeds+apply+call+chain+condition+construct+fill+fill_chain+finish+matches+replace+seek+step+succeeds.Lts-matches as matches-lts

@@ -2,11 +2,11 @@ use Rattle.rewrite.specs.Vars.{Sound}
 use Rattle.calls.proofs.Searching.{answers-as, tried-inside, Searching, searching-start, searching-none, searching-other, searching-spent, searching-differs, searching-stops, Parting, parting-start, parting-on, trying-grown, trying-run, trying-done, trying-differs, trying-stops}
 use lib.ListN.{length-take}
 use mathlib.Core.Bool.{true}
-use Prim.Native.Nat.{ℕ, zero, suc, _+_, _*_, _-_, _≤_, _<_}
+use Prim.Native.Nat.{ℕ, _+_, _*_, _-_, _≤_, _<_}
 use mathlib.Core.Path.{_≡_, refl, sym, ap, _∙_, subst}
 use native.Mathlib.Omega.{arith}
 use borrow.Author.Needs.{needs}
-use lib.ListN.{length, take, drop, getD}
+use lib.ListN.{take, drop}
 use Rattle.calls.proofs.seek.Reads as seek
 use Rattle.calls.proofs.step.Reads as step
 use Rattle.calls.proofs.+any_succeeds+apply+call+chain+condition+construct+fill+fill_chain+finish+matches+replace+seek+step+succeeds.Lts-seek as seek-lts
