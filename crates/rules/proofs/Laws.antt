@@ -2,23 +2,23 @@
 use Prim.Native.Nat.{ℕ, zero, suc, _+_, _-_, _*_, _/_, _%_, _<_, _≤_}
 use mathlib.Core.Path.{_≡_, refl, _∙_}
 use mathlib.Core.List.{List, []}
-use mathlib.Core.Bool.{Bool, true, false, not}
+use mathlib.Core.Bool.{Bool, true, false}
 use mathlib.Core.Option.{Option, none, some}
-use native.Mathlib.Nat.{div-one, add-zero}
+use native.Mathlib.Nat.{div-one}
 use native.Mathlib.Omega.{arith}
-use lib.ListN.{length, getD}
-use lib.Dec.{leb, eqb}
-use borrow.Author.Tests.{eq-eqb, ne-eqb, le-leb, lt-leb, lt-ltb, le-ltb}
-use Rattle.words.specs.Reader.{Words, pick, Read, value, refused, andThen, _>>=_, return, word, many, end}
+use lib.ListN.{length}
+use lib.Dec.{leb}
+use borrow.Author.Tests.{eq-eqb, ne-eqb, le-leb, lt-leb}
+use Rattle.words.specs.Reader.{Words, pick, Read, value, refused, andThen, _>>=_, return, word, many}
 use Rattle.words.specs.declared.Check.{Check}
 use Rattle.words.specs.declared.Check.the-variants.{Passed, Refused}
 use Rattle.words.specs.declared.Got.{Got}
 use Rattle.words.specs.declared.Got.the-variants.{Word, Bad}
 use Rattle.words.specs.Views.{answer, got}
 use Rattle.words.proofs.Laws.{read-word, read-bad, answer-passed, answer-refused, answer-map, then-value, pick-value, in-value, many-suc, many-length}
-use Rattle.rules.specs.Limits.{mostRules, mostParameters, mostParts, mostPairs}
+use Rattle.rules.specs.Limits.{mostParameters, mostParts, mostPairs}
 use Rattle.rules.specs.Rules.{Part}
-use Rattle.rules.specs.Layout.{PartAt, deconstructAt, constructAt, conditionAt, Head, bit, onlyIf, strategyOf, field, pairs, variableAt, deconstructFields, conditionFields, partOf, reach, replacement, mainFits, mainBits, typeField, searchFields, constructFields, partAt, part, parameters, headFields, head, parts, rule, layout, readLayout}
+use Rattle.rules.specs.Layout.{PartAt, deconstructAt, constructAt, conditionAt, Head, bit, onlyIf, strategyOf, field, pairs, variableAt, deconstructFields, conditionFields, partOf, reach, replacement, typeField, searchFields, constructFields, partAt, part, parameters, headFields, head, parts, rule}
 use Rattle.rules.specs.declared.HeadRead.{HeadRead}
 use Rattle.rules.specs.declared.HeadRead.the-variants.{Header, NoHead}
 use Rattle.rules.specs.declared.FoundPart.{FoundPart}
@@ -344,43 +344,3 @@ module _ (types : ℕ) (ws : Words) (at : ℕ) (r : HeadRead) (e : r ≡ headRea
         rule-there {q} k l =
             let u = read-head in
             l ∙ rw (u .1, pairs-passed ws (f .pattern) c d g, ← u .2, answer-passed (parts types ws (f .map) next) i j k .1) (answer-map (replacement ws (f .map) q) _)
-
--- THE WHOLE LAYOUT
-
-module _ (ws : Words) (at : ℕ) where
-  pub bits-ends : length ws ≤ at → true ≡ mainFits ws at
-  unfolding mainFits
-  bits-ends h = rw (le-leb (length ws) at h)
-
-  module _ (h : at < length ws) {m : ℕ} (e : m ≡ getD ws at 0) where
-    pub bits-lack : (m / 8 % 2 ≡ 1 → ⊥) → false ≡ mainFits ws at
-    unfolding mainFits
-    bits-lack i = rw (← e, lt-leb (length ws) at h, ne-eqb (m / 8 % 2) 1 i)
-
-    pub bits-there : m / 8 % 2 ≡ 1 → not (eqb (m / 2 % 2) 1) ≡ mainFits ws at
-    unfolding mainFits
-    bits-there i = rw (← e, lt-leb (length ws) at h, eq-eqb (m / 8 % 2) 1 i)
-
-module _ (types : ℕ) (ws : Words) (g : Got) (e : g ≡ got (field ws 1 mostRules 0)) where
-  pub layout-bad : {n p : ℕ} → g ≡ Bad n p → Refused n p ≡ answer (readLayout types ws)
-  unfolding readLayout layout
-  layout-bad b = rw (read-bad (field ws 1 mostRules 0) g e b)
-
-  module _ {n at : ℕ} (b : g ≡ Word n at) (ok : Bool) (d : ok ≡ mainFits ws at) where
-    pub layout-bits : ok ≡ false → Refused 21 at ≡ answer (readLayout types ws)
-    unfolding readLayout layout mainBits
-    layout-bits f = rw (read-word (field ws 1 mostRules 0) g e b, ← d, f, add-zero)
-
-    module _ (f : ok ≡ true) (c : Check) (h : c ≡ answer (many n (rule types ws) at)) where
-      pub layout-fault : {no′ p : ℕ} → c ≡ Refused no′ p → Refused no′ p ≡ answer (readLayout types ws)
-      unfolding readLayout layout mainBits
-      layout-fault i = rw (read-word (field ws 1 mostRules 0) g e b, ← d, f, answer-refused (many n (rule types ws) at) c h i)
-
-      module _ {q : ℕ} (i : c ≡ Passed q) where
-        pub layout-over : q < length ws → Refused 20 q ≡ answer (readLayout types ws)
-        unfolding readLayout layout mainBits end
-        layout-over j = rw (read-word (field ws 1 mostRules 0) g e b, ← d, f, answer-passed (many n (rule types ws) at) c h i .1, lt-ltb q (length ws) j)
-
-        pub layout-whole : length ws ≤ q → Passed q ≡ answer (readLayout types ws)
-        unfolding readLayout layout mainBits end
-        layout-whole j = rw (read-word (field ws 1 mostRules 0) g e b, ← d, f, answer-passed (many n (rule types ws) at) c h i .1, le-ltb q (length ws) j)

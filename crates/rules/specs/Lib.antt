@@ -2,6 +2,7 @@ pub mod Limits
 pub mod Rules
 pub mod Layout
 pub mod Views
+pub mod Whole
 pub mod CasesLayout
 pub mod Typing
 pub mod WellTyped
