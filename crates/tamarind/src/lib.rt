@@ -319,7 +319,7 @@ pub struct RunAnswer {
 }
 
 // A stop's number.
-fn number_of(cause: Stop) -> u32
+pub fn number_of(cause: Stop) -> u32
     ensures { λ r. ⌜ r ≡ numberOf cause ⌝ }
 {
     match cause {

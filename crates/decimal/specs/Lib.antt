@@ -1,0 +1,4 @@
+pub mod Numbers
+pub mod Input
+pub mod Printed
+pub mod Cases

@@ -1,0 +1,95 @@
+-- THE NUMBERS OF A TEXT, from its bytes: "reads decimal numbers from standard input". Assumes nothing: these are definitions.
+use Prim.Native.Nat.{ℕ, _+_, _*_, _-_}
+use mathlib.Core.Path.{_≡_}
+use mathlib.Core.List.{List, [], _∷_, _++_}
+use mathlib.Core.Bool.{Bool, true, false}
+use lib.ListN.{length, take, drop}
+use lib.Dec.{ltb, leb, eqb}
+use Rattle.words.specs.Reader.{Words, pick, or, between}
+use Rattle.decimal.specs.declared.numbers.Place.{Place}
+use Rattle.decimal.specs.declared.numbers.Place.the-variants.{Unread, Between, Within}
+use Rattle.decimal.specs.declared.numbers.Reading.{Reading}
+
+abbrev pub Bytes : Type 0
+Bytes = List ℕ
+
+-- "0" to "9"
+abbrev pub isDigit : ℕ → Bool
+isDigit b = between 48 57 b
+
+-- a blank; or tab, line feed, vertical tab, form feed, carriage return
+abbrev pub isWhite : ℕ → Bool
+isWhite b = or (eqb b 32) (between 9 13 b)
+
+-- "All memory is u32 words": the largest
+abbrev pub mostWord : ℕ
+mostWord = 4294967295
+
+-- where a reading stands, and the numbers that it found
+pub record Numbers : Type 0 where
+  pub place : Place
+  pub found : Words
+
+abbrev pub at : Place → Words → Numbers
+at p ns = record { place = p; found = ns }
+
+-- a number is under way with this value, if it is one word
+unfoldable pub grown : ℕ → Place
+grown v = pick (leb v mostWord) (Within v) Unread
+
+-- one byte where no number is under way
+unfoldable pub outside : ℕ → Place
+outside b = pick (isDigit b) (grown (b - 48)) (pick (isWhite b) Between Unread)
+
+-- one number more, if there is room for it
+unfoldable pub added : ℕ → Words → ℕ → Numbers
+added room ns v = pick (ltb (length ns) room) (at Between (ns ++ (v ∷ []))) (at Unread ns)
+
+-- one byte; other bytes than digits and white space are "other input"
+unfoldable pub byteAt : ℕ → Place → Words → ℕ → Numbers
+byteAt room Unread ns b = at Unread ns
+byteAt room Between ns b = at (outside b) ns
+byteAt room (Within v) ns b = pick (isDigit b) (at (grown (10 * v + (b - 48))) ns) (pick (isWhite b) (added room ns v) (at Unread ns))
+
+abbrev pub byte : ℕ → Numbers → ℕ → Numbers
+byte room s b = byteAt room (s .place) (s .found) b
+
+-- the bytes one after the other
+unfoldable pub bytes : ℕ → Numbers → Bytes → Numbers
+bytes room s [] = s
+bytes room s (b ∷ bs) = bytes room (byte room s b) bs
+
+-- the text ends: a number under way is one more
+unfoldable pub lastAt : ℕ → Place → Words → Numbers
+lastAt room Unread ns = at Unread ns
+lastAt room Between ns = at Between ns
+lastAt room (Within v) ns = added room ns v
+
+abbrev pub last : ℕ → Numbers → Numbers
+last room s = lastAt room (s .place) (s .found)
+
+-- before the first byte
+abbrev pub start : Numbers
+start = at Between []
+
+-- THE NUMBERS OF A TEXT, with room for so many; the place is Between where it holds nothing but numbers
+unfoldable pub numbers : ℕ → Bytes → Numbers
+numbers room text = last room (bytes room start text)
+
+-- may a text that was read so far be an input?
+abbrev pub mayBe : Place → Bool
+mayBe Unread = false
+mayBe Between = true
+mayBe (Within v) = true
+
+-- WHAT THE CODE PROMISES
+
+-- what a reading's answer says, with the words as they are
+abbrev pub said : Reading → Words → Numbers
+said r ws = at (r .place) (take (r .count) ws)
+
+-- the answer, and the words afterwards: the numbers from word 0 on, the rest unchanged
+pub record Stands (s : Numbers) (before : Words) (r : Reading) (after : Words) : Type 0 where
+  pub place : r .place ≡ s .place
+  pub count : r .count ≡ length (s .found)
+  pub words : after ≡ s .found ++ drop (length (s .found)) before

@@ -1,0 +1,253 @@
+//! The proved bench program, `target/bin/bench`, byte for byte: the paper's
+//! cases, damaged texts, the longest inputs, and the reference's bench on
+//! generated inputs. `rt check bench` makes the program.
+
+use std::io::{stdout, Write};
+use std::process::{Command, Stdio};
+use std::thread;
+
+use generate::{any_run_input, to_bench, Input, Random};
+use reference::bench::answer;
+
+const BENCH: &str = concat!(env!("CARGO_MANIFEST_DIR"), "/../../target/bin/bench");
+
+/// How many generated inputs are answered, and how many damaged texts.
+const INPUTS: u64 = 4_000;
+const DAMAGED: u64 = 2_000;
+/// How often each kind of answer must come at least.
+const LEAST: usize = 200;
+
+const GRAMMAR: &[u32] = &[3, 8, 1, 1, 1, 4, 2, 1, 2];
+const RULES: &[u32] = &[1, 9, 2, 2, 1, 2, 200, 1, 2, 4200];
+const TREE: &[u32] = &[0, 0, 1, 0, 2, 200, 1, 0, 2, 500, 1, 1];
+/// Rounds the first number.
+const ROUND: &[u32] = &[1, 9, 2, 1, 1, 64, 2, 3, 66, 0, 1, 0, 1004, 0];
+/// Puts the quotient of the first two numbers in their place.
+const QUOTIENT: &[u32] = &[
+    1, 9, 1, 1, 5, 1, 0, 64, 2, 1, 0, 64, 2, 64, 1, 6, 1, 0, 66, 0, 1, 0, 1002, 1, 65, 1, 65, 2,
+];
+
+const EXAMPLE: &str =
+    "3 9 3 8 1 1 1 4 2 1 2 10 1 9 2 2 1 2 200 1 2 4200 12 0 0 1 0 2 200 1 0 2 500 1 1";
+const DONE: &str = "done 3 1 12\n0 0 1 0 2 4200 1 0 2 500 1 1\n";
+const UNREAD: &str = "unread\n";
+
+/// What the bench prints of a text.
+fn bench(text: &[u8]) -> String {
+    let mut child = Command::new(BENCH)
+        .stdin(Stdio::piped())
+        .stdout(Stdio::piped())
+        .spawn()
+        .expect("target/bin/bench is there: rt check bench");
+    let mut input = child.stdin.take().expect("piped");
+    let text = text.to_vec();
+    // The bench stops reading where a text becomes unread, so the write may fail.
+    let writer = thread::spawn(move || input.write_all(&text));
+    let output = child.wait_with_output().expect("the bench ends");
+    let _ = writer.join().expect("written");
+    assert!(output.status.success(), "{}", output.status);
+    String::from_utf8(output.stdout).expect("ASCII")
+}
+
+fn run(budget: u32, grammar: &[u32], rules: &[u32], tree: &[u32]) -> String {
+    bench(
+        to_bench(&Input {
+            budget,
+            grammar: grammar.to_vec(),
+            rules: rules.to_vec(),
+            tree: tree.to_vec(),
+        })
+        .as_bytes(),
+    )
+}
+
+/// A tree of the paper's grammar with these numbers.
+fn list(numbers: &[u32]) -> Vec<u32> {
+    let mut words = vec![0, 0];
+    words.extend(numbers.iter().flat_map(|&number| [1, 0, 2, number]));
+    words.extend([1, 1]);
+    words
+}
+
+#[test]
+fn the_papers_example_and_its_budgets() {
+    let tree = "0 0 1 0 2 4200 1 0 2 500 1 1";
+    assert_eq!(bench(EXAMPLE.as_bytes()), DONE);
+    assert_eq!(
+        run(2, GRAMMAR, RULES, TREE),
+        format!("stopped 40 2 1 12\n{tree}\n")
+    );
+    assert_eq!(
+        run(1, GRAMMAR, RULES, TREE),
+        format!("stopped 40 1 1 12\n{tree}\n")
+    );
+    let reach_1 = [1, 9, 2, 1, 1, 2, 200, 1, 2, 4200];
+    assert_eq!(
+        run(3, GRAMMAR, &reach_1, TREE),
+        format!("done 1 1 12\n{tree}\n")
+    );
+    assert_eq!(
+        run(3, GRAMMAR, RULES, &[0, 0, 1, 1]),
+        "done 0 0 4\n0 0 1 1\n"
+    );
+    let same = [1, 9, 2, 2, 1, 2, 200, 1, 2, 200];
+    assert_eq!(
+        run(7, GRAMMAR, &same, TREE),
+        "stopped 40 7 7 12\n0 0 1 0 2 200 1 0 2 500 1 1\n"
+    );
+}
+
+#[test]
+fn the_papers_refusals_and_operations() {
+    let wrong = [1, 9, 2, 2, 1, 2, 200, 1, 1, 1];
+    assert_eq!(run(3, GRAMMAR, &wrong, TREE), "refused 23 8\n");
+    assert_eq!(run(3, &[1, 8, 1, 1, 0], RULES, TREE), "refused 12 1\n");
+    assert_eq!(run(3, GRAMMAR, RULES, &[0, 0]), "refused 31 2\n");
+    let over = [TREE, &[1, 1]].concat();
+    assert_eq!(run(3, GRAMMAR, RULES, &over), "refused 31 12\n");
+    assert_eq!(
+        run(3, GRAMMAR, RULES, &list(&[999_999_999, 500])),
+        "done 2 0 12\n0 0 1 0 2 999999999 1 0 2 500 1 1\n"
+    );
+    assert_eq!(
+        run(3, GRAMMAR, RULES, &list(&[1_000_000_000, 500])),
+        "refused 32 5\n"
+    );
+    for (number, rounded) in [(125, 100), (150, 200), (49, 0)] {
+        assert_eq!(
+            run(3, GRAMMAR, ROUND, &list(&[number])),
+            format!("done 1 1 8\n0 0 1 0 2 {rounded} 1 1\n")
+        );
+    }
+    assert_eq!(
+        run(3, GRAMMAR, ROUND, &list(&[999_999_950])),
+        "stopped 45 1 0 8\n0 0 1 0 2 999999950 1 1\n"
+    );
+    assert_eq!(
+        run(3, GRAMMAR, QUOTIENT, &list(&[1000, 300])),
+        "done 1 1 8\n0 0 1 0 2 300 1 1\n"
+    );
+}
+
+#[test]
+fn texts_that_are_no_input_are_unread() {
+    for budget in ["+3", "-3", "3.0", "3,", "0x3", "1_0", "three", "4294967296"] {
+        let text = EXAMPLE.replacen('3', budget, 1);
+        assert_eq!(bench(text.as_bytes()), UNREAD, "{budget}");
+    }
+    for other in ["\0", "\u{a0}", ";", "\x1c", "\u{85}"] {
+        let text = EXAMPLE.replacen(' ', other, 1);
+        assert_eq!(bench(text.as_bytes()), UNREAD, "{other:?}");
+    }
+    assert_eq!(bench(&[EXAMPLE.as_bytes(), b" \xff"].concat()), UNREAD);
+    assert_eq!(bench(format!("{EXAMPLE} 1").as_bytes()), UNREAD);
+    let words: Vec<&str> = EXAMPLE.split(' ').collect();
+    for kept in 0..words.len() {
+        assert_eq!(bench(words[..kept].join(" ").as_bytes()), UNREAD);
+    }
+    assert_eq!(bench(b" \n"), UNREAD);
+}
+
+#[test]
+fn other_ways_to_write_the_example() {
+    for space in ["  ", "\t", "\n", "\r\n", "\x0b", "\x0c", " \n\t "] {
+        let text = format!("{space}{}{space}", EXAMPLE.replace(' ', space));
+        assert_eq!(bench(text.as_bytes()), DONE, "{space:?}");
+    }
+    // Longer than any buffer of the bench.
+    let zeros = "0".repeat(1_000_000);
+    assert_eq!(bench(format!("{zeros}{EXAMPLE}").as_bytes()), DONE);
+    let blanks = " ".repeat(1_000_000);
+    assert_eq!(bench(EXAMPLE.replace(' ', &blanks).as_bytes()), DONE);
+    let endless = format!("{EXAMPLE}{}", " 1".repeat(1_000_000));
+    assert_eq!(bench(endless.as_bytes()), UNREAD);
+    let most = EXAMPLE.replacen('3', "4294967295", 1);
+    assert_eq!(bench(most.as_bytes()), "refused 3 0\n");
+}
+
+#[test]
+fn lengths_at_one_past_and_two_past_their_limits() {
+    let most = u32::MAX;
+    for length in [4_096, 4_097, 4_098] {
+        let words = vec![most; length];
+        let grammar = run(3, &words, RULES, TREE);
+        let tree = run(3, GRAMMAR, RULES, &words);
+        match length {
+            4_096 => assert_eq!((&*grammar, &*tree), ("refused 11 0\n", "refused 32 0\n")),
+            4_097 => assert_eq!((&*grammar, &*tree), ("refused 4 0\n", "refused 30 0\n")),
+            _ => assert_eq!((&*grammar, &*tree), (UNREAD, UNREAD)),
+        }
+    }
+    for (length, printed) in [
+        (16_384, "refused 21 0\n"),
+        (16_385, "refused 5 0\n"),
+        (16_386, UNREAD),
+    ] {
+        assert_eq!(run(3, GRAMMAR, &vec![most; length], TREE), printed);
+    }
+    // All three one past their limits.
+    let (short, long) = (vec![most; 4_097], vec![most; 16_385]);
+    assert_eq!(run(3, &short, &long, &short), "refused 4 0\n");
+    // The greatest tree that can be filled.
+    let numbers = vec![999_999_999; 1_023];
+    let tree = list(&numbers);
+    let words: Vec<String> = tree.iter().map(u32::to_string).collect();
+    let printed = format!("done 1023 0 4096\n{}\n", words.join(" "));
+    assert_eq!(run(1_000_000, GRAMMAR, RULES, &tree), printed);
+}
+
+/// Writes an input with white space and leading zeros as they come.
+fn text_of(input: &Input, random: &mut Random) -> Vec<u8> {
+    let mut text = Vec::new();
+    for number in to_bench(input).split_whitespace() {
+        while random.chance(10) {
+            text.push(random.pick(b" \t\n\x0b\x0c\r"));
+        }
+        if random.chance(5) {
+            text.extend(vec![b'0'; random.below(12)]);
+        }
+        text.extend(number.bytes());
+        text.push(random.pick(b"       \n"));
+    }
+    if random.chance(50) {
+        text.pop();
+    }
+    text
+}
+
+/// Changes, drops or adds a byte.
+fn damage(text: &mut Vec<u8>, random: &mut Random) {
+    let place = random.below(text.len());
+    let byte = random.pick(b" 0123456789+-.,x\0\x7f\xff");
+    match random.below(4) {
+        0 => text[place] = byte,
+        1 => drop(text.remove(place)),
+        2 => text.insert(place, byte),
+        _ => text.truncate(place),
+    }
+}
+
+#[test]
+fn generated_inputs_are_answered_as_by_the_reference() {
+    let mut counts = [0; 4];
+    for seed in 0..INPUTS + DAMAGED {
+        let mut random = Random::new(seed);
+        let mut text = text_of(&any_run_input(seed), &mut random);
+        if seed >= INPUTS {
+            damage(&mut text, &mut random);
+        }
+        let printed = bench(&text);
+        assert_eq!(printed, answer(&text), "seed {seed}");
+        let kinds = ["done ", "stopped ", "refused ", "unread"];
+        let kind = kinds.iter().position(|kind| printed.starts_with(kind));
+        counts[kind.expect("an answer")] += 1;
+    }
+    // Written, not printed: a test's prints are shown only where it fails.
+    writeln!(
+        stdout(),
+        "{} texts are answered alike; done, stopped, refused, unread: {counts:?}",
+        INPUTS + DAMAGED
+    )
+    .expect("written");
+    assert!(counts.iter().all(|&count| count >= LEAST), "{counts:?}");
+}
