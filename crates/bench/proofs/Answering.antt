@@ -1,16 +1,15 @@
 -- Laws of answering an input, over plain variables. Assumes nothing.
 use Prim.Native.Nat.{ℕ, _+_, _-_, _*_, _≤_, min}
-use mathlib.Core.Path.{_≡_, refl, sym, ap, _∙_, subst}
-use mathlib.Core.List.{[]}
+use mathlib.Core.Path.{_≡_, refl, sym, subst}
 use mathlib.Core.Option.{Option, none, some}
 use native.Mathlib.Omega.{arith}
 use lib.ListN.{length, getD, take, drop, length-take}
 use lib.Seq.{length-take-le}
 use Rattle.words.specs.Reader.{Words}
 use Rattle.meaning.specs.Limits.{leastResult, leastWork}
-use Rattle.meaning.specs.Outcome.{Inputs, Outcome, refused, ended, outcome, filledBy}
+use Rattle.meaning.specs.Outcome.{Inputs, Outcome, outcome, filledBy}
 use Rattle.meaning.specs.Runs.{Memories}
-use Rattle.tamarind.specs.Run.{said, filledOf, inputsOf, memories, Runs}
+use Rattle.tamarind.specs.Run.{said, filledOf, inputsOf, Runs}
 use Rattle.tamarind.specs.declared.Outcome as Code
 use Rattle.tamarind.specs.declared.Outcome.the-variants.{Refused, Done, Stopped}
 use Rattle.tamarind.specs.declared.Counts.{Counts}
@@ -117,9 +116,6 @@ unfolding inputAt
 within-input p v ns e = rw e
 
 -- THE BYTES TO WRITE
-
-pub whole-fits : {t : Bytes} (r : ℕ) (out : Bytes) → Whole t r out → r ≤ length out
-whole-fits r out x = x .fits
 
 pub whole-part : {t : Bytes} (r : ℕ) (out : Bytes) → Whole t r out → r ≡ length (take r out)
 whole-part r out x = sym (length-take-le r out (x .fits))

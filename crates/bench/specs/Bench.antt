@@ -3,7 +3,6 @@ use Prim.Native.Nat.{ℕ, _+_, _*_, _≤_}
 use mathlib.Core.Path.{_≡_}
 use mathlib.Core.Option.{Option, none, some}
 use lib.ListN.{length, take}
-use Rattle.words.specs.Reader.{Words}
 use Rattle.meaning.specs.Limits.{leastResult, leastWork}
 use Rattle.meaning.specs.Outcome.{Inputs, outcome, resultAfter, workAfter}
 use Rattle.meaning.specs.Runs.{Memories}

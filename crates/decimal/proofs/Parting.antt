@@ -1,9 +1,9 @@
 -- Laws of the parts of an input, over plain variables. Assumes nothing.
-use Prim.Native.Nat.{ℕ, zero, suc, _+_, _-_, _<_, _≤_}
+use Prim.Native.Nat.{ℕ, _+_, _-_, _<_, _≤_}
 use mathlib.Core.Path.{_≡_, refl, sym, ap, _∙_}
-use mathlib.Core.List.{List, [], _∷_}
+use mathlib.Core.List.{[], _∷_}
 use mathlib.Core.Bool.{Bool, true, false}
-use mathlib.Core.Option.{Option, none, some}
+use mathlib.Core.Option.{Option, none}
 use native.Mathlib.Omega.{arith}
 use native.Mathlib.Numerals.{add-one}
 use lib.ListN.{length, getD, take, drop, length-drop, drop-of-length-le}
@@ -11,14 +11,23 @@ use lib.Seq.{drop-cons, drop-drop}
 use lib.Dec.{ltb, leb}
 use borrow.Author.Tests.{lt-ltb, le-ltb, le-leb, lt-leb, ltb-true, ltb-false, leb-true}
 use Rattle.words.specs.Reader.{Words, pick, and}
+use Rattle.words.proofs.Laws.{and-both}
 use Rattle.meaning.specs.Outcome.{Inputs}
-use Rattle.decimal.specs.Input.{counted, whole, input, lengthAt, partsAt, mostGrammar, mostRules, mostTree, said, Fit, Parted}
+use Rattle.decimal.specs.Input.{counted, whole, input, lengthAt, partsAt, mostGrammar, mostRules, mostTree, Parted}
 use Rattle.decimal.specs.declared.input.Parts.{Parts}
 use Rattle.decimal.specs.declared.input.Parts.the-variants as Parts
 use Rattle.decimal.specs.declared.input.Found.{Found}
 use Rattle.decimal.specs.declared.input.Found.the-variants.{Length, Nothing}
 
 -- THE LENGTH AT A POSITION
+
+picked : (t : Bool) (a n : ℕ) → pick t (Length a) Nothing ≡ Length n → (t ≡ true) × (a ≡ n)
+picked true a n e = (refl, cc)
+picked false a n e = let z : _≡_ {A = ℕ} 0 1 = cc in absurd (omega arith)
+
+missed : (t : Bool) (a : ℕ) → pick t (Length a) Nothing ≡ Nothing → t ≡ false
+missed true a e = let z : _≡_ {A = ℕ} 0 1 = cc in absurd (omega arith)
+missed false a e = refl
 
 module _ (most : ℕ) (ns : Words) (at : ℕ) where
   pub length-past : length ns ≤ at → Nothing ≡ lengthAt most ns at
@@ -37,18 +46,6 @@ module _ (most : ℕ) (ns : Words) (at : ℕ) where
   unfolding lengthAt
   length-there h m s = rw (lt-ltb at (length ns) h, le-leb (getD ns at 0) most m, le-leb (getD ns at 0) (length ns - (at + 1)) s)
 
-  picked : (t : Bool) (a n : ℕ) → pick t (Length a) Nothing ≡ Length n → (t ≡ true) × (a ≡ n)
-  picked true a n e = (refl, cc)
-  picked false a n e = let z : _≡_ {A = ℕ} 0 1 = cc in absurd (omega arith)
-
-  missed : (t : Bool) (a : ℕ) → pick t (Length a) Nothing ≡ Nothing → t ≡ false
-  missed true a e = let z : _≡_ {A = ℕ} 0 1 = cc in absurd (omega arith)
-  missed false a e = refl
-
-  both : (a b : Bool) → and a b ≡ true → (a ≡ true) × (b ≡ true)
-  both true b e = (refl, e)
-  both false b e = let z : _≡_ {A = ℕ} 0 1 = cc in absurd (omega arith)
-
   -- a length that was found: its words are there
   pub record Counted (n : ℕ) : Type 0 where
     pub word : getD ns at 0 ≡ n
@@ -59,8 +56,8 @@ module _ (most : ℕ) (ns : Words) (at : ℕ) where
   unfolding lengthAt
   length-found a d {n} e =
       let p = picked (and (ltb at (length ns)) (and (leb (getD ns at 0) most) (leb (getD ns at 0) (length ns - (at + 1))))) (getD ns at 0) n (sym d ∙ e) in
-      let q = both (ltb at (length ns)) (and (leb (getD ns at 0) most) (leb (getD ns at 0) (length ns - (at + 1)))) (p .0) in
-      let r = both (leb (getD ns at 0) most) (leb (getD ns at 0) (length ns - (at + 1))) (q .1) in
+      let q = and-both (ltb at (length ns)) (and (leb (getD ns at 0) most) (leb (getD ns at 0) (length ns - (at + 1)))) (p .0) in
+      let r = and-both (leb (getD ns at 0) most) (leb (getD ns at 0) (length ns - (at + 1))) (q .1) in
       record { word = p .1; low = rw (p .1) at (r .0); there = omega (arith, ltb-true at (length ns) (q .0), leb-true (getD ns at 0) (length ns - (at + 1)) (r .1), p .1) }
 
   module _ (f : Words → Words → Option Inputs) where

@@ -1,21 +1,16 @@
 -- Laws of putting a text into bytes, over plain variables. Assumes nothing.
 use Prim.Native.Nat.{ℕ, zero, suc, _+_, _-_, _<_, _≤_, _/_, _%_}
-use mathlib.Core.Path.{_≡_, refl, sym, ap, _∙_, subst}
-use mathlib.Core.List.{List, [], _∷_, _++_, append-assoc}
-use mathlib.Core.Bool.{Bool, true, false}
+use mathlib.Core.Path.{_≡_, refl, sym, ap, _∙_}
+use mathlib.Core.List.{[], _∷_, _++_, append-assoc, append-nil}
 use native.Mathlib.Omega.{arith}
-use native.Mathlib.Numerals.{add-one, unary-clauses}
-use lib.ListN.{length, getD, take, drop, set, length-append, length-take, length-drop, length-set}
-use lib.Seq.{length-take-le, take-all, take-nil, take-suc, take-suc-set, drop-set-lt, take-append-le, drop-drop, take-length}
-use lib.Dec.{ltb}
+use native.Mathlib.Numerals.{add-one}
+use lib.ListN.{length, getD, take, drop, set, length-append, length-take, length-set}
+use lib.Seq.{take-all, take-suc, take-suc-set, drop-set-lt, take-append-le, take-length}
 use borrow.Author.Tests.{lt-ltb, le-ltb}
-use Rattle.words.specs.Reader.{Words, pick}
+use Rattle.words.specs.Reader.{Words}
+use Rattle.decimal.proofs.Lists.{take-again, drop-more}
 use Rattle.decimal.specs.Numbers.{Bytes}
-use Rattle.decimal.specs.Printed.{digits, mostDigits, decimal, spaced, allSpaced, lineEnd, line, counts, Put}
-
-append-nil : (a : Bytes) → a ++ [] ≡ a
-append-nil [] = refl
-append-nil (x ∷ a) = ap (λ (l : Bytes). x ∷ l) (append-nil a)
+use Rattle.decimal.specs.Printed.{digits, decimal, spaced, allSpaced, lineEnd, line, Put}
 
 -- nothing is put
 pub put-nothing : (w : Bytes) (at : ℕ) → at ≤ length w → Put w at [] at w
@@ -50,17 +45,6 @@ put-full w at t h f =
       fits = h;
       long = refl;
     }
-
--- what is cut off once is cut off
-take-again : (n : ℕ) (a b : Bytes) → take n (take n a ++ b) ≡ take n (a ++ b)
-take-again zero a b = refl
-take-again (suc n) [] b = refl
-take-again (suc n) (x ∷ a) b = ap (λ (l : Bytes). x ∷ l) (take-again n a b)
-
-drop-more : (m n : ℕ) (a b : Bytes) → m ≤ n → drop m a ≡ drop m b → drop n a ≡ drop n b
-drop-more m n a b h e =
-    let k : m + (n - m) ≡ n = omega arith in
-    subst (λ (x : ℕ). drop x a ≡ drop x b) k (sym (drop-drop (n - m) m a) ∙ ap (drop (n - m)) e ∙ drop-drop (n - m) m b)
 
 -- one text after another
 pub put-both : {w m v : Bytes} {at p q : ℕ} {s t : Bytes} → Put w at s p m → Put m p t q v → Put w at (s ++ t) q v
@@ -117,7 +101,3 @@ line-some (w ∷ ws) e = refl
 pub put-none : (w : Bytes) (at : ℕ) (ws : Words) → at ≤ length w → Put w at (allSpaced (take 0 ws)) at w
 unfolding allSpaced
 put-none w at ws h = put-nothing w at h
-
--- a part of the words that goes on to their end
-pub to-end : (n : ℕ) (ws : Words) → take (length ws - n) (drop n ws) ≡ drop n ws
-to-end n ws = take-all (length ws - n) (drop n ws) (simp length-drop (omega arith))

@@ -1,16 +1,18 @@
 -- Laws of the reading of numbers, over plain variables. Assumes nothing.
 use Prim.Native.Nat.{ℕ, zero, suc, _+_, _*_, _-_, _<_, _≤_, min}
-use mathlib.Core.Path.{_≡_, refl, sym, ap, _∙_, subst}
-use mathlib.Core.List.{List, [], _∷_, _++_, append-assoc}
+use mathlib.Core.Path.{_≡_, refl, sym, ap, _∙_}
+use mathlib.Core.List.{[], _∷_, _++_}
 use mathlib.Core.Bool.{Bool, true, false}
 use native.Mathlib.Omega.{arith}
 use native.Mathlib.Numerals.{add-one, unary-clauses}
-use lib.ListN.{length, getD, take, drop, set, length-append, length-take, length-drop, take-append-drop, drop-of-length-le}
-use lib.Seq.{length-take-le, take-nil, drop-cons, append-snoc, set-split, take-append-seam, drop-append-seam, drop-drop}
-use lib.Dec.{ltb, leb, eqb}
+use lib.ListN.{length, getD, take, drop, set, length-append, take-append-drop, drop-of-length-le}
+use lib.Seq.{length-take-le, take-nil, drop-cons, append-snoc, set-split, take-append-seam, drop-append-seam}
+use lib.Dec.{ltb, leb}
 use borrow.Author.Tests.{lt-ltb, le-ltb, le-leb, lt-leb, eq-eqb, ne-eqb, leb-true}
-use Rattle.words.specs.Reader.{Words, pick, and, or, between}
-use Rattle.decimal.specs.Numbers.{Bytes, isDigit, isWhite, mostWord, Numbers, at, grown, outside, added, byteAt, byte, bytes, lastAt, last, said, Stands}
+use Rattle.words.specs.Reader.{Words, pick, and}
+use Rattle.words.proofs.Laws.{and-both}
+use Rattle.decimal.proofs.Lists.{drop-more}
+use Rattle.decimal.specs.Numbers.{Bytes, isDigit, isWhite, mostWord, Numbers, at, grown, outside, added, byteAt, byte, bytes, lastAt, said, Stands}
 use Rattle.decimal.specs.declared.numbers.Place.{Place}
 use Rattle.decimal.specs.declared.numbers.Place.the-variants.{Unread, Between, Within}
 use Rattle.decimal.specs.declared.numbers.Reading.{Reading}
@@ -24,11 +26,7 @@ pub digit-high : (b : ℕ) → 48 ≤ b → leb b 57 ≡ isDigit b
 digit-high b h = rw (le-leb 48 b h)
 
 pub digit-least : (b : ℕ) → isDigit b ≡ true → 48 ≤ b
-digit-least b e = leb-true 48 b (and-left (leb 48 b) (leb b 57) e)
-  where
-    and-left : (x y : Bool) → and x y ≡ true → x ≡ true
-    and-left true y e = refl
-    and-left false y e = e
+digit-least b e = leb-true 48 b (and-both (leb 48 b) (leb b 57) e .0)
 
 pub white-blank : (b : ℕ) → b ≡ 32 → true ≡ isWhite b
 white-blank b h = rw (eq-eqb b 32 h)
@@ -144,11 +142,6 @@ pub record Going (text : Bytes) (r₀ : Reading) (w₀ : Words) (r : Reading) (w
 module _ (text : Bytes) (r₀ : Reading) (w₀ : Words) where
   pub going-first : r₀ .count ≤ length w₀ → Going text r₀ w₀ r₀ w₀ 0
   going-first h = record { within = omega arith; long = refl; fits = h; left = refl; rest = refl }
-
-  drop-more : (m n : ℕ) (a b : Words) → m ≤ n → drop m a ≡ drop m b → drop n a ≡ drop n b
-  drop-more m n a b h e =
-      let k : m + (n - m) ≡ n = omega arith in
-      subst (λ (x : ℕ). drop x a ≡ drop x b) k (sym (drop-drop (n - m) m a) ∙ ap (drop (n - m)) e ∙ drop-drop (n - m) m b)
 
   pub going-next : (r r′ : Reading) (w w′ : Words) (i : ℕ) → Going text r₀ w₀ r w i → i < length text → length w′ ≡ length w
       → Stands (byte (length w) (said r w) (getD text i 0)) w r′ w′ → Going text r₀ w₀ r′ w′ (i + 1)

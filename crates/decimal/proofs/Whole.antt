@@ -2,20 +2,20 @@
 use Prim.Native.Nat.{ℕ, zero, suc, _+_, _*_, _-_, _<_, _≤_, _/_, _%_}
 use mathlib.Core.Path.{_≡_, refl, sym, ap, _∙_, subst}
 use mathlib.Core.Logic.{_⊎_, inl, inr, ⊎-elim}
-use mathlib.Core.List.{List, [], _∷_, _++_}
+use mathlib.Core.List.{[], _∷_, _++_}
 use mathlib.Core.Bool.{Bool, true, false}
 use mathlib.Core.Option.{Option, none, some}
 use native.Mathlib.Omega.{arith}
-use lib.ListN.{length, take, drop, length-append, length-take, length-drop}
+use lib.ListN.{length, take, drop, length-append, length-drop}
 use lib.Seq.{take-all}
 use lib.Dec.{ltb, leb}
-use borrow.Author.Tests.{lt-ltb, le-ltb, ltb-true, ltb-false, leb-true}
+use borrow.Author.Tests.{ltb-true, ltb-false, leb-true}
 use Rattle.words.specs.Reader.{Words, pick, and}
 use Rattle.meaning.specs.Meaning.{done, stopped, cannotGoOn}
 use Rattle.meaning.specs.Outcome.{Inputs, Outcome, refused, ended, filledBy}
-use Rattle.decimal.specs.Numbers.{Bytes, isDigit, isWhite, Numbers, at, grown, outside, added, byteAt, byte, bytes, lastAt, last, start, numbers}
+use Rattle.decimal.specs.Numbers.{Bytes, isDigit, isWhite, Numbers, at, grown, added, byteAt, byte, bytes, lastAt, last, start, numbers}
 use Rattle.decimal.specs.Input.{counted, whole, input, inputAt, inputOf, mostNumbers, inputFrom, mostGrammar, mostRules, mostTree}
-use Rattle.decimal.specs.Printed.{digits, decimal, spaced, allSpaced, lineEnd, line, counts, printed, printedUnread, Put}
+use Rattle.decimal.specs.Printed.{digits, allSpaced, line, counts, printed, Put}
 use Rattle.decimal.proofs.Reading.{added-least, byte-least}
 use Rattle.decimal.specs.declared.numbers.Place.{Place}
 use Rattle.decimal.specs.declared.numbers.Place.the-variants.{Unread, Between, Within}

@@ -1,5 +1,5 @@
 -- Texts, the inputs that they are, and what is printed: tables, each with one proof. Texts are written as bytes. Assumes nothing.
-use Prim.Native.Nat.{ℕ, suc, _+_}
+use Prim.Native.Nat.{ℕ}
 use mathlib.Core.Path.{_≡_, refl}
 use mathlib.Core.List.{List, [], _∷_, _++_, map}
 use mathlib.Core.Option.{Option, none, some}
@@ -10,7 +10,7 @@ use Rattle.meaning.specs.Outcome.{Inputs, refused, ended}
 use Rattle.decimal.specs.Numbers.{Bytes, Numbers, at, byteAt, bytes, added, grown, outside, lastAt, numbers}
 use Rattle.decimal.specs.Input.{counted, whole, input, inputAt, inputFrom}
 use Rattle.decimal.specs.Printed.{digits, decimal, allSpaced, line, counts, printed}
-use Rattle.decimal.specs.declared.numbers.Place.the-variants.{Unread, Between, Within}
+use Rattle.decimal.specs.declared.numbers.Place.the-variants.{Unread, Between}
 
 -- THE NUMBERS OF A TEXT, with room for four
 texts : List Bytes

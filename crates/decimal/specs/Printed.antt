@@ -5,7 +5,7 @@ use mathlib.Core.List.{[], _∷_, _++_}
 use lib.ListN.{length, take, drop}
 use lib.Dec.{ltb}
 use Rattle.words.specs.Reader.{Words, pick}
-use Rattle.meaning.specs.Meaning.{Ending, done, stopped, cannotGoOn}
+use Rattle.meaning.specs.Meaning.{done, stopped, cannotGoOn}
 use Rattle.meaning.specs.Outcome.{Outcome, refused, ended}
 use Rattle.decimal.specs.Numbers.{Bytes}
 

@@ -1,78 +1,57 @@
+-- `bench::answer` meets its contract. Assumes nothing.
 use Rattle.bench.proofs.Answering.{part-least, none-answers, between-input, unread-input, within-input}
-use Rattle.decimal.specs.Input.{inputAt}
-use Rattle.tamarind.specs.Run.{memories}
-use lib.ListN.{take}
-use mathlib.Core.Path.{_≡_, refl, sym, ap, _∙_, subst}
-use borrow.Author.Needs.{needs}
 use Rattle.bench.proofs.answer.Statement.{statement}
 use Rattle.bench.proofs.answer.Tie as tie
-use Rattle.bench.proofs.answer.Reads as reads
-use Rattle.bench.proofs.answer.Lts as lts
-use Rattle.bench.proofs.answer_numbers.Reads as answer-numbers-reads
-use Rattle.decimal.proofs.numbers.least.Reads as least-reads
-use Rattle.decimal.proofs.printed.print_unread.Reads as print-unread-reads
+use Rattle.decimal.specs.Input.{inputAt}
+use Rattle.tamarind.specs.Run.{memories}
+use borrow.Author.Needs.{needs}
+use lib.ListN.{take}
 
--- src/main.rt:121:9
 least-requires : tie.Need-least-requires
 least-requires c κs = search needs
 
--- src/main.rt:123:42
 enum-told : tie.Need-enum-told
 enum-told c = search needs
 
--- src/main.rt:123:42
 slice-aggregate-answer-numbers : tie.Need-slice-aggregate-answer-numbers
 slice-aggregate-answer-numbers c = part-least (c .before .before .before .before .before .before .before .before .args .read .count) _ (c .before .before .before .before .before .before .before .before .args .numbers .now) (c .before .before .before .least .ensures)
 
--- src/main.rt:123:27
 answer-numbers-requires : tie.Need-answer-numbers-requires
 answer-numbers-requires c κs = search needs
 
--- src/main.rt:124:57
 enum-told-2 : tie.Need-enum-told-2
 enum-told-2 c = search needs
 
--- src/main.rt:124:26
 print-unread-requires : tie.Need-print-unread-requires
 print-unread-requires c κs = search needs
 
--- src/main.rt:125:60
 enum-told-3 : tie.Need-enum-told-3
 enum-told-3 c = search needs
 
--- src/main.rt:125:29
 print-unread-requires-2 : tie.Need-print-unread-requires-2
 print-unread-requires-2 c κs = search needs
 
--- src/main.rt:111:1
 same-length : tie.Need-same-length
 same-length c = search needs
 
--- src/main.rt:111:1
 same-length-2 : tie.Need-same-length-2
 same-length-2 c = search needs
 
--- src/main.rt:111:1
 same-length-3 : tie.Need-same-length-3
 same-length-3 c = search needs
 
--- src/main.rt:111:1
 returns : tie.Need-returns
 returns c = rw (between-input (c .before .before .before .before .before .before .before .before .before .before .before .before .before .before .before .before .before .before .args .read .place) (c .before .before .before .before .before .before .before .before .before .before .before .before .before .before .before .before .before .before .args .numbers .now) (c .before .before .before .before .before .before .before .before .before .before .before .before .before .before .before .before .before .before .args .read .count) _ (c .before .before .before .before .before .before .before .before .before .before .before .enum-told .given .1) (c .before .before .before .before .before .before .before .before .before .before .before .before .before .least .ensures)) (c .before .before .before .before .before .before .answer-numbers .ensures)
 
--- src/main.rt:111:1
 same-length-4 : tie.Need-same-length-4
 same-length-4 c = search needs
 
--- src/main.rt:111:1
 returns-2 : tie.Need-returns-2
 returns-2 c = none-answers (inputAt (c .before .before .before .before .before .before .before .before .before .before .before .args .read .place) (take (c .before .before .before .before .before .before .before .before .before .before .before .args .read .count) (c .before .before .before .before .before .before .before .before .before .before .before .args .numbers .now))) (memories (c .before .before .before .before .before .before .before .before .before .before .before .args .result .now) (c .before .before .before .before .before .before .before .before .before .before .before .args .work .now)) (c .before .before .before .before .before .before .before .before .before .before .before .args .out .now) _ _ (unread-input (c .before .before .before .before .before .before .before .before .before .before .before .args .read .place) (take (c .before .before .before .before .before .before .before .before .before .before .before .args .read .count) (c .before .before .before .before .before .before .before .before .before .before .before .args .numbers .now)) (c .before .before .before .before .enum-told2 .given .1)) (c .before .before .print-unread .ensures)
 
--- src/main.rt:111:1
 same-length-5 : tie.Need-same-length-5
 same-length-5 c = search needs
 
--- src/main.rt:111:1
 returns-3 : tie.Need-returns-3
 returns-3 c = none-answers (inputAt (c .before .before .before .before .before .before .before .before .before .before .before .args .read .place) (take (c .before .before .before .before .before .before .before .before .before .before .before .args .read .count) (c .before .before .before .before .before .before .before .before .before .before .before .args .numbers .now))) (memories (c .before .before .before .before .before .before .before .before .before .before .before .args .result .now) (c .before .before .before .before .before .before .before .before .before .before .before .args .work .now)) (c .before .before .before .before .before .before .before .before .before .before .before .args .out .now) _ _ (within-input (c .before .before .before .before .before .before .before .before .before .before .before .args .read .place) _ (take (c .before .before .before .before .before .before .before .before .before .before .before .args .read .count) (c .before .before .before .before .before .before .before .before .before .before .before .args .numbers .now)) (c .before .before .before .before .enum-told3 .given .1)) (c .before .before .print-unread2 .ensures)
 

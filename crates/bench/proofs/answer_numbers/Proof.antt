@@ -1,57 +1,41 @@
+-- `bench::answer_numbers` meets its contract. Assumes nothing.
 use Rattle.bench.proofs.Answering.{none-answers, parts-none, parts-some, parts-fit}
-use Rattle.decimal.specs.Input.{input}
-use Rattle.tamarind.specs.Run.{memories}
-use mathlib.Core.Path.{_≡_, refl, sym, ap, _∙_, subst}
-use borrow.Author.Needs.{needs}
 use Rattle.bench.proofs.answer_numbers.Statement.{statement}
 use Rattle.bench.proofs.answer_numbers.Tie as tie
-use Rattle.bench.proofs.answer_numbers.Reads as reads
-use Rattle.bench.proofs.answer_numbers.Lts as lts
-use Rattle.bench.proofs.run_parts.Reads as run-parts-reads
-use Rattle.decimal.proofs.input.find_parts.Reads as find-parts-reads
-use Rattle.decimal.proofs.printed.print_unread.Reads as print-unread-reads
+use Rattle.decimal.specs.Input.{input}
+use Rattle.tamarind.specs.Run.{memories}
+use borrow.Author.Needs.{needs}
 
--- src/main.rt:103:9
 find-parts-requires : tie.Need-find-parts-requires
 find-parts-requires c κs = search needs
 
--- src/main.rt:105:57
 enum-told : tie.Need-enum-told
 enum-told c = search needs
 
--- src/main.rt:105:26
 print-unread-requires : tie.Need-print-unread-requires
 print-unread-requires c κs = search needs
 
--- src/main.rt:106:21
 enum-known-parts : tie.Need-enum-known-parts
 enum-known-parts c = search needs
 
--- src/main.rt:106:33
 run-parts-requires : tie.Need-run-parts-requires
 run-parts-requires c κs = parts-fit (c .before .before .before .before .before .before .before .before .before .before .before .args .numbers .now) _ _ (c .before .before .before .before .before .before .find-parts .ensures) (c .before .before .before .before .parts .given .1)
 
--- src/main.rt:100:1
 same-length : tie.Need-same-length
 same-length c = search needs
 
--- src/main.rt:100:1
 returns : tie.Need-returns
 returns c = none-answers (input (c .before .before .before .before .before .before .before .before .before .before .before .args .numbers .now)) (memories (c .before .before .before .before .before .before .before .before .before .before .before .args .result .now) (c .before .before .before .before .before .before .before .before .before .before .before .args .work .now)) (c .before .before .before .before .before .before .before .before .before .before .before .args .out .now) _ _ (parts-none (c .before .before .before .before .before .before .before .before .before .before .before .args .numbers .now) _ (c .before .before .before .before .before .before .find-parts .ensures) (c .before .before .before .before .enum-told .given .1)) (c .before .before .print-unread .ensures)
 
--- src/main.rt:100:1
 same-length-2 : tie.Need-same-length-2
 same-length-2 c = search needs
 
--- src/main.rt:100:1
 same-length-3 : tie.Need-same-length-3
 same-length-3 c = search needs
 
--- src/main.rt:100:1
 same-length-4 : tie.Need-same-length-4
 same-length-4 c = search needs
 
--- src/main.rt:100:1
 returns-2 : tie.Need-returns-2
 returns-2 c = rw (parts-some (c .before .before .before .before .before .before .before .before .before .before .before .before .before .before .before .before .before .before .args .numbers .now) _ _ (c .before .before .before .before .before .before .before .before .before .before .before .before .before .find-parts .ensures) (c .before .before .before .before .before .before .before .before .before .before .before .parts .given .1)) (c .before .before .before .before .before .before .run-parts .ensures)
 

@@ -1,71 +1,51 @@
+-- `bench::print_outcome` meets its contract. Assumes nothing.
 use Rattle.bench.proofs.Answering.{part-done, part-stopped}
-use borrow.Author.Needs.{needs}
 use Rattle.bench.proofs.print_outcome.Statement.{statement}
 use Rattle.bench.proofs.print_outcome.Tie as tie
-use Rattle.bench.proofs.print_outcome.Reads as reads
-use Rattle.bench.proofs.print_outcome.Lts as lts
-use Rattle.tamarind.proofs.number_of.Reads as number-of-reads
-use Rattle.decimal.proofs.printed.print_done.Reads as print-done-reads
-use Rattle.decimal.proofs.printed.print_refused.Reads as print-refused-reads
-use Rattle.decimal.proofs.printed.print_stopped.Reads as print-stopped-reads
+use borrow.Author.Needs.{needs}
 
--- src/main.rt:48:26
 enum-known-outcome : tie.Need-enum-known-outcome
 enum-known-outcome c = search needs
 
--- src/main.rt:49:13
 print-refused-requires : tie.Need-print-refused-requires
 print-refused-requires c κs = search needs
 
--- src/main.rt:51:23
 enum-known-outcome-2 : tie.Need-enum-known-outcome-2
 enum-known-outcome-2 c = search needs
 
--- src/main.rt:56:17
 slice-aggregate-print-done : tie.Need-slice-aggregate-print-done
 slice-aggregate-print-done c = part-done (c .before .before .before .before .before .before .args .outcome) _ (c .before .before .before .before .before .before .args .result .now) (c .before .before .outcome2 .given .1) (c .before .before .before .before .before .before .pre)
 
--- src/main.rt:53:13
 print-done-requires : tie.Need-print-done-requires
 print-done-requires c κs = search needs
 
--- src/main.rt:60:26
 enum-known-outcome-3 : tie.Need-enum-known-outcome-3
 enum-known-outcome-3 c = search needs
 
--- src/main.rt:63:17
 number-of-requires : tie.Need-number-of-requires
 number-of-requires c κs = search needs
 
--- src/main.rt:66:17
 slice-aggregate-print-stopped : tie.Need-slice-aggregate-print-stopped
 slice-aggregate-print-stopped c = part-stopped (c .before .before .before .before .before .before .before .args .outcome) _ _ (c .before .before .before .before .before .before .before .args .result .now) (c .before .before .before .outcome3 .given .1) (c .before .before .before .before .before .before .before .pre)
 
--- src/main.rt:62:13
 print-stopped-requires : tie.Need-print-stopped-requires
 print-stopped-requires c κs = search needs
 
--- src/main.rt:43:1
 same-length : tie.Need-same-length
 same-length c = search needs
 
--- src/main.rt:43:1
 returns : tie.Need-returns
 returns c = rw (c .before .before .before .before .before .outcome .given .1) (c .before .before .print-refused .ensures)
 
--- src/main.rt:43:1
 same-length-2 : tie.Need-same-length-2
 same-length-2 c = search needs
 
--- src/main.rt:43:1
 returns-2 : tie.Need-returns-2
 returns-2 c = rw (c .before .before .before .before .before .before .outcome2 .given .1) (c .before .before .print-done .ensures)
 
--- src/main.rt:43:1
 same-length-3 : tie.Need-same-length-3
 same-length-3 c = search needs
 
--- src/main.rt:43:1
 returns-3 : tie.Need-returns-3
 returns-3 c = rw (c .before .before .before .before .before .before .before .outcome3 .given .1, ← (c .before .before .before .before .before .number-of .ensures)) (c .before .before .print-stopped .ensures)
 

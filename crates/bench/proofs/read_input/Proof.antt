@@ -1,14 +1,9 @@
-use lib.ListN.{length}
-use mathlib.Core.Path.{_≡_, refl, sym, ap, _∙_}
-use native.Mathlib.Omega.{arith}
-use borrow.Author.Needs.{needs}
+-- `bench::read_input` meets its contract. Assumes nothing.
 use Rattle.bench.proofs.read_input.Statement.{statement}
 use Rattle.bench.proofs.read_input.Tie as tie
-use Rattle.bench.proofs.read_input.Reads as reads
-use Rattle.bench.proofs.read_input.Lts as lts
-use Rattle.bench.proofs.read_piece.Reads as read-piece-reads
-use Rattle.decimal.proofs.numbers.first.Reads as first-reads
-use Rattle.decimal.proofs.numbers.unread.Reads as unread-reads
+use borrow.Author.Needs.{needs}
+use lib.ListN.{length}
+use mathlib.Core.Path.{_≡_, refl}
 
 abbrev Inv-loop : tie.InvT-loop
 Inv-loop numbers₀ read₀ turns₀ numbers read turns = length numbers ≡ length numbers₀
@@ -16,47 +11,36 @@ Inv-loop numbers₀ read₀ turns₀ numbers read turns = length numbers ≡ len
 abbrev μ-loop : tie.MeasureT-loop
 μ-loop numbers₀ read₀ turns₀ numbers read turns = turns
 
--- src/main.rt:162:9
 first-requires : tie.Need-first-requires Inv-loop μ-loop
 first-requires c κs = search needs
 
--- src/main.rt:164:5
 loop-holds : tie.Need-loop-holds Inv-loop μ-loop
 loop-holds c = refl
 
--- src/main.rt:165:13
 read-piece-requires : tie.Need-read-piece-requires Inv-loop μ-loop
 read-piece-requires c κs = search needs
 
--- src/main.rt:168:13
 same-length : tie.Need-same-length Inv-loop μ-loop
 same-length c = search needs
 
--- src/main.rt:168:13
 returns : tie.Need-returns Inv-loop μ-loop
 returns c = search needs
 
--- src/main.rt:170:9
 sub-turns : tie.Need-sub-turns Inv-loop μ-loop
 sub-turns c = search needs
 
--- src/main.rt:164:5
 loop-less : tie.Need-loop-less Inv-loop μ-loop
 loop-less c = search needs
 
--- src/main.rt:164:5
 loop-again : tie.Need-loop-again Inv-loop μ-loop
 loop-again c = search needs
 
--- src/main.rt:172:5
 unread-requires : tie.Need-unread-requires Inv-loop μ-loop
 unread-requires c κs = search needs
 
--- src/main.rt:161:1
 same-length-2 : tie.Need-same-length-2 Inv-loop μ-loop
 same-length-2 c = search needs
 
--- src/main.rt:161:1
 returns-2 : tie.Need-returns-2 Inv-loop μ-loop
 returns-2 c = search needs
 

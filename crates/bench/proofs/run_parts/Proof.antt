@@ -1,98 +1,73 @@
+-- `bench::run_parts` meets its contract. Assumes nothing.
 use Rattle.bench.proofs.Answering.{filled-there, parts-answer}
-use Rattle.tamarind.specs.Run.{memories}
-use borrow.Author.Needs.{needs}
 use Rattle.bench.proofs.run_parts.Statement.{statement}
 use Rattle.bench.proofs.run_parts.Tie as tie
-use Rattle.bench.proofs.run_parts.Reads as reads
-use Rattle.bench.proofs.run_parts.Lts as lts
-use Rattle.bench.proofs.print_outcome.Reads as print-outcome-reads
-use Rattle.tamarind.proofs.run.Reads as run-reads
+use Rattle.tamarind.specs.Run.{memories}
+use borrow.Author.Needs.{needs}
 
--- src/main.rt:84:23
 add-grammar-end : tie.Need-add-grammar-end
 add-grammar-end c = search needs
 
--- src/main.rt:85:23
 add-rules-start : tie.Need-add-rules-start
 add-rules-start c = search needs
 
--- src/main.rt:86:21
 add-rules-end : tie.Need-add-rules-end
 add-rules-end c = search needs
 
--- src/main.rt:87:22
 add-tree-start : tie.Need-add-tree-start
 add-tree-start c = search needs
 
--- src/main.rt:89:9
 sub-run : tie.Need-sub-run
 sub-run c = search needs
 
--- src/main.rt:89:9
 part-run-start : tie.Need-part-run-start
 part-run-start c = search needs
 
--- src/main.rt:89:9
 part-run-end : tie.Need-part-run-end
 part-run-end c = search needs
 
--- src/main.rt:90:9
 mul-run : tie.Need-mul-run
 mul-run c = search needs
 
--- src/main.rt:90:9
 sub-run-2 : tie.Need-sub-run-2
 sub-run-2 c = search needs
 
--- src/main.rt:90:9
 part-run-start-2 : tie.Need-part-run-start-2
 part-run-start-2 c = search needs
 
--- src/main.rt:90:9
 part-run-end-2 : tie.Need-part-run-end-2
 part-run-end-2 c = search needs
 
--- src/main.rt:91:9
 mul-run-2 : tie.Need-mul-run-2
 mul-run-2 c = search needs
 
--- src/main.rt:91:9
 sub-run-3 : tie.Need-sub-run-3
 sub-run-3 c = search needs
 
--- src/main.rt:91:9
 part-run-start-3 : tie.Need-part-run-start-3
 part-run-start-3 c = search needs
 
--- src/main.rt:91:9
 part-run-end-3 : tie.Need-part-run-end-3
 part-run-end-3 c = search needs
 
--- src/main.rt:92:9
 shared-slice-read-run : tie.Need-shared-slice-read-run
 shared-slice-read-run c = search needs
 
--- src/main.rt:88:9
 run-requires : tie.Need-run-requires
 run-requires c κs = search needs
 
--- src/main.rt:96:5
 print-outcome-requires : tie.Need-print-outcome-requires
 print-outcome-requires c κs = filled-there (c .before .before .before .before .before .before .run .result) _ (c .before .before .before .before .before .before .run .ensures .filled)
 
--- src/main.rt:74:1
 same-length : tie.Need-same-length
 same-length c = search needs
 
--- src/main.rt:74:1
 same-length-2 : tie.Need-same-length-2
 same-length-2 c = search needs
 
--- src/main.rt:74:1
 same-length-3 : tie.Need-same-length-3
 same-length-3 c = search needs
 
--- src/main.rt:74:1
 returns : tie.Need-returns
 returns c = parts-answer (c .before .before .before .before .before .before .before .before .before .before .before .before .before .before .before .before .before .before .before .before .before .before .args .numbers .now) (c .before .before .before .before .before .before .before .before .before .before .before .before .before .before .before .before .before .before .before .before .before .before .args .lengths .grammar) (c .before .before .before .before .before .before .before .before .before .before .before .before .before .before .before .before .before .before .before .before .before .before .args .lengths .rules) (c .before .before .before .before .before .before .before .before .before .before .before .before .before .before .before .before .before .before .before .before .before .before .args .lengths .tree) (c .before .before .before .before .before .before .before .before .before .before .before .before .before .before .before .before .before .before .before .before .before .before .pre) (memories (c .before .before .before .before .before .before .before .before .before .before .before .before .before .before .before .before .before .before .before .before .before .before .args .result .now) (c .before .before .before .before .before .before .before .before .before .before .before .before .before .before .before .before .before .before .before .before .before .before .args .work .now)) _ (c .before .before .before .before .before .before .before .before .before .run .result) (c .before .before .before .before .before .before .before .before .before .before .before .before .before .before .before .before .before .before .before .before .before .before .args .out .now) _ _ (c .before .before .before .before .before .before .before .before .before .run .ensures) (c .before .before .before .before .before .before .before .before .before .run .kept .1 .1 .1 .1 .0) (c .before .before .print-outcome .ensures)
 

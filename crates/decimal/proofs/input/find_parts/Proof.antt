@@ -1,91 +1,68 @@
+-- `decimal::input::find_parts` meets its contract. Assumes nothing.
 use Rattle.decimal.proofs.Parting.{length-found, no-grammar, no-rules, no-tree, left-over, all-parts}
-use Rattle.decimal.specs.Input.{mostGrammar, mostRules, mostTree}
-use Prim.Native.Nat.{ℕ, _+_}
-use native.Mathlib.Omega.{arith}
-use borrow.Author.Needs.{needs}
 use Rattle.decimal.proofs.input.find_parts.Statement.{statement}
 use Rattle.decimal.proofs.input.find_parts.Tie as tie
-use Rattle.decimal.proofs.input.find_parts.Reads as reads
-use Rattle.decimal.proofs.input.find_parts.Lts as lts
-use Rattle.decimal.proofs.input.length_at.Reads as length-at-reads
+use Rattle.decimal.specs.Input.{mostGrammar, mostRules, mostTree}
+use borrow.Author.Needs.{needs}
+use native.Mathlib.Omega.{arith}
 
--- src/input.rt:51:9
 length-at-requires : tie.Need-length-at-requires
 length-at-requires c κs = search needs
 
--- src/input.rt:52:23
 enum-known-a : tie.Need-enum-known-a
 enum-known-a c = search needs
 
--- src/input.rt:53:9
 enum-told : tie.Need-enum-told
 enum-told c = search needs
 
--- src/input.rt:53:9
 returns : tie.Need-returns
 returns c = no-grammar (c .before .before .before .before .args .ns .now) _ (c .before .before .length-at .ensures) (c .enum-told .given .1)
 
--- src/input.rt:55:39
 add-length-at : tie.Need-add-length-at
 add-length-at c = omega (arith, length-found mostGrammar (c .before .before .before .before .before .args .ns .now) 1 _ (c .before .before .before .length-at .ensures) (c .before .a .given .1) .there)
 
--- src/input.rt:55:9
 length-at-requires-2 : tie.Need-length-at-requires-2
 length-at-requires-2 c κs = search needs
 
--- src/input.rt:56:23
 enum-known-b : tie.Need-enum-known-b
 enum-known-b c = search needs
 
--- src/input.rt:57:9
 enum-told-2 : tie.Need-enum-told-2
 enum-told-2 c = search needs
 
--- src/input.rt:57:9
 returns-2 : tie.Need-returns-2
 returns-2 c = no-rules (c .before .before .before .before .before .before .before .before .args .ns .now) _ (length-found mostGrammar (c .before .before .before .before .before .before .before .before .args .ns .now) 1 _ (c .before .before .before .before .before .before .length-at .ensures) (c .before .before .before .before .a .given .1)) _ (c .before .before .length-at2 .ensures) (c .enum-told2 .given .1)
 
--- src/input.rt:59:38
 add-length-at-2 : tie.Need-add-length-at-2
 add-length-at-2 c = omega (arith, length-found mostGrammar (c .before .before .before .before .before .before .before .before .before .args .ns .now) 1 _ (c .before .before .before .before .before .before .before .length-at .ensures) (c .before .before .before .before .before .a .given .1) .there)
 
--- src/input.rt:59:38
 add-length-at-3 : tie.Need-add-length-at-3
 add-length-at-3 c = omega (arith, length-found mostRules (c .before .before .before .before .before .before .before .before .before .args .ns .now) _ _ (c .before .before .before .length-at2 .ensures) (c .before .b .given .1) .there)
 
--- src/input.rt:59:9
 length-at-requires-3 : tie.Need-length-at-requires-3
 length-at-requires-3 c κs = search needs
 
--- src/input.rt:60:23
 enum-known-c : tie.Need-enum-known-c
 enum-known-c c = search needs
 
--- src/input.rt:61:9
 enum-told-3 : tie.Need-enum-told-3
 enum-told-3 c = search needs
 
--- src/input.rt:61:9
 returns-3 : tie.Need-returns-3
 returns-3 c = no-tree (c .before .before .before .before .before .before .before .before .before .before .before .before .args .ns .now) _ (length-found mostGrammar (c .before .before .before .before .before .before .before .before .before .before .before .before .args .ns .now) 1 _ (c .before .before .before .before .before .before .before .before .before .before .length-at .ensures) (c .before .before .before .before .before .before .before .before .a .given .1)) _ (length-found mostRules (c .before .before .before .before .before .before .before .before .before .before .before .before .args .ns .now) _ _ (c .before .before .before .before .before .before .length-at2 .ensures) (c .before .before .before .before .b .given .1)) _ (c .before .before .length-at3 .ensures) (c .enum-told3 .given .1)
 
--- src/input.rt:63:8
 add-if1 : tie.Need-add-if1
 add-if1 c = omega (arith, length-found mostGrammar (c .before .before .before .before .before .before .before .before .before .before .before .before .before .args .ns .now) 1 _ (c .before .before .before .before .before .before .before .before .before .before .before .length-at .ensures) (c .before .before .before .before .before .before .before .before .before .a .given .1) .there)
 
--- src/input.rt:63:8
 add-if1-2 : tie.Need-add-if1-2
 add-if1-2 c = omega (arith, length-found mostRules (c .before .before .before .before .before .before .before .before .before .before .before .before .before .args .ns .now) _ _ (c .before .before .before .before .before .before .before .length-at2 .ensures) (c .before .before .before .before .before .b .given .1) .there)
 
--- src/input.rt:63:8
 add-if1-3 : tie.Need-add-if1-3
 add-if1-3 c = omega (arith, length-found mostTree (c .before .before .before .before .before .before .before .before .before .before .before .before .before .args .ns .now) _ _ (c .before .before .before .length-at3 .ensures) (c .before .c .given .1) .there)
 
--- src/input.rt:64:9
 returns-4 : tie.Need-returns-4
 returns-4 c = left-over (c .before .before .before .before .before .before .before .before .before .before .before .before .before .before .args .ns .now) _ (length-found mostGrammar (c .before .before .before .before .before .before .before .before .before .before .before .before .before .before .args .ns .now) 1 _ (c .before .before .before .before .before .before .before .before .before .before .before .before .length-at .ensures) (c .before .before .before .before .before .before .before .before .before .before .a .given .1)) _ (length-found mostRules (c .before .before .before .before .before .before .before .before .before .before .before .before .before .before .args .ns .now) _ _ (c .before .before .before .before .before .before .before .before .length-at2 .ensures) (c .before .before .before .before .before .before .b .given .1)) _ (length-found mostTree (c .before .before .before .before .before .before .before .before .before .before .before .before .before .before .args .ns .now) _ _ (c .before .before .before .before .length-at3 .ensures) (c .before .before .c .given .1)) (c .if1 .taken)
 
--- src/input.rt:48:1
 returns-5 : tie.Need-returns-5
 returns-5 c = all-parts (c .before .before .before .before .before .before .before .before .before .before .before .before .before .before .args .ns .now) _ (length-found mostGrammar (c .before .before .before .before .before .before .before .before .before .before .before .before .before .before .args .ns .now) 1 _ (c .before .before .before .before .before .before .before .before .before .before .before .before .length-at .ensures) (c .before .before .before .before .before .before .before .before .before .before .a .given .1)) _ (length-found mostRules (c .before .before .before .before .before .before .before .before .before .before .before .before .before .before .args .ns .now) _ _ (c .before .before .before .before .before .before .before .before .length-at2 .ensures) (c .before .before .before .before .before .before .b .given .1)) _ (length-found mostTree (c .before .before .before .before .before .before .before .before .before .before .before .before .before .before .args .ns .now) _ _ (c .before .before .before .before .length-at3 .ensures) (c .before .before .c .given .1)) (c .if1 .left)
 

@@ -1,46 +1,34 @@
+-- `decimal::input::length_at` meets its contract. Assumes nothing.
 use Rattle.decimal.proofs.Parting.{length-past, length-over, length-short, length-there}
-use mathlib.Core.Path.{_≡_, refl, sym, ap, _∙_}
-use native.Mathlib.Omega.{arith}
-use borrow.Author.Needs.{needs}
 use Rattle.decimal.proofs.input.length_at.Statement.{statement}
 use Rattle.decimal.proofs.input.length_at.Tie as tie
-use Rattle.decimal.proofs.input.length_at.Reads as reads
-use Rattle.decimal.proofs.input.length_at.Lts as lts
-use Rattle.words.proofs.wide.Reads as wide-reads
+use borrow.Author.Needs.{needs}
+use native.Mathlib.Omega.{arith}
 
--- src/input.rt:35:9
 returns : tie.Need-returns
 returns c = length-past (c .before .before .args .most) (c .before .before .args .ns .now) (c .before .before .args .at) (c .if1 .taken)
 
--- src/input.rt:37:25
 mul-wide : tie.Need-mul-wide
 mul-wide c = search needs
 
--- src/input.rt:37:25
 shared-slice-read-wide : tie.Need-shared-slice-read-wide
 shared-slice-read-wide c = search needs
 
--- src/input.rt:37:9
 wide-requires : tie.Need-wide-requires
 wide-requires c κs = search needs
 
--- src/input.rt:39:9
 returns-2 : tie.Need-returns-2
 returns-2 c = length-over (c .before .before .before .before .before .args .most) (c .before .before .before .before .before .args .ns .now) (c .before .before .before .before .before .args .at) (c .before .before .before .if1 .left) (omega (arith, c .before .wide .ensures))
 
--- src/input.rt:41:20
 add-if3 : tie.Need-add-if3
 add-if3 c = search needs
 
--- src/input.rt:41:8
 sub-if3 : tie.Need-sub-if3
 sub-if3 c = search needs
 
--- src/input.rt:42:9
 returns-3 : tie.Need-returns-3
 returns-3 c = length-short (c .before .before .before .before .before .before .args .most) (c .before .before .before .before .before .before .args .ns .now) (c .before .before .before .before .before .before .args .at) (c .before .before .before .before .if1 .left) (omega (arith, c .before .before .wide .ensures)) (omega (arith, c .before .before .wide .ensures))
 
--- src/input.rt:31:1
 returns-4 : tie.Need-returns-4
 returns-4 c = rw (c .before .before .wide .ensures) (length-there (c .before .before .before .before .before .before .args .most) (c .before .before .before .before .before .before .args .ns .now) (c .before .before .before .before .before .before .args .at) (c .before .before .before .before .if1 .left) (omega (arith, c .before .before .wide .ensures)) (omega (arith, c .before .before .wide .ensures)))
 

@@ -1,37 +1,28 @@
-use Prim.Native.Nat.{ℕ, _+_, _*_, _-_}
+-- `decimal::numbers::grow` meets its contract. Assumes nothing.
+use Prim.Native.Nat.{_+_, _*_, _-_}
 use Rattle.decimal.proofs.Reading.{digit-least, grown-word, grown-over}
-use native.Mathlib.Omega.{arith}
-use borrow.Author.Needs.{needs}
 use Rattle.decimal.proofs.numbers.grow.Statement.{statement}
 use Rattle.decimal.proofs.numbers.grow.Tie as tie
-use Rattle.decimal.proofs.numbers.grow.Reads as reads
-use Rattle.decimal.proofs.numbers.grow.Lts as lts
+use borrow.Author.Needs.{needs}
 
--- src/numbers.rt:52:13
 mul-x : tie.Need-mul-x
 mul-x c = search needs
 
--- src/numbers.rt:52:33
 sub-x : tie.Need-sub-x
 sub-x c = digit-least (c .args .b) (c .pre)
 
--- src/numbers.rt:52:32
 cast-x : tie.Need-cast-x
 cast-x c = search needs
 
--- src/numbers.rt:52:13
 add-x : tie.Need-add-x
 add-x c = search needs
 
--- src/numbers.rt:54:30
 cast-t9 : tie.Need-cast-t9
 cast-t9 c = search needs
 
--- src/numbers.rt:54:9
 returns : tie.Need-returns
 returns c = grown-word (10 * c .before .args .v + (c .before .args .b - 48)) (c .if1 .taken)
 
--- src/numbers.rt:48:1
 returns-2 : tie.Need-returns-2
 returns-2 c = grown-over (10 * c .before .args .v + (c .before .args .b - 48)) (c .if1 .left)
 

@@ -1,45 +1,33 @@
+-- `decimal::numbers::read_end` meets its contract. Assumes nothing.
 use Rattle.decimal.proofs.Reading.{end-unread, end-between, end-within}
-use borrow.Author.Needs.{needs}
 use Rattle.decimal.proofs.numbers.read_end.Statement.{statement}
 use Rattle.decimal.proofs.numbers.read_end.Tie as tie
-use Rattle.decimal.proofs.numbers.read_end.Reads as reads
-use Rattle.decimal.proofs.numbers.read_end.Lts as lts
-use Rattle.decimal.proofs.numbers.add.Reads as add-reads
-use Rattle.decimal.proofs.numbers.least.Reads as least-reads
+use borrow.Author.Needs.{needs}
 
--- src/numbers.rt:161:9
 least-requires : tie.Need-least-requires
 least-requires c κs = search needs
 
--- src/numbers.rt:164:20
 enum-told : tie.Need-enum-told
 enum-told c = search needs
 
--- src/numbers.rt:168:20
 enum-told-2 : tie.Need-enum-told-2
 enum-told-2 c = search needs
 
--- src/numbers.rt:171:23
 enum-known-p : tie.Need-enum-known-p
 enum-known-p c = search needs
 
--- src/numbers.rt:171:29
 add-requires : tie.Need-add-requires
 add-requires c κs = search needs
 
--- src/numbers.rt:157:1
 returns : tie.Need-returns
 returns c = end-unread (c .before .before .before .before .args .words .now) (c .before .before .before .before .args .s .count) _ (c .before .before .least .ensures) (c .enum-told .given .1)
 
--- src/numbers.rt:157:1
 returns-2 : tie.Need-returns-2
 returns-2 c = end-between (c .before .before .before .before .args .words .now) (c .before .before .before .before .args .s .count) _ (c .before .before .least .ensures) (c .enum-told2 .given .1)
 
--- src/numbers.rt:157:1
 same-length : tie.Need-same-length
 same-length c = search needs
 
--- src/numbers.rt:157:1
 returns-3 : tie.Need-returns-3
 returns-3 c = end-within (c .before .before .before .before .before .before .before .before .before .args .words .now) (c .before .before .before .before .before .before .before .before .before .args .s .count) _ (c .before .before .before .before .before .before .before .least .ensures) (c .before .before .before .before .before .p .given .1) _ _ (c .before .before .add .ensures)
 

@@ -1,18 +1,16 @@
-use Rattle.decimal.proofs.Putting.{put-nothing, put-both, no-digits, one-digit, more-digits}
-use Rattle.decimal.specs.Printed.{Put}
-use Rattle.decimal.specs.Numbers.{Bytes}
-use mathlib.Core.Path.{_≡_, refl, sym, ap, _∙_, subst}
-use native.Mathlib.Omega.{arith}
-use borrow.Author.Needs.{needs}
+-- `decimal::printed::put_digits` meets its contract. Assumes nothing.
 use Prim.Native.Nat.{ℕ, _<_}
+use Rattle.decimal.proofs.Putting.{put-nothing, put-both, no-digits, one-digit, more-digits}
+use Rattle.decimal.proofs.printed.+put_digits.Lts-put_digits as put-digits-lts
+use Rattle.decimal.proofs.printed.+put_digits.Tie.{close}
+use Rattle.decimal.proofs.printed.+put_digits.{statement}
+use Rattle.decimal.proofs.printed.put.Reads as put-reads
+use Rattle.decimal.proofs.printed.put_digits.Kinds as put-digits-kinds
+use Rattle.decimal.proofs.printed.put_digits.Reads as put-digits
+use borrow.Author.Needs.{needs}
 use borrow.Fn.Kinds.{In}
 use borrow.Fn.PlainCycle.{Measures, is, falls, and}
-use Rattle.decimal.proofs.printed.put_digits.Reads as put-digits
-use Rattle.decimal.proofs.printed.put_digits.Kinds as put-digits-kinds
-use Rattle.decimal.proofs.printed.+put_digits.Lts-put_digits as put-digits-lts
-use Rattle.decimal.proofs.printed.put.Reads as put-reads
-use Rattle.decimal.proofs.printed.+put_digits.{statement}
-use Rattle.decimal.proofs.printed.+put_digits.Tie.{close}
+use native.Mathlib.Omega.{arith}
 
 abbrev μ-put-digits : Measures 1 put-digits-kinds.ps ℕ
 μ-put-digits κs a = a .0
@@ -25,7 +23,6 @@ abbrev put-digits-below : ℕ → In 1 put-digits-kinds.ps
 put-digits-below t =
     and 1 put-digits-kinds.ps (falls 1 put-digits-kinds.ps _<_ μ-put-digits t) put-digits.Pre
 
--- src/printed.rt:42:9
 put-digits-returns : (t : ℕ) → put-digits-lts.Need-returns (
   put-reads.Asked,
   put-reads.Learnt,
@@ -34,7 +31,6 @@ put-digits-returns : (t : ℕ) → put-digits-lts.Need-returns (
 ) (put-digits-at t) put-digits.Post
 put-digits-returns t c = rw (no-digits (c .before .before .args .most) (c .before .before .args .n) (c .if1 .taken)) (put-nothing (c .before .before .args .out .now) (c .before .before .args .at) (c .before .before .pre .1))
 
--- src/printed.rt:45:21
 put-digits-add-put : (t : ℕ) → put-digits-lts.Need-add-put (
   put-reads.Asked,
   put-reads.Learnt,
@@ -43,7 +39,6 @@ put-digits-add-put : (t : ℕ) → put-digits-lts.Need-add-put (
 ) (put-digits-at t) put-digits.Post
 put-digits-add-put t c = search needs
 
--- src/printed.rt:45:20
 put-digits-cast-put : (t : ℕ) → put-digits-lts.Need-cast-put (
   put-reads.Asked,
   put-reads.Learnt,
@@ -52,7 +47,6 @@ put-digits-cast-put : (t : ℕ) → put-digits-lts.Need-cast-put (
 ) (put-digits-at t) put-digits.Post
 put-digits-cast-put t c = search needs
 
--- src/printed.rt:45:9
 put-digits-put-requires : (t : ℕ) → put-digits-lts.Need-put-requires (
   put-reads.Asked,
   put-reads.Learnt,
@@ -61,7 +55,6 @@ put-digits-put-requires : (t : ℕ) → put-digits-lts.Need-put-requires (
 ) (put-digits-at t) put-digits.Post
 put-digits-put-requires t c κs = search needs
 
--- src/printed.rt:45:9
 put-digits-same-length : (t : ℕ) → put-digits-lts.Need-same-length (
   put-reads.Asked,
   put-reads.Learnt,
@@ -70,7 +63,6 @@ put-digits-same-length : (t : ℕ) → put-digits-lts.Need-same-length (
 ) (put-digits-at t) put-digits.Post
 put-digits-same-length t c = search needs
 
--- src/printed.rt:45:9
 put-digits-returns-2 : (t : ℕ) → put-digits-lts.Need-returns-2 (
   put-reads.Asked,
   put-reads.Learnt,
@@ -79,7 +71,6 @@ put-digits-returns-2 : (t : ℕ) → put-digits-lts.Need-returns-2 (
 ) (put-digits-at t) put-digits.Post
 put-digits-returns-2 t c = rw (one-digit (c .before .before .before .before .before .before .before .args .most) (c .before .before .before .before .before .before .before .args .n) (c .before .before .before .before .before .if1 .left) (c .before .before .before .before .if2 .taken)) (c .before .before .put .ensures)
 
--- src/printed.rt:47:24
 put-digits-sub-put-digits : (t : ℕ) → put-digits-lts.Need-sub-put-digits (
   put-reads.Asked,
   put-reads.Learnt,
@@ -88,7 +79,6 @@ put-digits-sub-put-digits : (t : ℕ) → put-digits-lts.Need-sub-put-digits (
 ) (put-digits-at t) put-digits.Post
 put-digits-sub-put-digits t c = search needs
 
--- src/printed.rt:47:9
 put-digits-put-digits-requires : (t : ℕ) → put-digits-lts.Need-put-digits-requires (
   put-reads.Asked,
   put-reads.Learnt,
@@ -97,7 +87,6 @@ put-digits-put-digits-requires : (t : ℕ) → put-digits-lts.Need-put-digits-re
 ) (put-digits-at t) put-digits.Post
 put-digits-put-digits-requires t c κs = (omega (arith, c .before .before .before .before .pre .0, c .before .before .if1 .left), c .before .before .before .before .pre .1)
 
--- src/printed.rt:48:10
 put-digits-add-put-2 : (t : ℕ) → put-digits-lts.Need-add-put-2 (
   put-reads.Asked,
   put-reads.Learnt,
@@ -106,7 +95,6 @@ put-digits-add-put-2 : (t : ℕ) → put-digits-lts.Need-add-put-2 (
 ) (put-digits-at t) put-digits.Post
 put-digits-add-put-2 t c = search needs
 
--- src/printed.rt:48:9
 put-digits-cast-put-2 : (t : ℕ) → put-digits-lts.Need-cast-put-2 (
   put-reads.Asked,
   put-reads.Learnt,
@@ -115,7 +103,6 @@ put-digits-cast-put-2 : (t : ℕ) → put-digits-lts.Need-cast-put-2 (
 ) (put-digits-at t) put-digits.Post
 put-digits-cast-put-2 t c = search needs
 
--- src/printed.rt:48:5
 put-digits-put-requires-2 : (t : ℕ) → put-digits-lts.Need-put-requires-2 (
   put-reads.Asked,
   put-reads.Learnt,
@@ -124,7 +111,6 @@ put-digits-put-requires-2 : (t : ℕ) → put-digits-lts.Need-put-requires-2 (
 ) (put-digits-at t) put-digits.Post
 put-digits-put-requires-2 t c κs = search needs
 
--- src/printed.rt:37:1
 put-digits-same-length-2 : (t : ℕ) → put-digits-lts.Need-same-length-2 (
   put-reads.Asked,
   put-reads.Learnt,
@@ -133,7 +119,6 @@ put-digits-same-length-2 : (t : ℕ) → put-digits-lts.Need-same-length-2 (
 ) (put-digits-at t) put-digits.Post
 put-digits-same-length-2 t c = search needs
 
--- src/printed.rt:37:1
 put-digits-returns-3 : (t : ℕ) → put-digits-lts.Need-returns-3 (
   put-reads.Asked,
   put-reads.Learnt,

@@ -1,44 +1,31 @@
+-- `decimal::printed::print_refused` meets its contract. Assumes nothing.
 use Rattle.decimal.proofs.Putting.{put-both}
-use Rattle.decimal.specs.Printed.{printed}
-use borrow.Author.Needs.{needs}
 use Rattle.decimal.proofs.printed.print_refused.Statement.{statement}
 use Rattle.decimal.proofs.printed.print_refused.Tie as tie
-use Rattle.decimal.proofs.printed.print_refused.Reads as reads
-use Rattle.decimal.proofs.printed.print_refused.Lts as lts
-use Rattle.decimal.proofs.printed.put.Reads as put-reads
-use Rattle.decimal.proofs.printed.put_spaced.Reads as put-spaced-reads
-use Rattle.decimal.proofs.printed.put_text.Reads as put-text-reads
-use Rattle.words.proofs.wide.Reads as wide-reads
+use Rattle.decimal.specs.Printed.{printed}
+use borrow.Author.Needs.{needs}
 
--- src/printed.rt:116:22
 slice-aggregate-put-text : tie.Need-slice-aggregate-put-text
 slice-aggregate-put-text c = search needs
 
--- src/printed.rt:116:9
 put-text-requires : tie.Need-put-text-requires
 put-text-requires c κs = search needs
 
--- src/printed.rt:117:24
 wide-requires : tie.Need-wide-requires
 wide-requires c κs = search needs
 
--- src/printed.rt:117:9
 put-spaced-requires : tie.Need-put-spaced-requires
 put-spaced-requires c κs = search needs
 
--- src/printed.rt:118:9
 put-spaced-requires-2 : tie.Need-put-spaced-requires-2
 put-spaced-requires-2 c κs = search needs
 
--- src/printed.rt:119:5
 put-requires : tie.Need-put-requires
 put-requires c κs = search needs
 
--- src/printed.rt:113:1
 same-length : tie.Need-same-length
 same-length c = search needs
 
--- src/printed.rt:113:1
 returns : tie.Need-returns
 unfolding printed
 returns c = rw (← (c .before .before .before .before .before .before .before .before .before .before .before .before .wide .ensures)) (put-both (c .before .before .before .before .before .before .before .before .before .before .before .before .before .before .before .put-text .ensures) (put-both (c .before .before .before .before .before .before .before .before .before .before .put-spaced .ensures) (put-both (c .before .before .before .before .before .before .put-spaced2 .ensures) (c .before .before .put .ensures))))

@@ -1,28 +1,22 @@
-use mathlib.Core.List.{_∷_, []}
+-- `decimal::printed::put` meets its contract. Assumes nothing.
 use Rattle.decimal.proofs.Putting.{put-byte, put-full}
-use borrow.Author.Needs.{needs}
 use Rattle.decimal.proofs.printed.put.Statement.{statement}
 use Rattle.decimal.proofs.printed.put.Tie as tie
-use Rattle.decimal.proofs.printed.put.Reads as reads
-use Rattle.decimal.proofs.printed.put.Lts as lts
+use borrow.Author.Needs.{needs}
+use mathlib.Core.List.{_∷_, []}
 
--- src/printed.rt:17:9
 slice-write-out : tie.Need-slice-write-out
 slice-write-out c = search needs
 
--- src/printed.rt:18:16
 add-result : tie.Need-add-result
 add-result c = search needs
 
--- src/printed.rt:18:9
 same-length : tie.Need-same-length
 same-length c = search needs
 
--- src/printed.rt:18:9
 returns : tie.Need-returns
 returns c = put-byte (c .before .args .out .now) (c .before .args .at) (c .before .args .b) (c .if1 .taken)
 
--- src/printed.rt:12:1
 returns-2 : tie.Need-returns-2
 returns-2 c = put-full (c .before .args .out .now) (c .before .args .at) (c .before .args .b ∷ []) (c .before .pre) (c .if1 .left)
 

@@ -1,0 +1,23 @@
+-- Laws of lists. Assumes nothing.
+use Prim.Native.Nat.{ℕ, zero, suc, _+_, _-_, _≤_}
+use mathlib.Core.Path.{_≡_, refl, sym, ap, _∙_, subst}
+use mathlib.Core.List.{List, [], _∷_, _++_}
+use native.Mathlib.Omega.{arith}
+use lib.ListN.{length, take, drop, length-drop}
+use lib.Seq.{take-all, drop-drop}
+
+-- what is cut off once is cut off
+pub take-again : (n : ℕ) (a b : List ℕ) → take n (take n a ++ b) ≡ take n (a ++ b)
+take-again zero a b = refl
+take-again (suc n) [] b = refl
+take-again (suc n) (x ∷ a) b = ap (λ (l : List ℕ). x ∷ l) (take-again n a b)
+
+-- lists that are the same from some place on are so from any later one
+pub drop-more : (m n : ℕ) (a b : List ℕ) → m ≤ n → drop m a ≡ drop m b → drop n a ≡ drop n b
+drop-more m n a b h e =
+    let k : m + (n - m) ≡ n = omega arith in
+    subst (λ (x : ℕ). drop x a ≡ drop x b) k (sym (drop-drop (n - m) m a) ∙ ap (drop (n - m)) e ∙ drop-drop (n - m) m b)
+
+-- a part that goes on to the end
+pub to-end : (n : ℕ) (ws : List ℕ) → take (length ws - n) (drop n ws) ≡ drop n ws
+to-end n ws = take-all (length ws - n) (drop n ws) (simp length-drop (omega arith))
