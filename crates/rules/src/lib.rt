@@ -411,6 +411,7 @@ pub fn read_rule(types: u32, ws: &[u32], at: usize) -> Check
 }
 
 // THE BOOK IS READ FROM ITS FIRST WORD TO ITS LAST BY ONE READER
+// Functions over the reader are proved by hand, so they are straight lines but for one loop: a refusal is not returned early, it goes on in the answer.
 
 // The book, and a position in it.
 pub struct Reader<'a> {
