@@ -84,10 +84,6 @@ module _ {B : Type 0} (n l : ℕ) (k : Unit {0} → Comp B) where
   unfolding thenOf nodesWithin stopUnless
   nodes-fit h = rw (le-leb n mostNodes h)
 
-  pub nodes-over : mostNodes < n → thenOf (nodesWithin n l) k ≡ stop 42 l
-  unfolding thenOf nodesWithin stopUnless
-  nodes-over h = rw (lt-leb n mostNodes h)
-
 -- ANSWERS BY A NUMBER
 
 module _ {A : Type 0} (P : A → Type 0) (m : Result A) (left : ℕ) where
@@ -98,10 +94,6 @@ module _ {A : Type 0} (P : A → Type 0) (m : Result A) (left : ℕ) where
   pub says-stop : (n : ℕ) → (n ≡ 0 → ⊥) → Says P n left m → m ≡ stop n left
   says-stop zero e s = absurd (e refl)
   says-stop (suc n) e s = s
-
-  pub ok-says : (n : ℕ) → n ≡ 0 → (a : A) → P a → m ≡ ok a left → Says P n left m
-  ok-says zero e a p q = (a, p, q)
-  ok-says (suc n) e a p q = absurd (omega arith)
 
   pub stop-says : (n : ℕ) → (n ≡ 0 → ⊥) → m ≡ stop n left → Says P n left m
   stop-says zero e q = absurd (e refl)

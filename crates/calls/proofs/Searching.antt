@@ -147,14 +147,6 @@ attempt-first : (g : Grammar) (rules : Rules.Rules) (deep : ℕ) (rule : Rule) (
     → M.attempt true g rules (calls true g rules deep) rule ws b fuel ≡ thenOf (match true g (rule .pattern) ws b now) (λ m. whether m (M.parts true g rules (calls true g rules deep) (rule .parts)) (return none))
 attempt-first g rules deep rule ws b fuel now e = rw e (attempt-starts g rules deep rule ws b now)
 
-whether-none : {A B : Type 0} (f : A → Comp B) (k : Comp B) (l : ℕ) → whether none f k l ≡ k l
-unfolding whether
-whether-none f k l = refl
-
-whether-some : {A B : Type 0} (a : A) (f : A → Comp B) (k : Comp B) (l : ℕ) → whether (some a) f k l ≡ f a l
-unfolding whether
-whether-some a f k l = refl
-
 -- THE PARTS
 
 parts-end : (g : Grammar) (rules : Rules.Rules) (deep : ℕ) (b : Bindings) (l : ℕ) → M.parts true g rules (calls true g rules deep) [] b l ≡ ok (some b) l
