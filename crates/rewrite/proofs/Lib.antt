@@ -4,6 +4,7 @@ pub mod Spans
 pub mod Same
 pub mod Steps
 pub mod Matcher
+pub mod Clashing
 pub mod Finding
 pub mod Numbers
 pub mod Putting

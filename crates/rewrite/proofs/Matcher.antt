@@ -448,7 +448,7 @@ module _ (pairs arena part : Words) (at : ℕ) (vars : Vars) (held₀ : ℕ) (en
         few-bound : {strict : Bool} {g : Grammar} {ws : Words} {b : Bindings} {left : ℕ} (r : Run strict g pairs arena part at env held i p ws b left) → length (r .bound-to) ≡ env .n
         few-bound {g = g} r = env-length g arena (startsOf env) (r .bound-to) (r .stage .stands) ∙ starts-length env (go .sound)
 
-        other-answer : (typeIn w ≡ getD pairs (i + 1) 0 → ⊥) → MatchAnswers pairs arena part at vars held₀ (record { verdict = Differs; vars = env; live = held })
+        pub other-answer : (typeIn w ≡ getD pairs (i + 1) 0 → ⊥) → MatchAnswers pairs arena part at vars held₀ (record { verdict = Differs; vars = env; live = held })
         other-answer h = answered Differs (λ strict g ws b left ns r.
             at-new r ∙ new-type strict g (shapes (drop (i + 2) pairs)) (bindings (r .bound-to) (b .besides)) left (here r .t) (here r .v) (here r .below) (getD pairs (i + 1) 0) (λ e. h (type-is r ∙ e)))
 
@@ -456,7 +456,7 @@ module _ (pairs arena part : Words) (at : ℕ) (vars : Vars) (held₀ : ℕ) (en
         over-answer e h = answered (Stops 44) (λ strict g ws b left ns r.
             at-new r ∙ new-full strict g (shapes (drop (i + 2) pairs)) (bindings (r .bound-to) (b .besides)) left (here r .t) (here r .v) (here r .below) (getD pairs (i + 1) 0) (sym (type-is r) ∙ e) (omega (arith, live-is r)))
 
-        past-answer : typeIn w ≡ getD pairs (i + 1) 0 → held + sizeIn w ≤ 6144 → 16 ≤ env .n → MatchAnswers pairs arena part at vars held₀ (record { verdict = Differs; vars = env; live = held })
+        pub past-answer : typeIn w ≡ getD pairs (i + 1) 0 → held + sizeIn w ≤ 6144 → 16 ≤ env .n → MatchAnswers pairs arena part at vars held₀ (record { verdict = Differs; vars = env; live = held })
         past-answer e h k = answered Differs (λ strict g ws b left ns r.
             absurd (ns (at-new r ∙ new-seventeenth strict g (shapes (drop (i + 2) pairs)) (bindings (r .bound-to) (b .besides)) left (here r .t) (here r .v) (here r .below) (getD pairs (i + 1) 0) (sym (type-is r) ∙ e) (omega (arith, live-is r)) (omega (arith, few-bound r)))))
 
@@ -481,7 +481,7 @@ module _ (pairs arena part : Words) (at : ℕ) (vars : Vars) (held₀ : ℕ) (en
             told (past t h k e) = answer-as e (past-answer t h k)
             told (taken t h k e) = let z : Matches ≡ Stops n = ap (λ x. x .verdict) (sym e) ∙ d in let y : _≡_ {A = ℕ} 0 1 = cc in absurd (omega arith)
 
-        taken-going : typeIn w ≡ getD pairs (i + 1) 0 → held + sizeIn w ≤ 6144 → env .n < 16 → Going pairs arena part at vars held₀ (bound env start) (held + sizeIn w) (i + 2) (p + 2 * sizeIn w)
+        pub taken-going : typeIn w ≡ getD pairs (i + 1) 0 → held + sizeIn w ≤ 6144 → env .n < 16 → Going pairs arena part at vars held₀ (bound env start) (held + sizeIn w) (i + 2) (p + 2 * sizeIn w)
         taken-going t h k = record {
           read = omega (arith, go .read);
           near = omega (arith, go .near);

@@ -4,3 +4,4 @@ pub mod Vars
 pub mod Matching
 pub mod Operating
 pub mod Arena
+pub mod Candidates

@@ -18,6 +18,7 @@ ghost use Rattle.rewrite.specs.Matching.{newMatched, MatchAnswers, First
 ghost use Rattle.rewrite.specs.declared.Verdict as Verdict;
 
 pub mod arena;
+pub mod candidates;
 pub mod operations;
 
 pub const MOST_LIVE: usize = 6144;
