@@ -7,7 +7,7 @@ use mathlib.Core.Option.{Option, none, some}
 use mathlib.Core.Logic.{_⊎_, inl, inr, ⊎-elim}
 use native.Mathlib.Omega.{arith}
 use lib.ListN.{length, getD, take, drop, length-take, length-drop}
-use lib.Seq.{drop-drop, getD-take, getD-drop}
+use lib.Seq.{drop-drop, getD-take, getD-drop, take-take}
 use lib.Dec.{eqb}
 use borrow.Author.Tests.{eq-eqb, ne-eqb}
 use Rattle.words.specs.Reader.{Words, or, value, many}
@@ -32,6 +32,9 @@ use Rattle.meaning.specs.Meaning.{Env, Bindings, Found, calls, match}
 use Rattle.rewrite.specs.Marked.{marked, typeIn}
 use Rattle.rewrite.specs.Vars.{Sound}
 use Rattle.rewrite.specs.Matching.{Stage, Means, Answers, bindings}
+use Rattle.rewrite.specs.Post.{span}
+use Rattle.rewrite.specs.Candidates.{Clashes, Passed, NextCandidate}
+use Rattle.rewrite.specs.declared.candidates.Candidate.{Candidate}
 use Rattle.rewrite.proofs.Marks.{marked-length}
 use Rattle.rewrite.proofs.Spans.{drop-take}
 use Rattle.rewrite.proofs.Matcher.{Node, node-of, two-marked}
@@ -612,3 +615,37 @@ module _ (heads rows : Words) (types : ℕ) (book starts w₀ : Words) (plan : P
                         let y : partRead deep book (partAt types book at) (k .g) (k .rules) (bindings (tr .try k .env) (k .b .besides)) now ≡ stop no (r .left) = rw v at (stepped k .1) in
                         stepping k ∙ ap (λ y. thenOf (thenOf y (λ m. whether m (M.parts true (k .g) (k .rules) (calls true (k .g) (k .rules) deep) (part-there k .more)) (return none))) (next k (node k .below) (2 * i))) y
                         ∙ stop-twice no (r .left) _ _
+
+    -- THE NODES PASSED OVER
+
+    module _ (fits : 0 < n → base + 2 * n ≤ frame .top) (pairs : Words) (es : pairs ≡ pairsAt book (plan .pattern)) (w : Words) (fuel i : ℕ) (go : Searching w fuel i) where
+      -- the stretch from a node on, as a part of what is open
+      stretch : (j : ℕ) → j < n → span w (base + 2 * j) (base + 2 * n) ≡ take (2 * (n - j)) (drop (base + 2 * j) (take (frame .top) w))
+      stretch j h =
+          let f : base + 2 * n ≤ frame .top = fits (omega arith) in
+          let a : base + 2 * n - (base + 2 * j) ≡ 2 * (n - j) = omega arith in
+          ap (λ x. take x (drop (base + 2 * j) w)) a ∙ sym (ap (take (2 * (n - j))) (drop-take (frame .top) (base + 2 * j) w) ∙ take-take (2 * (n - j)) (frame .top - (base + 2 * j)) (drop (base + 2 * j) w) (omega arith))
+
+      passed-other : (k now : ℕ) → Searching w now (i + k) → i + k < triedOf (plan .strategy) n → (typeIn (getD w (base + 2 * (i + k)) 0) ≡ plan .target → ⊥) → Searching w now (i + suc k)
+      passed-other k now at-k l other = let z : i + suc k ≡ i + k + 1 = omega arith in rw z (searching-other w now (i + k) at-k l other)
+
+      passed-clash : (k now : ℕ) → Searching w (suc now) (i + k) → i + k < triedOf (plan .strategy) n → typeIn (getD w (base + 2 * (i + k)) 0) ≡ plan .target
+          → Clashes pairs (span w (base + 2 * (i + k)) (base + 2 * n)) (frame .live) → Searching w now (i + suc k)
+      passed-clash k now at-k l this clashes =
+          let z : i + suc k ≡ i + k + 1 = omega arith in
+          let y : suc now - 1 ≡ now = omega arith in
+          let c = clashes .clash (take (frame .top) w) (base + 2 * (i + k)) (frame .vars) (room .sound) in
+          let s : Searching w (suc now - 1) (i + k + 1) =
+          searching-differs w (suc now) (i + k) at-k l this (λ e. omega arith) (c .0) (take (frame .top) w) (span w (base + 2 * (i + k)) (base + 2 * n)) pairs refl (stretch (i + k) (omega (arith, tried-few (plan .strategy) n))) es (c .2 true) (c .1) in
+          rw (z, ← y) s
+
+      searching-passed : (k now : ℕ) → (0 < k → i + k ≤ triedOf (plan .strategy) n) → Passed pairs w (plan .target) base (base + 2 * n) (frame .live) i fuel k now → Searching w now (i + k)
+      searching-passed zero now h e = let z : i + 0 ≡ i = omega arith in rw (z, e) go
+      searching-passed (suc k) now h (inl x) = passed-other k now (searching-passed k now (λ _. omega (arith, h (omega arith))) (x .1)) (omega (arith, h (omega arith))) (x .0)
+      searching-passed (suc k) now h (inr x) = passed-clash k now (searching-passed k (suc now) (λ _. omega (arith, h (omega arith))) (x .2)) (omega (arith, h (omega arith))) (x .0) (x .1)
+
+      pub searching-next : (last end : ℕ) → last ≡ triedOf (plan .strategy) n → end ≡ base + 2 * n → (r : Candidate) → NextCandidate pairs w (plan .target) base end i last (frame .live) fuel r → Searching w (r .left) (r .node)
+      searching-next last end el ee r x = rw (x .node-is) (searching-passed (x .passed) (r .left) (λ h. omega (arith, el, x .inside h)) (passed-as (x .passed) (r .left) ee (x .nodes)))
+        where
+          passed-as : {a b : ℕ} (k now : ℕ) → a ≡ b → Passed pairs w (plan .target) base a (frame .live) i fuel k now → Passed pairs w (plan .target) base b (frame .live) i fuel k now
+          passed-as k now q y = rw q at y

@@ -10,6 +10,7 @@ use rewrite::Vars;
 use rewrite::Verdict;
 use rewrite::arena;
 use rewrite::arena::Frame;
+use rewrite::candidates;
 use rules::Condition;
 use rules::Construct;
 use rules::Deconstruct;
@@ -401,6 +402,19 @@ fn seek(
     let mut i: usize = 0;
     let mut now: Frame = frame;
     let found = 'nodes: loop {
+        let next = candidates::next_candidate(
+            pairs,
+            w,
+            plan.target,
+            base,
+            end,
+            i,
+            last,
+            frame.live,
+            fuel,
+        );
+        i = next.node;
+        fuel = next.left;
         if last <= i {
             break 'nodes seeking(Found::Nowhere, frame, fuel, 0);
         }
@@ -436,7 +450,12 @@ fn seek(
             let verdict = t.verdict;
             match verdict {
                 Verdict::Differs => {
-                    now = frame;
+                    let kept = frame.vars;
+                    now = Frame {
+                        vars: kept,
+                        live: frame.live,
+                        top: frame.top,
+                    };
                     i = i + 1;
                     continue 'nodes;
                 }

@@ -87,11 +87,11 @@ module _ (pairs w : Words) (target base end from last live left : ℕ) where
   pub record Passing (i fuel : ℕ) : Type 0 where
     passed : ℕ
     pub node-is : i ≡ from + passed
-    pub inside : from ≤ last → i ≤ last
+    pub inside : 0 < passed → i ≤ last
     nodes : Passed pairs w target base end live from left passed fuel
 
   pub passing-start : Passing from left
-  passing-start = record { passed = 0; node-is = omega arith; inside = λ h. h; nodes = refl }
+  passing-start = record { passed = 0; node-is = omega arith; inside = λ h. absurd (omega arith); nodes = refl }
 
   module _ (i fuel : ℕ) (pa : Passing i fuel) where
     pub passing-done : NextCandidate pairs w target base end from last live left (record { node = i; left = fuel })

@@ -28,5 +28,5 @@ Passed pairs w target base end live from left (suc k) now =
 pub record NextCandidate (pairs w : Words) (target base end from last live left : ℕ) (r : Candidate) : Type 0 where
   pub passed : ℕ
   pub node-is : r .node ≡ from + passed
-  pub inside : from ≤ last → from + passed ≤ last
+  pub inside : 0 < passed → from + passed ≤ last
   pub nodes : Passed pairs w target base end live from left passed (r .left)
