@@ -11,13 +11,13 @@ use Rattle.words.specs.Reader.{Words}
 use Rattle.rewrite.specs.Marked.{typeIn, sizeIn}
 use Rattle.rewrite.specs.Post.{span}
 use Rattle.rewrite.specs.Vars.{Sound, bound}
-use Rattle.rewrite.specs.Matching.{MatchAnswers, newMatched}
+use Rattle.rewrite.specs.Matching.{MatchAnswers}
 use Rattle.rewrite.specs.Candidates.{Clashes, Passed, NextCandidate}
 use Rattle.rewrite.specs.declared.Vars.{Vars}
 use Rattle.rewrite.specs.declared.Verdict.the-variants.{Differs}
 use Rattle.rewrite.specs.declared.Matched.{Matched}
 use Rattle.rewrite.specs.declared.candidates.Candidate.{Candidate}
-use Rattle.rewrite.proofs.Matcher.{Going, going-start, going-type, going-value, going-node, other-answer, past-answer, taken-going}
+use Rattle.rewrite.proofs.Matcher.{Going, going-start, going-type, going-value, going-node, new-other, new-past, new-taken}
 
 -- A PATTERN THAT MUST DIFFER
 
@@ -64,7 +64,7 @@ module _ (pairs part : Words) (live total i p : ℕ) (cl : Clashing pairs part l
 
   module _ (is : getD pairs i 0 ≡ 64) where
     pub clashing-other : (typeIn w ≡ getD pairs (i + 1) 0 → ⊥) → Clashes pairs part live
-    clashing-other h = differ (λ arena at vars env go. other-answer pairs arena part at vars live env total i p go two more w ew is (at + p) refl (newMatched w (getD pairs (i + 1) 0) (at + p) env total) refl h)
+    clashing-other h = differ (λ arena at vars env go. new-other pairs arena part at vars live env total i p go two more w ew is (at + p) refl h)
 
     pub clashing-new : typeIn w ≡ getD pairs (i + 1) 0 → (n : ℕ) → n ≡ sizeIn w → n < 4096 → total + n ≤ 6144 → Clashing pairs part live (total + n) (i + 2) (p + 2 * n)
     clashing-new t n en small h = on (total + n) (p + 2 * n) h (omega arith) (λ arena at vars env go. bind arena at vars env go (ltb (env .n) 16) refl)
@@ -72,12 +72,12 @@ module _ (pairs part : Words) (live total i p : ℕ) (cl : Clashing pairs part l
         bind : (arena : Words) (at : ℕ) (vars env : Vars) → Going pairs arena part at vars live env total i p → (b : Bool) → ltb (env .n) 16 ≡ b
             → ((env′ : Vars) × Going pairs arena part at vars live env′ (total + n) (i + 2) (p + 2 * n)) ⊎ Differing pairs arena part at vars live
         bind arena at vars env go true e =
-            inl (bound env (at + p), rw en (taken-going pairs arena part at vars live env total i p go two more w ew is (at + p) refl (newMatched w (getD pairs (i + 1) 0) (at + p) env total) refl t (omega arith) (ltb-true (env .n) 16 e)))
+            inl (bound env (at + p), rw en (new-taken pairs arena part at vars live env total i p go two more w ew is (at + p) refl t (omega arith) (ltb-true (env .n) 16 e)))
         bind arena at vars env go false e =
             inr (
               record { verdict = Differs; vars = env; live = total },
               refl,
-              past-answer pairs arena part at vars live env total i p go two more w ew is (at + p) refl (newMatched w (getD pairs (i + 1) 0) (at + p) env total) refl t (omega arith) (ltb-false (env .n) 16 e),
+              new-past pairs arena part at vars live env total i p go two more w ew is (at + p) refl t (omega arith) (ltb-false (env .n) 16 e),
             )
 
 -- THE NODES PASSED OVER

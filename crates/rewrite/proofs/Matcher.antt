@@ -1,5 +1,5 @@
 -- The matcher's loop: what was set against so far, and the definition at what is left. Assumes nothing.
-use Prim.Native.Nat.{ℕ, zero, suc, _+_, _-_, _*_, _<_, _≤_}
+use Prim.Native.Nat.{ℕ, zero, suc, _+_, _-_, _*_, _/_, _<_, _≤_}
 use mathlib.Core.Path.{_≡_, refl, sym, ap, ap₂, _∙_}
 use mathlib.Core.List.{List, [], _∷_, _++_}
 use mathlib.Core.Bool.{Bool, true, false}
@@ -17,7 +17,7 @@ use Rattle.words.proofs.Stretches.{drop-pair, part-rest}
 use Rattle.grammar.specs.Grammar.{Grammar}
 use Rattle.grammar.specs.Kinds.{children}
 use Rattle.tree.specs.Tree.{Trees, Tree, size, isTree, first, after, firstTree}
-use Rattle.tree.proofs.Trees.{split, first-after, tells, trees-even, first-even, after-drop, first-take, tree-passes, tree-type}
+use Rattle.tree.proofs.Trees.{split, first-after, tells, trees-even, first-even, after-drop, first-take, tree-passes, tree-type, tree-some}
 use Rattle.rules.specs.Rules.{Shape, node, new, same, shapes}
 use Rattle.meaning.specs.Computation.{Result, ok, stop, stuck}
 use Rattle.meaning.specs.Meaning.{Env, Bindings, total, live, match}
@@ -29,7 +29,9 @@ use Rattle.rewrite.specs.declared.Matched.{Matched}
 use Rattle.rewrite.specs.Marked.{typeIn, sizeIn, mark, markOf, marked}
 use Rattle.rewrite.specs.Vars.{Stands, EnvAt, startsOf, bound, startAt, Sound}
 use Rattle.rewrite.specs.Post.{SameTree}
-use Rattle.rewrite.specs.Matching.{Stage, bindings, Means, Answers, matchOf, MatchAnswers, newMatched}
+use Rattle.rewrite.specs.Matching.{Stage, bindings, Means, Answers, matchOf, MatchAnswers, NewTold, PairTold, failedBy}
+use Rattle.rewrite.specs.Matching.NewTold.{other, over, past, taken}
+use Rattle.rewrite.specs.Matching.PairTold.{short, new, unlike, like, type, value, node}
 use Rattle.rewrite.proofs.Marks.{mark-type, mark-size, marked-length, marked-append}
 use Rattle.rewrite.proofs.Marking.{type-there}
 use Rattle.rewrite.proofs.Spans.{first-size, drop-take}
@@ -91,43 +93,17 @@ pub start-is : (v : Vars) (x : ℕ) → Sound v → x < v .n → startAt v x ≡
 unfolding startAt
 start-is v x s h = rw (lt-ltb x (v .n) h, lt-ltb x 16 (omega (arith, s .few))) (sym (getD-take (v .n) (v .starts) x 0 h))
 
--- A NEW VARIABLE
+-- A PAIR
 
-module _ (w ty start : ℕ) (vars : Vars) (live : ℕ) where
-  pub new-other : (typeIn w ≡ ty → ⊥) → record { verdict = Differs; vars = vars; live = live } ≡ newMatched w ty start vars live
-  unfolding newMatched
-  new-other h = rw (ne-eqb (typeIn w) ty h)
+pub failed-zero : (r : ℕ) (vars : Vars) (live : ℕ) → r ≡ 0 → record { verdict = Differs; vars = vars; live = live } ≡ failedBy r vars live
+failed-zero r vars live e = rw (eq-eqb r 0 e)
 
-  pub new-over : typeIn w ≡ ty → 6144 < live + sizeIn w → record { verdict = Stops 44; vars = vars; live = live } ≡ newMatched w ty start vars live
-  unfolding newMatched
-  new-over e h = rw (eq-eqb (typeIn w) ty e, lt-leb (live + sizeIn w) 6144 h)
+pub failed-other : (r : ℕ) (vars : Vars) (live : ℕ) → (r ≡ 0 → ⊥) → record { verdict = Stops 44; vars = vars; live = live } ≡ failedBy r vars live
+failed-other r vars live h = rw (ne-eqb r 0 h)
 
-  pub new-past : typeIn w ≡ ty → live + sizeIn w ≤ 6144 → 16 ≤ vars .n → record { verdict = Differs; vars = vars; live = live } ≡ newMatched w ty start vars live
-  unfolding newMatched
-  new-past e h k = rw (eq-eqb (typeIn w) ty e, le-leb (live + sizeIn w) 6144 h, le-ltb (vars .n) 16 k)
-
-  pub new-there : typeIn w ≡ ty → (n : ℕ) → n ≡ sizeIn w → live + n ≤ 6144 → vars .n < 16 → (vars′ : Vars) → vars′ ≡ bound vars start → record { verdict = Matches; vars = vars′; live = live + n } ≡ newMatched w ty start vars live
-  unfolding newMatched
-  new-there e n en h k vars′ ev = rw (ev, en, eq-eqb (typeIn w) ty e, le-leb (live + sizeIn w) 6144 (omega arith), lt-ltb (vars .n) 16 k)
-
--- what becomes of it
-pub data NewTold (w ty start : ℕ) (vars : Vars) (live : ℕ) (m : Matched) : Type 0 where
-  other : (typeIn w ≡ ty → ⊥) → m ≡ record { verdict = Differs; vars = vars; live = live } → NewTold w ty start vars live m
-  over : typeIn w ≡ ty → 6144 < live + sizeIn w → m ≡ record { verdict = Stops 44; vars = vars; live = live } → NewTold w ty start vars live m
-  past : typeIn w ≡ ty → live + sizeIn w ≤ 6144 → 16 ≤ vars .n → m ≡ record { verdict = Differs; vars = vars; live = live } → NewTold w ty start vars live m
-  taken : typeIn w ≡ ty → live + sizeIn w ≤ 6144 → vars .n < 16 → m ≡ record { verdict = Matches; vars = bound vars start; live = live + sizeIn w } → NewTold w ty start vars live m
-
-new-told : (w ty start : ℕ) (vars : Vars) (live : ℕ) (m : Matched) → m ≡ newMatched w ty start vars live → NewTold w ty start vars live m
-unfolding newMatched
-new-told w ty start vars live m e = go (eqb (typeIn w) ty) (leb (live + sizeIn w) 6144) (ltb (vars .n) 16) refl refl refl e
-  where
-    go : (a b c : Bool) → eqb (typeIn w) ty ≡ a → leb (live + sizeIn w) 6144 ≡ b → ltb (vars .n) 16 ≡ c
-        → m ≡ pick a (pick b (pick c (record { verdict = Matches; vars = bound vars start; live = live + sizeIn w }) (record { verdict = Differs; vars = vars; live = live })) (record { verdict = Stops 44; vars = vars; live = live })) (record { verdict = Differs; vars = vars; live = live })
-        → NewTold w ty start vars live m
-    go false b c p q r e = other (eqb-false (typeIn w) ty p) e
-    go true false c p q r e = over (eqb-true (typeIn w) ty p) (leb-false (live + sizeIn w) 6144 q) e
-    go true true false p q r e = past (eqb-true (typeIn w) ty p) (leb-true (live + sizeIn w) 6144 q) (ltb-false (vars .n) 16 r) e
-    go true true true p q r e = taken (eqb-true (typeIn w) ty p) (leb-true (live + sizeIn w) 6144 q) (ltb-true (vars .n) 16 r) e
+-- a comparison with an equal part and an equal answer
+pub same-as : {arena x y : Words} {start : ℕ} {a b : Bool} → x ≡ y → a ≡ b → SameTree arena start x a → SameTree arena start y b
+same-as e f s = λ g u ws t ts l st m tr k. sym f ∙ s g u ws t ts l st (e ∙ m) tr k
 
 -- THE LOOP
 
@@ -428,7 +404,7 @@ module _ (pairs arena part : Words) (at : ℕ) (vars : Vars) (held₀ : ℕ) (en
                   }
 
       -- A NEW VARIABLE
-      module _ (is : getD pairs i 0 ≡ 64) (start : ℕ) (es : start ≡ at + p) (m : Matched) (em : m ≡ newMatched w (getD pairs (i + 1) 0) start env held) where
+      module _ (is : getD pairs i 0 ≡ 64) (start : ℕ) (es : start ≡ at + p) where
         is-new : shapes (getD pairs i 0 ∷ getD pairs (i + 1) 0 ∷ drop (i + 2) pairs) ≡ new (getD pairs (i + 1) 0) ∷ shapes (drop (i + 2) pairs)
         is-new = pair-new (getD pairs i 0) (getD pairs (i + 1) 0) (drop (i + 2) pairs) is
 
@@ -448,41 +424,20 @@ module _ (pairs arena part : Words) (at : ℕ) (vars : Vars) (held₀ : ℕ) (en
         few-bound : {strict : Bool} {g : Grammar} {ws : Words} {b : Bindings} {left : ℕ} (r : Run strict g pairs arena part at env held i p ws b left) → length (r .bound-to) ≡ env .n
         few-bound {g = g} r = env-length g arena (startsOf env) (r .bound-to) (r .stage .stands) ∙ starts-length env (go .sound)
 
-        pub other-answer : (typeIn w ≡ getD pairs (i + 1) 0 → ⊥) → MatchAnswers pairs arena part at vars held₀ (record { verdict = Differs; vars = env; live = held })
-        other-answer h = answered Differs (λ strict g ws b left ns r.
+        pub new-other : (typeIn w ≡ getD pairs (i + 1) 0 → ⊥) → MatchAnswers pairs arena part at vars held₀ (record { verdict = Differs; vars = env; live = held })
+        new-other h = answered Differs (λ strict g ws b left ns r.
             at-new r ∙ new-type strict g (shapes (drop (i + 2) pairs)) (bindings (r .bound-to) (b .besides)) left (here r .t) (here r .v) (here r .below) (getD pairs (i + 1) 0) (λ e. h (type-is r ∙ e)))
 
-        over-answer : typeIn w ≡ getD pairs (i + 1) 0 → 6144 < held + sizeIn w → MatchAnswers pairs arena part at vars held₀ (record { verdict = Stops 44; vars = env; live = held })
-        over-answer e h = answered (Stops 44) (λ strict g ws b left ns r.
+        pub new-over : typeIn w ≡ getD pairs (i + 1) 0 → 6144 < held + sizeIn w → MatchAnswers pairs arena part at vars held₀ (record { verdict = Stops 44; vars = env; live = held })
+        new-over e h = answered (Stops 44) (λ strict g ws b left ns r.
             at-new r ∙ new-full strict g (shapes (drop (i + 2) pairs)) (bindings (r .bound-to) (b .besides)) left (here r .t) (here r .v) (here r .below) (getD pairs (i + 1) 0) (sym (type-is r) ∙ e) (omega (arith, live-is r)))
 
-        pub past-answer : typeIn w ≡ getD pairs (i + 1) 0 → held + sizeIn w ≤ 6144 → 16 ≤ env .n → MatchAnswers pairs arena part at vars held₀ (record { verdict = Differs; vars = env; live = held })
-        past-answer e h k = answered Differs (λ strict g ws b left ns r.
+        pub new-past : typeIn w ≡ getD pairs (i + 1) 0 → held + sizeIn w ≤ 6144 → 16 ≤ env .n → MatchAnswers pairs arena part at vars held₀ (record { verdict = Differs; vars = env; live = held })
+        new-past e h k = answered Differs (λ strict g ws b left ns r.
             absurd (ns (at-new r ∙ new-seventeenth strict g (shapes (drop (i + 2) pairs)) (bindings (r .bound-to) (b .besides)) left (here r .t) (here r .v) (here r .below) (getD pairs (i + 1) 0) (sym (type-is r) ∙ e) (omega (arith, live-is r)) (omega (arith, few-bound r)))))
 
-        answer-as : {x : Matched} → m ≡ x → MatchAnswers pairs arena part at vars held₀ x → MatchAnswers pairs arena part at vars held₀ m
-        answer-as e a = rw e a
-
-        pub going-differs : m .verdict ≡ Differs → MatchAnswers pairs arena part at vars held₀ m
-        going-differs d = told (new-told w (getD pairs (i + 1) 0) start env held m em)
-          where
-            told : NewTold w (getD pairs (i + 1) 0) start env held m → MatchAnswers pairs arena part at vars held₀ m
-            told (other h e) = answer-as e (other-answer h)
-            told (over t h e) = answer-as e (over-answer t h)
-            told (past t h k e) = answer-as e (past-answer t h k)
-            told (taken t h k e) = let z : Matches ≡ Differs = ap (λ x. x .verdict) (sym e) ∙ d in let y : _≡_ {A = ℕ} 0 1 = cc in absurd (omega arith)
-
-        pub going-stops : {n : ℕ} → m .verdict ≡ Stops n → MatchAnswers pairs arena part at vars held₀ m
-        going-stops {n} d = told (new-told w (getD pairs (i + 1) 0) start env held m em)
-          where
-            told : NewTold w (getD pairs (i + 1) 0) start env held m → MatchAnswers pairs arena part at vars held₀ m
-            told (other h e) = answer-as e (other-answer h)
-            told (over t h e) = answer-as e (over-answer t h)
-            told (past t h k e) = answer-as e (past-answer t h k)
-            told (taken t h k e) = let z : Matches ≡ Stops n = ap (λ x. x .verdict) (sym e) ∙ d in let y : _≡_ {A = ℕ} 0 1 = cc in absurd (omega arith)
-
-        pub taken-going : typeIn w ≡ getD pairs (i + 1) 0 → held + sizeIn w ≤ 6144 → env .n < 16 → Going pairs arena part at vars held₀ (bound env start) (held + sizeIn w) (i + 2) (p + 2 * sizeIn w)
-        taken-going t h k = record {
+        pub new-taken : typeIn w ≡ getD pairs (i + 1) 0 → held + sizeIn w ≤ 6144 → env .n < 16 → Going pairs arena part at vars held₀ (bound env start) (held + sizeIn w) (i + 2) (p + 2 * sizeIn w)
+        new-taken t h k = record {
           read = omega (arith, go .read);
           near = omega (arith, go .near);
           sound = sound-more env start (go .sound) k;
@@ -514,14 +469,65 @@ module _ (pairs arena part : Words) (at : ℕ) (vars : Vars) (held₀ : ℕ) (en
                       ∙ ap (λ y. match strict g (shapes (drop (i + 2) pairs)) (after g y 1) (bindings (r .bound-to ++ firstTree g y ∷ []) (b .besides)) left) (sym (n .is));
                 }
 
-        pub going-new : m .verdict ≡ Matches → Going pairs arena part at vars held₀ (m .vars) (m .live) (i + 2) (p + 2 * sizeIn w)
-        going-new d = told (new-told w (getD pairs (i + 1) 0) start env held m em)
-          where
-            clash : {v : Verdict} {x : Matched} → m ≡ x → x .verdict ≡ v → (v ≡ Matches → ⊥) → Going pairs arena part at vars held₀ (m .vars) (m .live) (i + 2) (p + 2 * sizeIn w)
-            clash e f h = absurd (h (sym f ∙ ap (λ y. y .verdict) (sym e) ∙ d))
+    -- THE PAIR THAT IS SET AGAINST
 
-            told : NewTold w (getD pairs (i + 1) 0) start env held m → Going pairs arena part at vars held₀ (m .vars) (m .live) (i + 2) (p + 2 * sizeIn w)
-            told (other h e) = clash e refl (λ z. let y : _≡_ {A = ℕ} 0 1 = cc in omega arith)
-            told (over t h e) = clash e refl (λ z. let y : _≡_ {A = ℕ} 0 1 = cc in omega arith)
-            told (past t h k e) = clash e refl (λ z. let y : _≡_ {A = ℕ} 0 1 = cc in omega arith)
-            told (taken t h k e) = rw e (taken-going t h k)
+    -- a tree has a node
+    going-empty : p + 2 ≤ length part → sizeIn (getD part p 0) ≡ 0 → MatchAnswers pairs arena part at vars held₀ (record { verdict = Differs; vars = env; live = held })
+    going-empty more z = answered Differs (λ strict g ws b left ns r.
+        let n = here more (getD part p 0) refl r in
+        let q : Rest g (n .t ∷ n .more) (r .rest) = due-as (n .t) (n .more) (n .due) (r .stage .rest) in
+        absurd (omega (arith, z, tree-words more (getD part p 0) refl r, first-even g (r .rest) 1, tree-some (firstTree g (r .rest)) (onward q .tree .typed))))
+
+    module _ (t v start r : ℕ) (et : t ≡ getD pairs i 0) (ev : v ≡ getD pairs (i + 1) 0) (es : start ≡ startAt env v) (told : PairTold arena part t v start p (env .n) held r) where
+      differ : r ≡ 0 → MatchAnswers pairs arena part at vars held₀ (record { verdict = Differs; vars = env; live = held }) → MatchAnswers pairs arena part at vars held₀ (failedBy r env held)
+      differ z a = rw z a
+
+      pub pair-failed : r < 2 → MatchAnswers pairs arena part at vars held₀ (failedBy r env held)
+      pair-failed few = go-on told
+        where
+          new-failed : p + 2 ≤ length part → t ≡ 64 → NewTold (getD part p 0) v (env .n) held r → MatchAnswers pairs arena part at vars held₀ (failedBy r env held)
+          new-failed more e (other h z) = differ z (new-other more (getD part p 0) refl (sym et ∙ e) (at + p) refl (λ q. h (q ∙ sym ev)))
+          new-failed more e (over h k z) = rw z (new-over more (getD part p 0) refl (sym et ∙ e) (at + p) refl (h ∙ ev) k)
+          new-failed more e (past h k m z) = differ z (new-past more (getD part p 0) refl (sym et ∙ e) (at + p) refl (h ∙ ev) k m)
+          new-failed more e (taken h k m z) = differ (omega arith) (going-empty more (omega arith))
+
+          go-on : PairTold arena part t v start p (env .n) held r → MatchAnswers pairs arena part at vars held₀ (failedBy r env held)
+          go-on (short h z) = differ z (going-short h)
+          go-on (new more e n) = new-failed more e n
+          go-on (unlike more e f s z) = differ z (going-other more (getD part p 0) refl (λ q. e (et ∙ q)) (sym et ∙ f) start (es ∙ ap (startAt env) ev) false (drop p part) refl s refl)
+          go-on (like more e f s z) = differ (omega arith) (going-empty more (omega arith))
+          go-on (type more e f h z) = differ z (going-type more (getD part p 0) refl (λ q. e (et ∙ q)) (λ q. f (et ∙ q)) (λ q. h (q ∙ sym et)))
+          go-on (value more e f h k z) = differ z (going-value more (getD part p 0) refl (λ q. e (et ∙ q)) (λ q. f (et ∙ q)) (getD part (p + 1) 0) refl (h ∙ et) (λ q. k (q ∙ sym ev)))
+          go-on (node more e f h k z) = absurd (omega arith)
+
+      pub pair-bound : t ≡ 64 → 2 ≤ r → (env .n < 16) × Going pairs arena part at vars held₀ (bound env (at + p)) (held + r / 2) (i + 2) (p + r)
+      pair-bound is two-words = go-on told
+        where
+          new-on : p + 2 ≤ length part → NewTold (getD part p 0) v (env .n) held r → (env .n < 16) × Going pairs arena part at vars held₀ (bound env (at + p)) (held + r / 2) (i + 2) (p + r)
+          new-on more (other h z) = absurd (omega arith)
+          new-on more (over h k z) = absurd (omega arith)
+          new-on more (past h k m z) = absurd (omega arith)
+          new-on more (taken h k m z) =
+              let half : r / 2 ≡ sizeIn (getD part p 0) = omega arith in
+              (m, rw (half, z) (new-taken more (getD part p 0) refl (sym et ∙ is) (at + p) refl (h ∙ ev) k m))
+
+          go-on : PairTold arena part t v start p (env .n) held r → (env .n < 16) × Going pairs arena part at vars held₀ (bound env (at + p)) (held + r / 2) (i + 2) (p + r)
+          go-on (short h z) = absurd (omega arith)
+          go-on (new more e n) = new-on more n
+          go-on (unlike more e f s z) = absurd (e is)
+          go-on (like more e f s z) = absurd (e is)
+          go-on (type more e f h z) = absurd (e is)
+          go-on (value more e f h k z) = absurd (e is)
+          go-on (node more e f h k z) = absurd (e is)
+
+      pub pair-on : (t ≡ 64 → ⊥) → 2 ≤ r → Going pairs arena part at vars held₀ env held (i + 2) (p + r)
+      pair-on not-new two-words = go-on told
+        where
+          go-on : PairTold arena part t v start p (env .n) held r → Going pairs arena part at vars held₀ env held (i + 2) (p + r)
+          go-on (short h z) = absurd (omega arith)
+          go-on (new more e n) = absurd (not-new e)
+          go-on (unlike more e f s z) = absurd (omega arith)
+          go-on (like more e f s z) = rw z (going-same more (getD part p 0) refl (λ q. e (et ∙ q)) (sym et ∙ f) start (es ∙ ap (startAt env) ev) true (drop p part) refl s refl)
+          go-on (type more e f h z) = absurd (omega arith)
+          go-on (value more e f h k z) = absurd (omega arith)
+          go-on (node more e f h k z) = rw z (going-node more (getD part p 0) refl (λ q. e (et ∙ q)) (λ q. f (et ∙ q)) (getD part (p + 1) 0) refl (h ∙ et) (k ∙ ev))

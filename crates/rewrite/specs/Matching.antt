@@ -1,35 +1,49 @@
 -- What the matcher promises: the meaning's match, over trees that stand marked in work memory. Assumes nothing: these are definitions.
-use Prim.Native.Nat.{ℕ, _+_, _≤_}
+use Prim.Native.Nat.{ℕ, _+_, _*_, _<_, _≤_}
 use mathlib.Core.Path.{_≡_}
-use mathlib.Core.Bool.{Bool}
+use mathlib.Core.Bool.{Bool, true, false}
 use mathlib.Core.List.{List, [], _∷_}
 use mathlib.Core.Option.{Option, none, some}
-use lib.ListN.{length, take, drop}
-use lib.Dec.{ltb, leb, eqb}
+use lib.ListN.{length, getD, take, drop}
+use lib.Dec.{eqb}
 use Rattle.words.specs.Reader.{Words, pick}
 use Rattle.grammar.specs.Grammar.{Grammar}
 use Rattle.grammar.specs.Limits.{mostTypes}
-use Rattle.rules.specs.Limits.{mostVariables}
+use Rattle.rules.specs.Limits.{mostVariables, markNew, markVariable}
 use Rattle.rules.specs.Rules.{Shape, shapes}
 use Rattle.meaning.specs.Limits.{mostLive}
 use Rattle.meaning.specs.Computation.{Result, ok, stop, stuck, Comp}
 use Rattle.meaning.specs.Meaning.{Env, Bindings, total, match, matchFirst}
 use Rattle.tree.proofs.Rest.{Rest}
 use Rattle.rewrite.specs.Marked.{marked, typeIn, sizeIn}
-use Rattle.rewrite.specs.Vars.{EnvAt, startsOf, bound, Sound}
+use Rattle.rewrite.specs.Vars.{EnvAt, startsOf, Sound}
+use Rattle.rewrite.specs.Post.{SameTree}
 use Rattle.rewrite.specs.declared.Vars.{Vars}
 use Rattle.rewrite.specs.declared.Verdict.{Verdict}
 use Rattle.rewrite.specs.declared.Verdict.the-variants.{Matches, Differs, Stops}
 use Rattle.rewrite.specs.declared.Matched.{Matched}
 
--- a new variable of the type set against the node w at `start`: it is bound, unless the type is another, too many nodes would be live, or it is the 17th
-unfoldable pub newMatched : ℕ → ℕ → ℕ → Vars → ℕ → Matched
-newMatched w ty start vars live =
-    pick (eqb (typeIn w) ty)
-    (pick (leb (live + sizeIn w) mostLive)
-    (pick (ltb (vars .n) mostVariables) (record { verdict = Matches; vars = bound vars start; live = live + sizeIn w }) (record { verdict = Differs; vars = vars; live = live }))
-    (record { verdict = Stops 44; vars = vars; live = live }))
-    (record { verdict = Differs; vars = vars; live = live })
+-- what a new variable of the type set against the node w comes to, with n variables bound: how many words it takes up; 0 if the type is another or it is the 17th; 1 if
+-- too many nodes would be live
+pub data NewTold (w ty n live r : ℕ) : Type 0 where
+  other : (typeIn w ≡ ty → ⊥) → r ≡ 0 → NewTold w ty n live r
+  over : typeIn w ≡ ty → mostLive < live + sizeIn w → r ≡ 1 → NewTold w ty n live r
+  past : typeIn w ≡ ty → live + sizeIn w ≤ mostLive → mostVariables ≤ n → r ≡ 0 → NewTold w ty n live r
+  taken : typeIn w ≡ ty → live + sizeIn w ≤ mostLive → n < mostVariables → r ≡ 2 * sizeIn w → NewTold w ty n live r
+
+-- what a pair (t, v) set against the node at p of the part comes to, if the tree of the variable v stands at `start`: likewise, and 0 if it differs
+pub data PairTold (arena part : Words) (t v start p n live r : ℕ) : Type 0 where
+  short : length part < p + 2 → r ≡ 0 → PairTold arena part t v start p n live r
+  new : p + 2 ≤ length part → t ≡ markNew → NewTold (getD part p 0) v n live r → PairTold arena part t v start p n live r
+  unlike : p + 2 ≤ length part → (t ≡ markNew → ⊥) → t ≡ markVariable → SameTree arena start (drop p part) false → r ≡ 0 → PairTold arena part t v start p n live r
+  like : p + 2 ≤ length part → (t ≡ markNew → ⊥) → t ≡ markVariable → SameTree arena start (drop p part) true → r ≡ 2 * sizeIn (getD part p 0) → PairTold arena part t v start p n live r
+  type : p + 2 ≤ length part → (t ≡ markNew → ⊥) → (t ≡ markVariable → ⊥) → (typeIn (getD part p 0) ≡ t → ⊥) → r ≡ 0 → PairTold arena part t v start p n live r
+  value : p + 2 ≤ length part → (t ≡ markNew → ⊥) → (t ≡ markVariable → ⊥) → typeIn (getD part p 0) ≡ t → (getD part (p + 1) 0 ≡ v → ⊥) → r ≡ 0 → PairTold arena part t v start p n live r
+  node : p + 2 ≤ length part → (t ≡ markNew → ⊥) → (t ≡ markVariable → ⊥) → typeIn (getD part p 0) ≡ t → getD part (p + 1) 0 ≡ v → r ≡ 2 → PairTold arena part t v start p n live r
+
+-- what a match comes to at a pair that takes up no words
+abbrev pub failedBy : ℕ → Vars → ℕ → Matched
+failedBy r vars live = pick (eqb r 0) (record { verdict = Differs; vars = vars; live = live }) (record { verdict = Stops 44; vars = vars; live = live })
 
 -- the part, which begins at `at` in the arena, is what is left of a marked tree; the variables' trees stand in the arena; so many nodes are live
 pub record Stage (g : Grammar) (arena part : Words) (at : ℕ) (vars : Vars) (live : ℕ) (ws : Words) (ts : List ℕ) (b : Bindings) : Type 0 where

@@ -90,22 +90,23 @@ pub fn gather(w: &[u32], pairs: &[u32], at: usize, n: u32, vars: Vars) -> Args
     requires { ⌜ (at < 2 ^ 40) × Sound vars ⌝ }
     ensures { λ r. ⌜ Gathered (now (w .entry)) (now (pairs .entry)) at n vars r ⌝ }
 {
-    let mut args = Vars {
-        n: 0,
-        starts: [0u32; 16],
-    };
+    let bound = vars.n;
+    let places = vars.starts;
+    let mut starts = [0u32; 16];
     let mut total: usize = 0;
     let count = words::wide(n);
     let mut i: usize = 0;
     while i < count {
         if MOST_VARIABLES <= i {
+            let args = Vars { n: i, starts };
             return Args { vars: args, total };
         }
-        let start = crate::start_of(vars, words::word(pairs, at + 2 * i + 1));
-        args = crate::bind(args, start as u32);
+        let start = crate::start_in(&places, bound, words::word(pairs, at + 2 * i + 1));
+        starts[i] = start as u32;
         total = total + crate::size_in(words::word(w, start));
         i = i + 1;
     }
+    let args = Vars { n: i, starts };
     Args { vars: args, total }
 }
 

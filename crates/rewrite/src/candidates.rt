@@ -67,36 +67,27 @@ pub fn next_candidate(
     from: usize,
     last: usize,
     live: usize,
-    left: u32,
+    fuel: u32,
 ) -> Candidate
     requires { ⌜ (length (now pairs) ≤ 256) × (live ≤ 6144) × (0 < last → (base + 2 * last ≤ end) × (end ≤ length (now w))) ⌝ }
-    ensures { λ r. ⌜ NextCandidate (now (pairs .entry)) (now (w .entry)) target base end from last live left r ⌝ }
+    ensures { λ r. ⌜ NextCandidate (now (pairs .entry)) (now (w .entry)) target base end from last live fuel r ⌝ }
 {
-    let mut i = from;
-    let mut fuel = left;
-    while i < last {
-        let p = base + 2 * i;
+    let mut node = from;
+    let mut left = fuel;
+    while node < last {
+        let p = base + 2 * node;
         if crate::type_in(w[p]) != target {
-            i = i + 1;
+            node = node + 1;
         } else {
-            if fuel == 0 {
-                return Candidate {
-                    node: i,
-                    left: fuel,
-                };
+            if left == 0 {
+                return Candidate { node, left };
             }
             if !clashes(pairs, &w[p..end], live) {
-                return Candidate {
-                    node: i,
-                    left: fuel,
-                };
+                return Candidate { node, left };
             }
-            fuel = fuel - 1;
-            i = i + 1;
+            left = left - 1;
+            node = node + 1;
         }
     }
-    Candidate {
-        node: i,
-        left: fuel,
-    }
+    Candidate { node, left }
 }

@@ -14,7 +14,7 @@ ghost use lib.ListN.{length};
 ghost use Rattle.rewrite.specs.Marked.{mark, typeIn, sizeIn, nestingIn};
 ghost use Rattle.rewrite.specs.Post.{MarkMade, TreeMarked, InPlace, NestingOf, Written, SameTree};
 ghost use Rattle.rewrite.specs.Vars.{bound, startAt, Sound};
-ghost use Rattle.rewrite.specs.Matching.{newMatched, MatchAnswers, FirstAnswers};
+ghost use Rattle.rewrite.specs.Matching.{NewTold, PairTold, failedBy, MatchAnswers, FirstAnswers};
 ghost use Rattle.rewrite.specs.declared.Verdict as Verdict;
 
 pub mod arena;
@@ -250,44 +250,93 @@ fn place(x: u32) -> usize
     x as usize
 }
 
-// Where the variable's tree stands; 2^32 - 1, where none can stand, if it is not bound.
-pub fn start_of(vars: Vars, x: u32) -> usize
-    ensures { λ r. ⌜ (r ≡ startAt vars x) × (r < 2 ^ 32) ⌝ }
+// Where the variable's tree stands, of n that are bound; 2^32 - 1, where none can stand, if it is not bound.
+pub fn start_in(starts: &[u32; 16], n: usize, x: u32) -> usize
+    ensures { λ r. ⌜ (r ≡ startAt (record { n = n; starts = now (starts .entry) }) x) × (r < 2 ^ 32) ⌝ }
 {
     let i = words::wide(x);
-    if i < vars.n {
+    if i < n {
         if i < 16 {
-            return place(vars.starts[i]);
+            return place(starts[i]);
         }
     }
     4294967295
 }
 
-// A new variable of the type set against the node w that stands at `start`.
-fn match_new(w: u32, ty: u32, start: usize, vars: Vars, live: usize) -> Matched
-    requires { ⌜ (start < 2 ^ 32) × (live ≤ 6144) ⌝ }
-    ensures { λ r. ⌜ r ≡ newMatched w ty start vars live ⌝ }
+// Where the variable's tree stands.
+pub fn start_of(vars: Vars, x: u32) -> usize
+    ensures { λ r. ⌜ (r ≡ startAt vars x) × (r < 2 ^ 32) ⌝ }
+{
+    let starts = vars.starts;
+    start_in(&starts, vars.n, x)
+}
+
+// How many words a new variable of the type takes up at the node w; 0 if it cannot be bound, 1 if too many nodes would be live.
+fn new_words(w: u32, ty: u32, n: usize, live: usize) -> usize
+    requires { ⌜ live ≤ 6144 ⌝ }
+    ensures { λ r. ⌜ NewTold w ty n live r × (r < 8192) ⌝ }
 {
     if type_in(w) != ty {
-        return differs(vars, live);
+        return 0;
     }
-    let total = live + size_in(w);
-    if MOST_LIVE < total {
-        return Matched {
-            verdict: Verdict::Stops(44),
-            vars,
-            live,
-        };
+    let size = size_in(w);
+    if MOST_LIVE < live + size {
+        return 1;
     }
-    let n = vars.n;
     if MOST_VARIABLES <= n {
+        return 0;
+    }
+    2 * size
+}
+
+// How many words the pair (t, v) takes up at p of the part, with n variables bound, if the tree of the variable v stands at `start`; 0 if it differs, 1 if too many
+// nodes would be live.
+fn pair_words(
+    t: u32,
+    v: u32,
+    arena: &[u32],
+    start: usize,
+    part: &[u32],
+    p: usize,
+    n: usize,
+    live: usize,
+) -> usize
+    requires { ⌜ (start < 2 ^ 32) × (p < 2 ^ 32) × (live ≤ 6144) ⌝ }
+    ensures { λ r. ⌜ PairTold (now (arena .entry)) (now (part .entry)) t v start p n live r × (r < 8192) ⌝ }
+{
+    if part.len() < p + 2 {
+        return 0;
+    }
+    let w = part[p];
+    if t == MARK_NEW {
+        return new_words(w, v, n, live);
+    }
+    if t == MARK_VARIABLE {
+        if same_tree(arena, start, &part[p..]) {
+            return 2 * size_in(w);
+        }
+        return 0;
+    }
+    if type_in(w) != t {
+        return 0;
+    }
+    if part[p + 1] != v {
+        return 0;
+    }
+    2
+}
+
+// What a pair that takes up no words comes to.
+fn failed(passed: usize, vars: Vars, live: usize) -> Matched
+    ensures { λ r. ⌜ r ≡ failedBy passed vars live ⌝ }
+{
+    if passed == 0 {
         return differs(vars, live);
     }
-    let bound = bind(vars, start as u32);
     Matched {
-        verdict: Verdict::Matches,
-        vars: bound,
-        live: total,
+        verdict: Verdict::Stops(44),
+        vars,
+        live,
     }
 }
 
@@ -303,56 +352,36 @@ pub fn match_pattern(
     requires { ⌜ (length (now pairs) ≤ 256) × (at < 2 ^ 20) × Sound vars × (live ≤ 6144) ⌝ }
     ensures { λ r. ⌜ MatchAnswers (now (pairs .entry)) (now (arena .entry)) (now (part .entry)) at vars live r ⌝ }
 {
-    let mut env = vars;
+    let mut starts = vars.starts;
+    let mut n = vars.n;
     let mut total = live;
     let mut i: usize = 0;
     let mut p: usize = 0;
     while 2 <= pairs.len() - i {
-        if part.len() < p + 2 {
-            return differs(env, total);
-        }
         let t = pairs[i];
         let v = pairs[i + 1];
-        let w = part[p];
+        let start = start_in(&starts, n, v);
+        let passed = pair_words(t, v, arena, start, part, p, n, total);
+        if passed < 2 {
+            let env = Vars { n, starts };
+            return failed(passed, env, total);
+        }
         if t == MARK_NEW {
-            let m = match_new(w, v, at + p, env, total);
-            let verdict = m.verdict;
-            match verdict {
-                Verdict::Differs => {
-                    return m;
-                }
-                Verdict::Stops(_) => {
-                    return m;
-                }
-                Verdict::Matches => {
-                    let bound = m.vars;
-                    env = bound;
-                    total = m.live;
-                    p = p + 2 * size_in(w);
-                    i = i + 2;
-                }
-            }
-        } else if t == MARK_VARIABLE {
-            let start = start_of(env, v);
-            if !same_tree(arena, start, &part[p..]) {
-                return differs(env, total);
-            }
-            p = p + 2 * size_in(w);
+            starts[n] = (at + p) as u32;
+            n = n + 1;
+            total = total + passed / 2;
+            p = p + passed;
             i = i + 2;
         } else {
-            if type_in(w) != t {
-                return differs(env, total);
-            }
-            if part[p + 1] != v {
-                return differs(env, total);
-            }
-            p = p + 2;
+            p = p + passed;
             i = i + 2;
         }
     }
+    let verdict = Verdict::Matches;
+    let vars = Vars { n, starts };
     Matched {
-        verdict: Verdict::Matches,
-        vars: env,
+        verdict,
+        vars,
         live: total,
     }
 }

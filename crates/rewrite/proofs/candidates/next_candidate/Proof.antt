@@ -13,10 +13,10 @@ use Rattle.rewrite.proofs.candidates.clashes.Reads as clashes-reads
 use Rattle.rewrite.proofs.type_in.Reads as type-in-reads
 
 abbrev Inv-loop : tie.InvT-loop
-Inv-loop pairs w target base end from last live left i₀ fuel₀ i fuel = Passing pairs w target base end from last live left i fuel
+Inv-loop pairs w target base end from last live fuel node₀ left₀ node left = Passing pairs w target base end from last live fuel node left
 
 abbrev μ-loop : tie.MeasureT-loop
-μ-loop pairs w target base end from last live left i₀ fuel₀ i fuel = last - i
+μ-loop pairs w target base end from last live fuel node₀ left₀ node left = last - node
 
 -- src/candidates.rt:77:5
 loop-holds : tie.Need-loop-holds Inv-loop μ-loop
@@ -43,8 +43,8 @@ type-in-requires : tie.Need-type-in-requires Inv-loop μ-loop
 type-in-requires c κs = search needs
 
 -- src/candidates.rt:80:17
-add-i : tie.Need-add-i Inv-loop μ-loop
-add-i c = omega (arith, c .before .before .before .loop-test .taken)
+add-node : tie.Need-add-node Inv-loop μ-loop
+add-node c = omega (arith, c .before .before .before .loop-test .taken)
 
 -- src/candidates.rt:77:5
 loop-less : tie.Need-loop-less Inv-loop μ-loop
@@ -83,12 +83,12 @@ returns-2 : tie.Need-returns-2 Inv-loop μ-loop
 returns-2 c = passing-done _ _ _ _ _ _ _ _ _ _ _ (c .before .before .before .before .before .before .before .before .loop .inv)
 
 -- src/candidates.rt:94:20
-sub-fuel : tie.Need-sub-fuel Inv-loop μ-loop
-sub-fuel c = omega (arith, c .before .before .before .if2 .left)
+sub-left : tie.Need-sub-left Inv-loop μ-loop
+sub-left c = omega (arith, c .before .before .before .if2 .left)
 
 -- src/candidates.rt:95:17
-add-i-2 : tie.Need-add-i-2 Inv-loop μ-loop
-add-i-2 c = omega (arith, c .before .before .before .before .before .before .before .loop-test .taken)
+add-node-2 : tie.Need-add-node-2 Inv-loop μ-loop
+add-node-2 c = omega (arith, c .before .before .before .before .before .before .before .loop-test .taken)
 
 -- src/candidates.rt:77:5
 loop-less-2 : tie.Need-loop-less-2 Inv-loop μ-loop
@@ -114,7 +114,7 @@ next-candidate-spec =
     mul-type-in
     shared-slice-read-type-in
     type-in-requires
-    add-i
+    add-node
     loop-less
     loop-again
     returns
@@ -124,8 +124,8 @@ next-candidate-spec =
     part-clashes-end
     clashes-requires
     returns-2
-    sub-fuel
-    add-i-2
+    sub-left
+    add-node-2
     loop-less-2
     loop-again-2
     returns-3)
