@@ -34,7 +34,8 @@ use Rattle.rewrite.proofs.Matcher.{starts-length, start-is}
 use Rattle.rewrite.specs.Arena.{Standing, Gathered}
 use Rattle.calls.specs.Engine.{Sure}
 use Rattle.rewrite.specs.declared.arena.Args.{Args}
-use Rattle.calls.proofs.Frames.{tree-length, some-nodes, env-whole}
+use Rattle.rewrite.proofs.Leaves.{variables-more, variables-none, variable-stands, arguments-more, arguments-none}
+use Rattle.calls.proofs.Frames.{tree-length, some-nodes, stands-whole}
 use Rattle.calls.proofs.Going.{then-ok, sure-first, sure-as, check-sure, surely-sure, present-sure, variable-sure}
 
 -- ARGUMENTS
@@ -148,17 +149,6 @@ compare-arguments truncate a bs l b h s = absurd (s refl)
 compare-arguments equal a bs l b h s = one-sure bs _ l b h s
 compare-arguments greater a bs l b h s = one-sure bs _ l b h s
 
--- one at most
-arguments-few : (o : Operation) (b : ℕ) → length (argumentsOf o b) ≤ 1
-arguments-few add b = omega arith
-arguments-few subtract b = omega arith
-arguments-few quotient b = omega arith
-arguments-few remainder b = omega arith
-arguments-few round b = omega arith
-arguments-few truncate b = omega arith
-arguments-few equal b = omega arith
-arguments-few greater b = omega arith
-
 -- ITS RESULT IS IN RANGE
 
 abbrev Small : Result ℕ → Type 0
@@ -246,17 +236,17 @@ value-there {g} w s ws x =
     let long : 1 < length ws = omega (arith, some-nodes ws (x .tree), tree-length (x .tree)) in
     sym (getD-drop s w 1 0) ∙ sym (getD-take (length ws) (drop s w) 1 0 long) ∙ ap (λ l. getD l 1 0) (x .words) ∙ marked-value g ws
 
-first-argument : (g : Grammar) (w : Words) (ss : List ℕ) (args : Env) (b : ℕ) → EnvAt g w ss args → (0 < length ss → b ≡ getD w (getD ss 0 0 + 1) 0) → getD (valuesOf args) 0 b ≡ b
+-- the value of the first argument, if there is one, is read where the tree of the variable that it names stands
+first-value : (g : Grammar) (w pairs : Words) (at k top : ℕ) (vars : Vars) (env args : Env) (l b : ℕ) → Sound vars → EnvAt g (take top w) (startsOf vars) env → variables env (arguments k (drop at pairs)) l ≡ ok args l
+    → b ≡ getD w (startAt vars (getD pairs (at + 1) 0) + 1) 0 → getD (valuesOf args) 0 b ≡ b
 unfolding valuesOf
-first-argument g w [] [] b e h = refl
-first-argument g w [] (t ∷ ts) b e h = absurd e
-first-argument g w (s ∷ ss) [] b e h = absurd e
-first-argument g w (s ∷ ss) (t ∷ ts) b e h = sym (value-there w s t (e .0)) ∙ sym (h (omega arith))
-
--- the first argument's value, if there is an argument
-first-value : (g : Grammar) (w : Words) (v : Vars) (args : Env) (b : ℕ) → Sound v → EnvAt g w (startsOf v) args → b ≡ getD w (startAt v 0 + 1) 0 → getD (valuesOf args) 0 b ≡ b
-first-value g w v args b s e h =
-    first-argument g w (startsOf v) args b e (λ p. h ∙ ap (λ k. getD w (k + 1) 0) (start-is v 0 s (omega (arith, p, starts-length v s))))
+first-value g w pairs at zero top vars env args l b s e read eb =
+    let none-given = variables-none env l args (ap (λ xs. variables env xs l) (sym (arguments-none 0 (drop at pairs) (omega arith))) ∙ read) in
+    rw none-given
+first-value g w pairs at (suc k) top vars env args l b s e read eb =
+    let t = variables-more env (getD (drop at pairs) 1 0) _ l args (ap (λ xs. variables env xs l) (sym (arguments-more (suc k) (drop at pairs) (omega arith))) ∙ read) in
+    let here = stands-whole w top (variable-stands g (take top w) vars env (getD (drop at pairs) 1 0) (t .0) s e (t .2)) in
+    rw (t .4) (sym (value-there w (startAt vars (getD (drop at pairs) 1 0)) (t .0) here) ∙ ap (λ x. getD w (startAt vars x + 1) 0) (getD-drop at pairs 1 0) ∙ sym eb)
 
 -- a number token's mark does not depend on its value
 number-written : (g : Grammar) (w : Words) (base n t x u v : ℕ) → isNumber g x ≡ true → v ≤ greatestNumber → Standing g w base n t (x ∷ u ∷ []) → Standing g (set w (base + 1) v) base n t (x ∷ v ∷ [])
@@ -273,21 +263,12 @@ value-written g w base n t v scope k h s =
     let s′ : Standing g w base n t (k .type ∷ k .number ∷ []) = subst (Standing g w base n t) (k .is) s in
     rw (k .is) (number-written g w base n t (k .type) (k .number) v (k .kind) h s′)
 
--- THE ARGUMENTS AS THEY ARE GATHERED
+-- THE ARGUMENT OF AN OPERATION
 
-head-same : (bs : List ℕ) → getD bs 0 (getD bs 0 0) ≡ getD bs 0 0
-head-same [] = refl
-head-same (b ∷ bs) = refl
-
--- b, read where the first gathered tree stands, is the argument of an operation that is not stuck
-pub gathered-values : (g : Grammar) (w pairs : Words) (at k top : ℕ) (vars : Vars) (r : Args) (o : Operation) (env args : Env) (l b : ℕ) → Gathered w pairs at k vars r → length g ≤ mostTypes
-    → EnvAt g (take top w) (startsOf vars) env → variables env (arguments k (drop at pairs)) l ≡ ok args l → length args ≡ k → b ≡ getD w (startAt (r .vars) 0 + 1) 0
-    → ((c : ℕ) → getD (valuesOf args) 0 c ≡ c → valuesOf args ≡ argumentsOf o c) → valuesOf args ≡ argumentsOf o b
-gathered-values g w pairs at k top vars r o env args l b ga types env-at read many eb f =
-    let first = getD (valuesOf args) 0 0 in
-    let few = ap length (f first (head-same (valuesOf args))) in
-    let held = ga .stands g top env args l types env-at (omega (arith, few, arguments-few o first, values-length args, many)) read in
-    f b (first-value g w (r .vars) args b (ga .sound) (env-whole g w top (startsOf (r .vars)) args (held .0)) eb)
+-- b, read where that tree stands, is the argument of an operation that is not stuck
+pub operand-values : (g : Grammar) (w pairs : Words) (at k top : ℕ) (vars : Vars) (o : Operation) (env args : Env) (l b : ℕ) → Sound vars → EnvAt g (take top w) (startsOf vars) env
+    → variables env (arguments k (drop at pairs)) l ≡ ok args l → b ≡ getD w (startAt vars (getD pairs (at + 1) 0) + 1) 0 → ((c : ℕ) → getD (valuesOf args) 0 c ≡ c → valuesOf args ≡ argumentsOf o c) → valuesOf args ≡ argumentsOf o b
+operand-values g w pairs at k top vars o env args l b s e read eb f = f b (first-value g w pairs at k top vars env args l b s e read eb)
 
 -- AN APPLICATION'S STEPS
 

@@ -20,7 +20,7 @@ use Rattle.meaning.specs.Computation.{Result, ok, stop, stuck, Comp, thenOf, ch
 use Rattle.meaning.specs.Operations.{compute}
 use Rattle.meaning.specs.Meaning as M
 use Rattle.meaning.specs.Meaning.{Env, total, variables, valueOf, valuesOf, withValue, isNumberToken, areNumberTokens, done, cannotGoOn, resultAs, resultOf, opened, begin, calls}
-use Rattle.rewrite.specs.Vars.{EnvAt, startsOf, startAt}
+use Rattle.rewrite.specs.Vars.{EnvAt, startsOf, startAt, Sound}
 use Rattle.rewrite.specs.Operating.{argumentsOf}
 use Rattle.rewrite.specs.declared.Vars.{Vars}
 use Rattle.rewrite.specs.Arena.{Standing, Gathered, ComputedAs, Computed}
@@ -30,7 +30,7 @@ use Rattle.calls.specs.declared.Built.{Built}
 use Rattle.calls.specs.declared.Called.{Called}
 use Rattle.calls.proofs.Frames.{env-kept, standing-stands}
 use Rattle.calls.proofs.Going.{then-ok, then-stop, sure-first, sure-as, says-ok, says-stop, stop-says, says-map, then-then}
-use Rattle.calls.proofs.Applied.{RuleGiven, rule-given, operation-given, arguments-length, rule-few, begin-sure, compute-arguments, compute-range, NumberToken, number-token, value-there, value-written, gathered-values}
+use Rattle.calls.proofs.Applied.{RuleGiven, rule-given, operation-given, arguments-length, rule-few, begin-sure, compute-arguments, compute-range, NumberToken, number-token, value-there, value-written, operand-values}
 use Rattle.calls.proofs.Chains.{nextAt, applications-step, pairs-step}
 
 -- A CALL
@@ -155,9 +155,9 @@ module _ (heads rows : Words) (types : ℕ) (book starts w pairs : Words) (at ba
       })
 
     module _ (h : 1000 ≤ a) where
-      pub apply-computed : (args : Args) → Gathered w pairs (at + 2) k vars args → (b : ℕ) → b ≡ getD w (startAt (args .vars) 0 + 1) 0 → (w′ : Words) (j : ℕ) → Computed w w′ base a b j
+      pub apply-computed : Sound vars → (b : ℕ) → b ≡ getD w (startAt vars (getD pairs (at + 3) 0) + 1) 0 → (w′ : Words) (j : ℕ) → Computed w w′ base a b j
           → (r : Built) → r ≡ record { stop = j; nodes = n; left = left } → Done w′ r
-      apply-computed args ga b eb w′ j cp r e = rw e (record {
+      apply-computed sound b eb w′ j cp r e = rw e (record {
         few = few;
         fits = fits;
         less = le-refl left;
@@ -167,9 +167,8 @@ module _ (heads rows : Words) (types : ℕ) (book starts w pairs : Words) (at ba
             (λ args. and (isNumberToken g scope) (areNumberTokens g args)) (computes g rules (calls true g rules deep) scope besides) (omega arith)
             (λ args. apply-nothing g rules (calls true g rules deep) scope besides args left) (λ o args. apply-operation g rules (calls true g rules deep) scope besides o args left) s in
             let cs = sure-first (compute (q .o) (valueOf scope) (valuesOf (q .args)) left) (λ v. return (withValue scope v)) (sure-as (q .same) s) in
-            let many : length (q .args) ≡ k = omega (arith, q .many, arguments-length (getD pairs (at + 1) 0) (drop (at + 2) pairs)) in
-            let values = gathered-values g w pairs (at + 2) k base vars args (q .o) env (q .args) left b ga (st .tables .heads-of .types) env-at
-            (subst (λ i. variables env (arguments i (drop (at + 2) pairs)) left ≡ ok (q .args) left) (sym ek) (q .read)) many eb
+            let y : at + 2 + 1 ≡ at + 3 = omega arith in
+            let values = operand-values g w pairs (at + 2) (getD pairs (at + 1) 0) base vars (q .o) env (q .args) left b sound env-at (q .read) (eb ∙ ap (λ i. getD w (startAt vars (getD pairs i 0) + 1) 0) (sym y))
             (λ c h. compute-arguments (q .o) (valueOf scope) (valuesOf (q .args)) left c h cs) in
             let here = value-there w base scope (standing-stands w (tree .1)) in
             let same : compute (q .o) (valueOf scope) (valuesOf (q .args)) left ≡ compute (q .o) (getD w (base + 1) 0) (argumentsOf (q .o) b) left = rw (here, values) in

@@ -33,7 +33,8 @@ use Rattle.calls.specs.Engine.{Room, Held, Setting, Sure, Says, Tree, ch
 use Rattle.rewrite.specs.declared.arena.Frame.{Frame}
 use Rattle.calls.specs.declared.Built.{Built}
 use Rattle.calls.specs.declared.Chained.{Chained}
-use Rattle.calls.proofs.Frames.{take-less, stretch-kept, tree-length, stands-whole, env-up, env-kept, variable-stands, held-kept}
+use Rattle.calls.proofs.Frames.{take-less, stretch-kept, tree-length, stands-whole, env-up, env-kept, held-kept}
+use Rattle.rewrite.proofs.Leaves.{variable-stands}
 use Rattle.calls.proofs.Going.{then-ok, then-stop, sure-first, sure-as, variable-sure, live-fits, live-over, nodes-fit, says-ok, says-stop, stop-says, then-nested}
 
 -- WORDS PUSHED

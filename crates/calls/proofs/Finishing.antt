@@ -1,6 +1,6 @@
 -- A replacement that is finished, and one that becomes a variable. Assumes nothing.
 use Prim.Native.Nat.{ℕ, _+_, _*_, _<_, _≤_}
-use mathlib.Core.Path.{_≡_, refl, sym, _∙_, subst}
+use mathlib.Core.Path.{_≡_, refl, sym, _∙_, subst, ap}
 use mathlib.Core.List.{[], _∷_, _++_}
 use mathlib.Core.Bool.{Bool, true, false}
 use mathlib.Core.Option.{Option, some}
@@ -24,10 +24,10 @@ use Rattle.rewrite.specs.Vars.{startsOf, bound, Sound}
 use Rattle.rewrite.specs.Matching.{bindings}
 use Rattle.rewrite.specs.declared.Vars.{Vars}
 use Rattle.rewrite.specs.declared.Verdict.the-variants.{Matches, Stops}
-use Rattle.rewrite.proofs.Matcher.{env-length, env-more, starts-length, starts-more, total-more}
+use Rattle.rewrite.proofs.Matcher.{env-length, env-more, starts-length, starts-more, sound-more, total-more}
 use Rattle.rewrite.specs.Arena.{Closed, Standing}
 use Rattle.rules.specs.Views.{pairsAt}
-use Rattle.calls.specs.Engine.{Room, Held, MoreFrame, Setting, Sure, Says, TakenAs, Constructs, Fills, Finishes, partOn}
+use Rattle.calls.specs.Engine.{Room, Grown, Held, Named, Setting, Sure, Says, TakenAs, Constructs, Fills, Finishes, partOn}
 use Rattle.rewrite.specs.declared.arena.Frame.{Frame}
 use Rattle.calls.specs.declared.Built.{Built}
 use Rattle.calls.specs.declared.Taken.{Taken}
@@ -112,21 +112,16 @@ module _ (heads rows : Words) (types : ℕ) (book starts w w′ : Words) (at : �
 -- A NEW VARIABLE
 
 -- what is open stays so
-module _ (frame : Frame) (n : ℕ) (sound : Sound (frame .vars)) (few : frame .live + n ≤ mostLive) (low : frame .top ≤ 2 * frame .live) where
-  pub more-none : 16 ≤ frame .vars .n → MoreFrame frame n frame
-  more-none h = record { grown = record { sound = sound; few = omega arith; low = low; more = omega arith; higher = omega arith }; bound = λ k. absurd (omega arith) }
+module _ (frame : Frame) (n : ℕ) (few : frame .live + n ≤ mostLive) (low : frame .top ≤ 2 * frame .live) where
+  more-open : (vars : Vars) → Named frame vars → Grown frame (record { vars = vars; live = frame .live + n; top = frame .top + 2 * n })
+  more-open vars v = record { sound = v .sound; few = few; low = omega arith; more = omega arith; higher = omega arith }
 
-  pub more-bound : frame .vars .n < 16 → (vars : Vars) → vars ≡ bound (frame .vars) (frame .top) → MoreFrame frame n (record { vars = vars; live = frame .live + n; top = frame .top + 2 * n })
-  more-bound h vars e = rw e (record {
-    grown = record {
-      sound = record { room = length-set (frame .vars .starts) (frame .vars .n) (frame .top) ∙ sound .room; few = omega arith };
-      few = few;
-      low = omega arith;
-      more = omega arith;
-      higher = omega arith;
-    };
-    bound = λ k. refl;
-  })
+-- no room for one more
+pub named-none : (frame : Frame) → Sound (frame .vars) → 16 ≤ frame .vars .n → Named frame (frame .vars)
+named-none frame s h = record { sound = s; is = λ k. absurd (omega arith) }
+
+pub named-bound : (frame : Frame) → Sound (frame .vars) → frame .vars .n < 16 → (vars : Vars) → vars ≡ bound (frame .vars) (frame .top) → Named frame vars
+named-bound frame s h vars e = record { sound = rw e (sound-more (frame .vars) (frame .top) s h); is = λ k. e }
 
 -- the tree on top as a variable
 held-more : {g : Grammar} {w w′ : Words} {frame : Frame} {b : Bindings} {u n : ℕ} {t : Words} → Sound (frame .vars) → frame .vars .n < 16 → Held g w frame b → take (frame .top) w′ ≡ take (frame .top) w
@@ -182,7 +177,7 @@ module _ (heads rows : Words) (types : ℕ) (book starts w w′ : Words) (at nex
     };
   })
 
-  module _ (h : f .stop ≡ 0) (more : Frame) (m : MoreFrame frame (f .nodes) more) where
+  module _ (h : f .stop ≡ 0) (vars : Vars) (v : Named frame vars) (more : Frame) (em : more ≡ record { vars = vars; live = frame .live + f .nodes; top = frame .top + 2 * f .nodes }) where
     matched : (u : ℕ) (g : Grammar) (rules : Rules.Rules) (b : Bindings) → Setting heads rows types book starts g rules → Held g w frame b → Sure (builtBy u g rules b)
         → (take (frame .top) w′ ≡ take (frame .top) w) × TakenAs g w′ (b .besides) Matches more (f .left) (builtBy u g rules b)
     matched u g rules b st hd sure =
@@ -192,7 +187,7 @@ module _ (heads rows : Words) (types : ℕ) (book starts w w′ : Words) (at nex
         let run = part-as u g rules b ∙ then-ok _ (binding u g b) t (f .left) (k .2) in
         let c = bind-sure u g b t (f .left) (sure-as run sure) in
         let low : frame .vars .n < 16 = omega (arith, c .0, env-length g (take (frame .top) w) (startsOf (frame .vars)) (b .env) (hd .stands), starts-length (frame .vars) (room .sound)) in
-        (q .0, (b .env ++ t ∷ [], subst (λ x. Held g w′ x (bindings (b .env ++ t ∷ []) (b .besides))) (sym (m .bound low)) (held-more (room .sound) low hd (q .0) (k .1)), run ∙ c .1))
+        (q .0, (b .env ++ t ∷ [], subst (λ x. Held g w′ x (bindings (b .env ++ t ∷ []) (b .besides))) (sym (em ∙ ap (λ x. record { vars = x; live = frame .live + f .nodes; top = frame .top + 2 * f .nodes }) (v .is low))) (held-more (room .sound) low hd (q .0) (k .1)), run ∙ c .1))
 
     pub constructs-bound : (r : Taken) → r ≡ record { verdict = Matches; frame = more; left = f .left; next = next } → Constructs heads rows types book starts w w′ at next frame deep left r
-    constructs-bound r e = rw e (record { next-is = refl; takes = λ u. record { grown = m .grown; less = finishes u .less; long = finishes u .long; meant = matched u } })
+    constructs-bound r e = rw e (record { next-is = refl; takes = λ u. record { grown = rw em (more-open frame (f .nodes) (finishes u .fits h) (room .low) vars v); less = finishes u .less; long = finishes u .long; meant = matched u } })

@@ -123,17 +123,6 @@ get-bound [] x t e = let z : _≡_ {A = ℕ} 0 1 = cc in absurd (omega arith)
 get-bound (w ∷ env) zero t e = omega arith
 get-bound (w ∷ env) (suc x) t e = let i = get-bound env x t e in omega arith
 
--- a bound variable's tree stands at its start
-pub variable-stands : (g : Grammar) (arena : Words) (vars : Vars) (env : Env) (x : ℕ) (t : Words) → Sound vars → EnvAt g arena (startsOf vars) env → getElem? env x ≡ some t → Stands g arena (startAt vars x) t
-variable-stands g arena vars env x t s e h =
-    let l = env-length g arena (startsOf vars) env e in
-    let k = starts-length vars s in
-    let i = get-bound env x t h in
-    let q = env-get g arena (startsOf vars) env x e (omega arith) in
-    let same : q .0 ≡ t = cc in
-    let at : startAt vars x ≡ getD (startsOf vars) x 0 = start-is vars x s (omega arith) in
-    rw (at, ← same) (q .2)
-
 -- FRAMES
 
 pub grown-same : {w : Words} {frame : Frame} → Room w frame → Grown frame frame

@@ -39,7 +39,8 @@ use Rattle.rewrite.specs.declared.Matched.{Matched}
 use Rattle.rewrite.specs.declared.arena.Frame.{Frame}
 use Rattle.calls.specs.Engine.{Room, Held, Setting, Sure, TakenAs, Takes, partOn, partRead, deconstructIn, Deconstructs, Constructs, Conditions, Steps}
 use Rattle.calls.specs.declared.Taken.{Taken}
-use Rattle.calls.proofs.Frames.{tree-length, some-nodes, variable-stands, grown-same, grown-matched}
+use Rattle.calls.proofs.Frames.{tree-length, some-nodes, grown-same, grown-matched}
+use Rattle.rewrite.proofs.Leaves.{variable-stands}
 use Rattle.calls.proofs.Going.{sure-as, variable-sure}
 
 -- a verdict of the matcher, on what stands below the top

@@ -18,7 +18,7 @@ use Rattle.meaning.specs.Computation.{Result, ok, stop, stuck, Comp, thenOf, ch
 use Rattle.meaning.specs.Operations.{compare}
 use Rattle.meaning.specs.Meaning as M
 use Rattle.meaning.specs.Meaning.{Env, Bindings, live, total, start, begin, liveWithin, variables, valueOf, valuesOf, isNumberToken, areNumberTokens, calls}
-use Rattle.rewrite.specs.Vars.{Stands, startsOf, startAt}
+use Rattle.rewrite.specs.Vars.{Stands, startsOf, startAt, Sound}
 use Rattle.rewrite.specs.Matching.{bindings}
 use Rattle.rewrite.specs.Operating.{argumentsOf, Compared}
 use Rattle.rewrite.specs.declared.Verdict.{Verdict}
@@ -34,9 +34,10 @@ use Rattle.calls.specs.declared.Found.the-variants.{At, Nowhere, Stopped
 use Rattle.calls.specs.declared.Sought.{Sought}
 use Rattle.calls.specs.declared.Taken.{Taken}
 use Rattle.calls.specs.declared.Tested.{Tested}
-use Rattle.calls.proofs.Frames.{env-kept, standing-stands, standing-whole, stands-standing, variable-stands}
+use Rattle.calls.proofs.Frames.{env-kept, standing-stands, standing-whole, stands-standing}
+use Rattle.rewrite.proofs.Leaves.{variable-stands}
 use Rattle.calls.proofs.Going.{sure-first, sure-as, variable-sure, live-fits, live-over, then-then}
-use Rattle.calls.proofs.Applied.{begin-sure, RuleGiven, rule-given, operation-given, arguments-length, rule-few, compare-arguments, value-there, gathered-values}
+use Rattle.calls.proofs.Applied.{begin-sure, RuleGiven, rule-given, operation-given, arguments-length, rule-few, compare-arguments, value-there, operand-values}
 use Rattle.calls.proofs.Chains.{condition-read, nextAt, applications-step}
 
 -- A CALL IN A CONDITION
@@ -197,9 +198,9 @@ module _ (heads rows : Words) (types : ℕ) (book starts w pairs : Words) (at ba
       }
 
     module _ (h : 1000 ≤ a) where
-      pub succeeds-holds : (args : Args) → Gathered w pairs (at + 2) k (frame .vars) args → (b x : ℕ) → b ≡ getD w (startAt (args .vars) 0 + 1) 0 → x ≡ getD w (base + 1) 0 → (t : Bool) → Compared a x b t
+      pub succeeds-holds : Sound (frame .vars) → (b x : ℕ) → b ≡ getD w (startAt (frame .vars) (getD pairs (at + 3) 0) + 1) 0 → x ≡ getD w (base + 1) 0 → (t : Bool) → Compared a x b t
           → (v : Verdict) → testVerdict t ≡ v → Succeeding w (record { verdict = v; left = left })
-      succeeds-holds args ga y x ey ex t cp v ev = record {
+      succeeds-holds sound y x ey ex t cp v ev = record {
         less = le-refl left;
         long = refl;
         meant = λ g rules scope b st held tree s.
@@ -207,9 +208,8 @@ module _ (heads rows : Words) (types : ℕ) (book starts w pairs : Words) (at ba
             (λ args. and (isNumberToken g scope) (areNumberTokens g args)) (λ o args. compare o (valueOf scope) (valuesOf args)) (omega arith)
             (λ args. succeeds-nothing g rules (calls true g rules deep) scope (live b) args left) (λ o args. succeeds-operation g rules (calls true g rules deep) scope (live b) o args left) s in
             let cs = sure-as (q .same) s in
-            let many : length (q .args) ≡ k = omega (arith, q .many, arguments-length (getD pairs (at + 1) 0) (drop (at + 2) pairs)) in
-            let values = gathered-values g w pairs (at + 2) k (frame .top) (frame .vars) args (q .o) (b .env) (q .args) left y ga (st .tables .heads-of .types) (held .stands)
-            (subst (λ j. variables (b .env) (arguments j (drop (at + 2) pairs)) left ≡ ok (q .args) left) (sym ek) (q .read)) many ey
+            let z : at + 2 + 1 ≡ at + 3 = omega arith in
+            let values = operand-values g w pairs (at + 2) (getD pairs (at + 1) 0) (frame .top) (frame .vars) (q .o) (b .env) (q .args) left y sound (held .stands) (q .read) (ey ∙ ap (λ j. getD w (startAt (frame .vars) (getD pairs j 0) + 1) 0) (sym z))
             (λ c h. compare-arguments (q .o) (valueOf scope) (valuesOf (q .args)) left c h cs) in
             let here : x ≡ valueOf scope = ex ∙ value-there w base scope (standing-stands w (standing-whole w (frame .top) (tree .1))) in
             let same : compare (q .o) (valueOf scope) (valuesOf (q .args)) left ≡ compare (q .o) x (argumentsOf (q .o) y) left = rw (here, values) in

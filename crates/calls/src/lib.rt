@@ -25,7 +25,7 @@ ghost use mathlib.Core.Path.{_≡_};
 ghost use Prim.Native.Nat.{ℕ, _+_, _*_, _<_, _≤_, _^_};
 ghost use lib.ListN.{length, getD};
 ghost use Rattle.rewrite.specs.Vars.{Sound};
-ghost use Rattle.calls.specs.Engine.{triedOf, againOf, countOf, turnedBy, Room, MoreFrame, Deconstructs, Constructs, Conditions, Steps, Seeks, CallMatches, Succeeds, AnySucceeds, Applies, Chains, FillsChain, Fills, Finishes, Replaces, Calls};
+ghost use Rattle.calls.specs.Engine.{triedOf, againOf, countOf, turnedBy, Room, Named, Deconstructs, Constructs, Conditions, Steps, Seeks, CallMatches, Succeeds, AnySucceeds, Applies, Chains, FillsChain, Fills, Finishes, Replaces, Calls};
 
 const STARTS: usize = 64;
 
@@ -227,23 +227,28 @@ fn deconstruct(
     match_taken(m, top, left, next)
 }
 
-// The tree of n nodes on top becomes a variable.
-fn constructed(frame: Frame, n: usize) -> Frame
-    requires { ⌜ Sound (frame .vars) × (frame .live + n ≤ 6144) × (frame .top ≤ 2 * frame .live) ⌝ }
-    ensures { λ r. ⌜ MoreFrame frame n r ⌝ }
+// The variables, and one more for the tree that is built on top.
+fn named(frame: Frame) -> Vars
+    requires { ⌜ Sound (frame .vars) × (frame .top < 2 ^ 32) ⌝ }
+    ensures { λ r. ⌜ Named frame r ⌝ }
 {
     let vars = frame.vars;
-    let live = frame.live;
-    let top = frame.top;
     let k = vars.n;
     if 16 <= k {
-        return frame;
+        return vars;
     }
-    let bound = rewrite::bind(vars, top as u32);
+    rewrite::bind(vars, frame.top as u32)
+}
+
+// What is open when the tree of n nodes on top is a variable.
+fn constructed(frame: Frame, vars: Vars, n: usize) -> Frame
+    requires { ⌜ (frame .live + n ≤ 6144) × (frame .top ≤ 2 * frame .live) ⌝ }
+    ensures { λ r. ⌜ r ≡ record { vars = vars; live = frame .live + n; top = frame .top + 2 * n } ⌝ }
+{
     Frame {
-        vars: bound,
-        live: live + n,
-        top: top + 2 * n,
+        vars,
+        live: frame.live + n,
+        top: frame.top + 2 * n,
     }
 }
 
@@ -266,12 +271,13 @@ fn construct(
     requires { ⌜ Room (now w) frame × (1 ≤ types) ⌝ }
     ensures { λ r. ⌜ Constructs (now (heads .entry)) (now (rows .entry)) types (now (book .entry)) (now (starts .entry)) (now (w .entry)) (now (w .exit)) at next frame deep left r ⌝ }
 {
+    let vars = named(frame);
     let b = finish(heads, rows, types, book, starts, w, at, frame, deep, left);
     let stop = b.stop;
     if stop != 0 {
         return taking(Verdict::Stops(stop), frame, b.left, next);
     }
-    let more = constructed(frame, b.nodes);
+    let more = constructed(frame, vars, b.nodes);
     taking(Verdict::Matches, more, b.left, next)
 }
 
@@ -559,8 +565,6 @@ fn succeeds(
 {
     let a = words::word(pairs, at);
     let vars = frame.vars;
-    let args = arena::gather(w, pairs, at + 2, words::word(pairs, at + 1), vars);
-    let given = args.vars;
     if a < FIRST_OPERATION {
         if deep == 0 {
             return Tested {
@@ -568,6 +572,8 @@ fn succeeds(
                 left,
             };
         }
+        let args = arena::gather(w, pairs, at + 2, words::word(pairs, at + 1), vars);
+        let given = args.vars;
         let inner = Frame {
             vars: given,
             live: frame.live + args.total,
@@ -589,7 +595,7 @@ fn succeeds(
             left,
         );
     }
-    let b = arena::first_value(w, given);
+    let b = arena::value_of(w, pairs, at + 3, vars);
     if rewrite::operations::holds(a, words::word(w, start + 1), b) {
         return Tested {
             verdict: Verdict::Matches,
@@ -681,12 +687,12 @@ fn apply(
     ensures { λ r. ⌜ Applies (now (heads .entry)) (now (rows .entry)) types (now (book .entry)) (now (starts .entry)) (now (w .entry)) (now (w .exit)) (now (pairs .entry)) at base n vars besides deep left r ⌝ }
 {
     let a = words::word(pairs, at);
-    let args = arena::gather(w, pairs, at + 2, words::word(pairs, at + 1), vars);
-    let given = args.vars;
     if a < FIRST_OPERATION {
         if deep == 0 {
             return building(41, n, left);
         }
+        let args = arena::gather(w, pairs, at + 2, words::word(pairs, at + 1), vars);
+        let given = args.vars;
         let rule = rule_at(starts, a);
         let live = besides + args.total;
         let c = call(
@@ -706,7 +712,7 @@ fn apply(
         );
         return building(c.stop, c.nodes, c.left);
     }
-    let b = arena::first_value(w, given);
+    let b = arena::value_of(w, pairs, at + 3, vars);
     let stop = arena::compute_at(w, base, a, b);
     building(stop, n, left)
 }

@@ -84,8 +84,8 @@ module _ (n live : ℕ) where
 
 -- THE FIRST ARGUMENT
 
-pub value-there : (w : Words) (vars : Vars) {start r : ℕ} → r ≡ getD w (start + 1) 0 → start ≡ startAt vars 0 → r ≡ getD w (startAt vars 0 + 1) 0
-value-there w vars e s = e ∙ ap (λ p. getD w (p + 1) 0) s
+pub value-there : (w pairs : Words) (at : ℕ) (vars : Vars) {x start r : ℕ} → r ≡ getD w (start + 1) 0 → start ≡ startAt vars x → x ≡ getD pairs at 0 → r ≡ getD w (startAt vars (getD pairs at 0) + 1) 0
+value-there w pairs at vars er es ex = er ∙ ap (λ s. getD w (s + 1) 0) (es ∙ ap (startAt vars) ex)
 
 -- VARIABLES, one after the other
 
@@ -127,12 +127,12 @@ variable-stands g arena vars env x u s e f =
 
 -- THE LOOP THAT GATHERS ARGUMENTS
 
-arguments-more : (k : ℕ) (ws : Words) → 0 < k → arguments k ws ≡ getD ws 1 0 ∷ arguments (k - 1) (drop 2 ws)
+pub arguments-more : (k : ℕ) (ws : Words) → 0 < k → arguments k ws ≡ getD ws 1 0 ∷ arguments (k - 1) (drop 2 ws)
 unfolding arguments
 arguments-more zero ws h = absurd (omega arith)
 arguments-more (suc k) ws h = let z : suc k - 1 ≡ k = omega arith in rw z
 
-arguments-none : (k : ℕ) (ws : Words) → k ≤ 0 → arguments k ws ≡ []
+pub arguments-none : (k : ℕ) (ws : Words) → k ≤ 0 → arguments k ws ≡ []
 unfolding arguments
 arguments-none zero ws h = refl
 arguments-none (suc k) ws h = absurd (omega arith)

@@ -110,11 +110,11 @@ pub fn gather(w: &[u32], pairs: &[u32], at: usize, n: u32, vars: Vars) -> Args
     Args { vars: args, total }
 }
 
-// The value of the first argument's tree.
-pub fn first_value(w: &[u32], vars: Vars) -> u32
-    ensures { λ r. ⌜ r ≡ getD (now (w .entry)) (startAt vars 0 + 1) 0 ⌝ }
+// The value of the tree of the variable that the pairs name at `at`.
+pub fn value_of(w: &[u32], pairs: &[u32], at: usize, vars: Vars) -> u32
+    ensures { λ r. ⌜ r ≡ getD (now (w .entry)) (startAt vars (getD (now (pairs .entry)) at 0) + 1) 0 ⌝ }
 {
-    let start = crate::start_of(vars, 0);
+    let start = crate::start_of(vars, words::word(pairs, at));
     words::word(w, start + 1)
 }
 
