@@ -8,7 +8,6 @@ use lib.ListN.{length, getD}
 use lib.Dec.{eqb}
 use borrow.Author.Tests.{ne-eqb, lt-ltb, le-ltb, lt-leb}
 use Rattle.words.specs.Reader.{Words, or, Read, value, refused, _>>=_, return, many}
-use Rattle.words.specs.declared.Check.the-variants.{Passed, Refused}
 use Rattle.words.proofs.Laws.{then-value, in-value, many-suc, many-length}
 use Rattle.grammar.specs.Grammar.{Grammar}
 use Rattle.grammar.specs.Kinds.{isNumber}
@@ -23,12 +22,12 @@ use Rattle.rules.specs.declared.HeadRead.{HeadRead}
 use Rattle.rules.specs.declared.HeadRead.the-variants.{Header, NoHead}
 use Rattle.rules.specs.declared.Strategy.{Strategy}
 use Rattle.rules.specs.declared.Strategy.the-variants.{RootOnly}
-use Rattle.rules.specs.Typing.{Place, inPattern, inReplacement, inCondition, aTree, aChain, applicationCount, application, argument, numberArgument, meets, appliesRule, appliesOperation, fitsScope, usable, noRule}
-use Rattle.pairs.specs.declared.Ctx.{Ctx}
+use Rattle.rules.specs.Typing.{Place, inPattern, inReplacement, inCondition, aTree, aChain, applicationCount, application, argument, numberArgument, Context, meets, appliesRule, appliesOperation, fitsScope, usable, noRule}
 use Rattle.pairs.specs.declared.Met.{Met}
-use Rattle.pairs.specs.Views.{contextOf, dueOf, Pushed, Meets, Stays, wordsAt, Headed, Book, searchesAs, appliesMap, ruleUsable, argumentsCounted}
+use Rattle.pairs.specs.declared.Met.the-variants.{Bad, Top}
+use Rattle.pairs.specs.Views.{dueOf, Pushed, Meets, wordsAt, Headed, Book, searchesAs, appliesMap, ruleUsable, argumentsCounted}
 use Rattle.pairs.proofs.Stack.{arguments-length, tree-due, chain-due, count-due, application-due, argument-due}
-use Rattle.pairs.proofs.Pairs.{arguments-other, arguments-met, stays-meets}
+use Rattle.pairs.proofs.Pairs.{arguments-other, arguments-met}
 
 -- A RULE'S PARAMETERS ARE THE WORDS BEFORE ITS PATTERN
 
@@ -172,15 +171,15 @@ module _ (types : ℕ) (ws : Words) (at : ℕ) (r : HeadRead) (e : r ≡ headRea
       due-is : map argument (rule .parameters) ≡ map argument (wordsAt ws (f .parameters) (f .count))
       due-is = ap (map argument) (H .parameters ∙ head-words b (H .head) (H .next) (H .read))
 
-      module _ (v place sp : ℕ) (st : Words) (ctx : Ctx) where
-        pub counted-other : (v ≡ f .count → ⊥) → Meets (record { check = Refused 22 (place + 1); sp = sp; ctx = ctx }) st sp st (argumentsCounted (map argument (rule .parameters)) (contextOf ctx) v place)
-        counted-other h = rw due-is (arguments-other (map argument (wordsAt ws (f .parameters) (f .count))) v place sp st ctx (λ z. h (z ∙ arguments-length ws (f .parameters) (f .count))))
+      module _ (v place sp : ℕ) (st : Words) (Γ : Context) where
+        pub counted-other : (v ≡ f .count → ⊥) → Meets (Bad 22 (place + 1)) Γ st sp st (argumentsCounted (map argument (rule .parameters)) Γ v place)
+        counted-other h = rw due-is (arguments-other (map argument (wordsAt ws (f .parameters) (f .count))) v place sp st Γ (λ z. h (z ∙ arguments-length ws (f .parameters) (f .count))))
 
-        pub counted-met : {st′ : Words} {top : ℕ} → v ≡ f .count → ctx .n ≤ 16 → Pushed st sp st′ top (map argument (wordsAt ws (f .parameters) (f .count)))
-            → Meets (record { check = Passed (place + 2); sp = top; ctx = ctx }) st sp st′ (argumentsCounted (map argument (rule .parameters)) (contextOf ctx) v place)
-        counted-met h few k =
+        pub counted-met : {st′ : Words} {top : ℕ} → v ≡ f .count → Pushed st sp st′ top (map argument (wordsAt ws (f .parameters) (f .count)))
+            → Meets (Top top) Γ st sp st′ (argumentsCounted (map argument (rule .parameters)) Γ v place)
+        counted-met h k =
             let n = arguments-length ws (f .parameters) (f .count) in
-            rw due-is (arguments-met (map argument (wordsAt ws (f .parameters) (f .count))) v place sp st ctx (h ∙ sym n) (omega (arith, head-few b .0)) few k)
+            rw due-is (arguments-met (map argument (wordsAt ws (f .parameters) (f .count))) v place sp st Γ (h ∙ sym n) (omega (arith, head-few b .0)) k)
 
 -- WHAT MAY BE APPLIED
 
@@ -220,23 +219,23 @@ root-only strategy target s h = rw h
 
 -- THE DUE ON TOP OF THE STACK
 
-module _ (g : Grammar) (rules : Rules) (here : Place) (a b t v at sp : ℕ) (ctx : Ctx) (st : Words) {m : Met} where
+module _ (g : Grammar) (rules : Rules) (here : Place) (a b t v at sp : ℕ) (st : Words) (Γ : Context) {m : Met} where
   module _ (st′ : Words) where
-    pub due-tree : a ≤ 65 → Meets m st sp st′ (meets g rules here (aTree (tree a b)) (contextOf ctx) t v at) → Meets m st sp st′ (meets g rules here (dueOf a b) (contextOf ctx) t v at)
+    pub due-tree : a ≤ 65 → Meets m Γ st sp st′ (meets g rules here (aTree (tree a b)) Γ t v at) → Meets m Γ st sp st′ (meets g rules here (dueOf a b) Γ t v at)
     due-tree h k = rw (tree-due a b h) k
 
-    pub due-chain : a ≡ 100 → Meets m st sp st′ (meets g rules here aChain (contextOf ctx) t v at) → Meets m st sp st′ (meets g rules here (dueOf a b) (contextOf ctx) t v at)
+    pub due-chain : a ≡ 100 → Meets m Γ st sp st′ (meets g rules here aChain Γ t v at) → Meets m Γ st sp st′ (meets g rules here (dueOf a b) Γ t v at)
     due-chain h k = rw (h, chain-due b) k
 
-    pub due-count : a ≡ 101 → Meets m st sp st′ (meets g rules here (applicationCount b) (contextOf ctx) t v at) → Meets m st sp st′ (meets g rules here (dueOf a b) (contextOf ctx) t v at)
+    pub due-count : a ≡ 101 → Meets m Γ st sp st′ (meets g rules here (applicationCount b) Γ t v at) → Meets m Γ st sp st′ (meets g rules here (dueOf a b) Γ t v at)
     due-count h k = rw (h, count-due b) k
 
-    pub due-application : a ≡ 102 → Meets m st sp st′ (meets g rules here (application b) (contextOf ctx) t v at) → Meets m st sp st′ (meets g rules here (dueOf a b) (contextOf ctx) t v at)
+    pub due-application : a ≡ 102 → Meets m Γ st sp st′ (meets g rules here (application b) Γ t v at) → Meets m Γ st sp st′ (meets g rules here (dueOf a b) Γ t v at)
     due-application h k = rw (h, application-due b) k
 
-  pub due-argument : a ≡ 103 → Stays m sp (meets g rules here (argument b) (contextOf ctx) t v at) → Meets m st sp st (meets g rules here (dueOf a b) (contextOf ctx) t v at)
-  due-argument h k = rw (h, argument-due b) (stays-meets st (meets g rules here (argument b) (contextOf ctx) t v at) k)
+  pub due-argument : a ≡ 103 → Meets m Γ st sp st (meets g rules here (argument b) Γ t v at) → Meets m Γ st sp st (meets g rules here (dueOf a b) Γ t v at)
+  due-argument h k = rw (h, argument-due b) k
 
-  pub due-number : 65 < a → (a ≡ 100 → ⊥) → (a ≡ 101 → ⊥) → (a ≡ 102 → ⊥) → (a ≡ 103 → ⊥) → Stays m sp (meets g rules here numberArgument (contextOf ctx) t v at) → Meets m st sp st (meets g rules here (dueOf a b) (contextOf ctx) t v at)
+  pub due-number : 65 < a → (a ≡ 100 → ⊥) → (a ≡ 101 → ⊥) → (a ≡ 102 → ⊥) → (a ≡ 103 → ⊥) → Meets m Γ st sp st (meets g rules here numberArgument Γ t v at) → Meets m Γ st sp st (meets g rules here (dueOf a b) Γ t v at)
   unfolding dueOf
-  due-number h h₀ h₁ h₂ h₃ k = rw (lt-leb a 65 h, ne-eqb a 100 h₀, ne-eqb a 101 h₁, ne-eqb a 102 h₂, ne-eqb a 103 h₃) (stays-meets st (meets g rules here numberArgument (contextOf ctx) t v at) k)
+  due-number h h₀ h₁ h₂ h₃ k = rw (lt-leb a 65 h, ne-eqb a 100 h₀, ne-eqb a 101 h₁, ne-eqb a 102 h₂, ne-eqb a 103 h₃) k

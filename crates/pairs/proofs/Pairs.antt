@@ -1,14 +1,14 @@
 -- Laws of one pair: what each path through the code leaves is what the definition's reading of the pair leaves. Assumes nothing.
 use Prim.Native.Nat.{ℕ, _+_, _/_, _%_, _<_, _≤_}
 use mathlib.Core.Path.{_≡_, refl}
-use mathlib.Core.List.{List, [], _∷_, _++_, map}
+use mathlib.Core.List.{List, [], _∷_, map}
 use mathlib.Core.Bool.{Bool, true, false}
 use native.Mathlib.Omega.{arith}
 use native.Mathlib.Nat.{add-zero}
 use lib.ListN.{length, getD, replicate}
 use lib.Dec.{ltb, leb, eqb}
 use borrow.Author.Tests.{eq-eqb, ne-eqb, lt-ltb, le-ltb, le-leb, lt-leb}
-use Rattle.words.specs.Reader.{Words, or, between, Read, value, refused}
+use Rattle.words.specs.Reader.{Words, or, between}
 use Rattle.words.specs.Views.{answer}
 use Rattle.words.specs.declared.Check.{Check}
 use Rattle.words.specs.declared.Check.the-variants.{Passed, Refused}
@@ -16,16 +16,15 @@ use Rattle.words.proofs.Laws.{answer-refused}
 use Rattle.grammar.specs.Grammar.{Grammar}
 use Rattle.grammar.specs.Kinds.{allowed, isNumber}
 use Rattle.grammar.specs.Tables.{Tables}
-use Rattle.tree.specs.Dues.{Next}
 use Rattle.tree.specs.Reading.{tree}
 use Rattle.rules.specs.Rules.{Rules}
 use Rattle.rules.specs.Typing.{Place, Due, aTree, aChain, applicationCount, application, argument, numberArgument, Context, mayStand, appliesOperation, usable, argumentsDue, noRule, there, ofType, newVariable, variable, chain, node, meets}
 use Rattle.pairs.specs.declared.Place.{Place as Here}
 use Rattle.pairs.specs.declared.Place.the-variants.{Pattern, Replacement, Condition}
-use Rattle.pairs.specs.declared.Ctx.{Ctx}
 use Rattle.pairs.specs.declared.Met.{Met}
-use Rattle.pairs.specs.Views.{placeAs, appliesMap, contextOf, dueOf, Pushed, nodeDue, Meets, Stays, operationDue, argumentsCounted}
-use Rattle.pairs.proofs.Stack.{require-passed, context-length, of-type-passed, pushed-none, pushed-as, count-due, number-due, node-few, replicate-length}
+use Rattle.pairs.specs.declared.Met.the-variants.{Bad, Top, New}
+use Rattle.pairs.specs.Views.{placeAs, appliesMap, dueOf, Pushed, nodeDue, Meets, operationDue, argumentsCounted}
+use Rattle.pairs.proofs.Stack.{require-passed, of-type-passed, pushed-none, pushed-as, count-due, number-due, node-few, replicate-length}
 
 -- WORDS THAT MAY STAND THERE
 
@@ -75,195 +74,185 @@ module _ (here : Here) (o : ℕ) where
   pub map-replacement : here ≡ Replacement → eqb (o / 8 % 2) 1 ≡ appliesMap (placeAs here) o
   map-replacement h = rw h
 
--- A PAIR THAT MAKES NOTHING DUE
-
-pub stays-meets : {m : Met} {sp : ℕ} (st : Words) (q : Read (Next Due Context)) → Stays m sp q → Meets m st sp st q
-stays-meets {m} {sp} st (value s next) h =
-    let p : Pushed st sp st (m .sp) (s .dues) = rw (h .left .same, h .left .none) (pushed-none st sp) in
-    record { check = h .check; left = record { known = h .left .known; few = h .left .few; pushed = p; most = omega (arith, h .left .same) } }
-stays-meets {m} {sp} st (refused n p) h = record { check = h .check; left = tt }
-
 -- A PAIR WHERE A TREE IS DUE
 
-module _ (g : Grammar) (n d v at sp : ℕ) (st : Words) (ctx : Ctx) {b : Bool} (eb : b ≡ allowed g d v) where
-  pub node-refused : b ≡ false → Meets (record { check = Refused 23 (at + 1); sp = sp; ctx = ctx }) st sp st (node g n d (contextOf ctx) v at)
+module _ (g : Grammar) (n d v at sp : ℕ) (st : Words) (Γ : Context) {b : Bool} (eb : b ≡ allowed g d v) where
+  pub node-refused : b ≡ false → Meets (Bad 23 (at + 1)) Γ st sp st (node g n d Γ v at)
   unfolding node
-  node-refused h = rw (← eb, h) (record { check = refl; left = tt })
+  node-refused h = rw (← eb, h) (record { says = refl })
 
-  pub node-met : {heads rows st′ : Words} {top : ℕ} → b ≡ true → ctx .n ≤ 16 → Tables g heads rows → Pushed st sp st′ top (nodeDue g d v n)
-      → Meets (record { check = Passed (at + 2); sp = top; ctx = ctx }) st sp st′ (node g n d (contextOf ctx) v at)
+  pub node-met : {heads rows st′ : Words} {top : ℕ} → b ≡ true → Tables g heads rows → Pushed st sp st′ top (nodeDue g d v n)
+      → Meets (Top top) Γ st sp st′ (node g n d Γ v at)
   unfolding node
-  node-met h few t p = rw (← eb, h) (record { check = refl; left = record { known = refl; few = few; pushed = p; most = node-few g d v n t p } })
+  node-met h t p = rw (← eb, h) (record { says = record { dues = nodeDue g d v n; next = at + 2; read = refl; pushed = p; most = node-few g d v n t p } })
 
-module _ (d v at sp : ℕ) (ctx : Ctx) where
-  pub new-other : (v ≡ d → ⊥) → Stays (record { check = Refused 23 (at + 1); sp = sp; ctx = ctx }) sp (newVariable d (contextOf ctx) v at)
+module _ (d v at sp : ℕ) (st : Words) (Γ : Context) where
+  pub new-other : (v ≡ d → ⊥) → Meets (Bad 23 (at + 1)) Γ st sp st (newVariable d Γ v at)
   unfolding newVariable
-  new-other h = rw (ne-eqb v d h) (record { check = refl; left = tt })
+  new-other h = rw (ne-eqb v d h) (record { says = refl })
 
-  module _ (len : length (ctx .types) ≡ 16) (few : ctx .n ≤ 16) (e : v ≡ d) where
-    pub new-full : 16 ≤ ctx .n → Stays (record { check = Refused 24 (at + 1); sp = sp; ctx = ctx }) sp (newVariable d (contextOf ctx) v at)
+  module _ {n : ℕ} (len : length Γ ≡ n) (e : v ≡ d) where
+    pub new-full : 16 ≤ n → Meets (Bad 24 (at + 1)) Γ st sp st (newVariable d Γ v at)
     unfolding newVariable
-    new-full h = rw (eq-eqb v d e, context-length ctx len few, le-ltb (ctx .n) 16 h) (record { check = refl; left = tt })
+    new-full h = rw (eq-eqb v d e, le-ltb (length Γ) 16 (omega (arith, len))) (record { says = refl })
 
-    pub new-there : ctx .n < 16 → {ctx′ : Ctx} → (contextOf ctx′ ≡ contextOf ctx ++ d ∷ []) × (ctx′ .n ≤ 16)
-        → Stays (record { check = Passed (at + 2); sp = sp; ctx = ctx′ }) sp (newVariable d (contextOf ctx) v at)
+    pub new-there : n < 16 → Meets (New d) Γ st sp st (newVariable d Γ v at)
     unfolding newVariable
-    new-there h k = rw (eq-eqb v d e, context-length ctx len few, lt-ltb (ctx .n) 16 h) (record { check = refl; left = record { known = k .0; few = k .1; none = refl; same = refl } })
+    new-there h = rw (eq-eqb v d e, lt-ltb (length Γ) 16 (omega (arith, len))) (record { says = (omega (arith, len), record { dues = []; next = at + 2; read = refl; pushed = pushed-none st sp; most = omega arith }) })
 
-  module _ (c : Check) (is : c ≡ answer (ofType (contextOf ctx) v d at)) where
-    pub variable-refused : {no′ p : ℕ} → c ≡ Refused no′ p → Stays (record { check = Refused no′ p; sp = sp; ctx = ctx }) sp (variable d (contextOf ctx) v at)
+  module _ (c : Check) (is : c ≡ answer (ofType Γ v d at)) where
+    pub variable-refused : {no′ p : ℕ} → c ≡ Refused no′ p → Meets (Bad no′ p) Γ st sp st (variable d Γ v at)
     unfolding variable
-    variable-refused e = rw (answer-refused (ofType (contextOf ctx) v d at) c is e) (record { check = refl; left = tt })
+    variable-refused e = rw (answer-refused (ofType Γ v d at) c is e) (record { says = refl })
 
-    pub variable-there : {p : ℕ} → c ≡ Passed p → ctx .n ≤ 16 → Stays (record { check = Passed (at + 2); sp = sp; ctx = ctx }) sp (variable d (contextOf ctx) v at)
+    pub variable-there : {p : ℕ} → c ≡ Passed p → Meets (Top sp) Γ st sp st (variable d Γ v at)
     unfolding variable
-    variable-there e few = rw (of-type-passed (contextOf ctx) v d at c is e) (record { check = refl; left = record { known = refl; few = few; none = refl; same = refl } })
+    variable-there e = rw (of-type-passed Γ v d at c is e) (record { says = record { dues = []; next = at + 2; read = refl; pushed = pushed-none st sp; most = omega arith } })
 
-    pub chain-refused : (st : Words) {no′ p : ℕ} → c ≡ Refused no′ p → Meets (record { check = Refused no′ p; sp = sp; ctx = ctx }) st sp st (chain d (contextOf ctx) v at)
+    pub chain-refused : {no′ p : ℕ} → c ≡ Refused no′ p → Meets (Bad no′ p) Γ st sp st (chain d Γ v at)
     unfolding chain
-    chain-refused st e = rw (answer-refused (ofType (contextOf ctx) v d at) c is e) (record { check = refl; left = tt })
+    chain-refused e = rw (answer-refused (ofType Γ v d at) c is e) (record { says = refl })
 
-    pub chain-met : {st st′ : Words} {p : ℕ} → c ≡ Passed p → ctx .n ≤ 16 → Pushed st sp st′ (sp + 1) (dueOf 101 d ∷ [])
-        → Meets (record { check = Passed (at + 2); sp = sp + 1; ctx = ctx }) st sp st′ (chain d (contextOf ctx) v at)
+    pub chain-met : {st′ : Words} {p : ℕ} → c ≡ Passed p → Pushed st sp st′ (sp + 1) (dueOf 101 d ∷ [])
+        → Meets (Top (sp + 1)) Γ st sp st′ (chain d Γ v at)
     unfolding chain
-    chain-met e few k = rw (of-type-passed (contextOf ctx) v d at c is e)
-        (record { check = refl; left = record { known = refl; few = few; pushed = pushed-as k (rw (count-due d)); most = omega arith } })
+    chain-met e k = rw (of-type-passed Γ v d at c is e) (record { says = record { dues = applicationCount d ∷ []; next = at + 2; read = refl; pushed = pushed-as k (rw (count-due d)); most = omega arith } })
 
-module _ (g : Grammar) (rules : Rules) (here : Place) (n d t v at sp : ℕ) (st : Words) (ctx : Ctx) {b : Bool} (eb : b ≡ mayStand here d t) where
-  pub tree-kind : b ≡ false → Meets (record { check = Refused 23 at; sp = sp; ctx = ctx }) st sp st (meets g rules here (aTree (tree n d)) (contextOf ctx) t v at)
+module _ (g : Grammar) (rules : Rules) (here : Place) (n d t v at sp : ℕ) (st : Words) (Γ : Context) {b : Bool} (eb : b ≡ mayStand here d t) where
+  pub tree-kind : b ≡ false → Meets (Bad 23 at) Γ st sp st (meets g rules here (aTree (tree n d)) Γ t v at)
   unfolding meets
-  tree-kind h = rw (← eb, h, add-zero at) (record { check = refl; left = tt })
+  tree-kind h = rw (← eb, h, add-zero at) (record { says = refl })
 
   module _ (stands : b ≡ true) where
-    pub tree-deep : 64 < n → Meets (record { check = Refused 24 at; sp = sp; ctx = ctx }) st sp st (meets g rules here (aTree (tree n d)) (contextOf ctx) t v at)
+    pub tree-deep : 64 < n → Meets (Bad 24 at) Γ st sp st (meets g rules here (aTree (tree n d)) Γ t v at)
     unfolding meets
-    tree-deep h = rw (← eb, stands, lt-leb n 64 h, add-zero at) (record { check = refl; left = tt })
+    tree-deep h = rw (← eb, stands, lt-leb n 64 h, add-zero at) (record { says = refl })
 
     module _ (low : n ≤ 64) {m : Met} where
-      pub tree-node : {st′ : Words} → t ≡ d → Meets m st sp st′ (node g n d (contextOf ctx) v at) → Meets m st sp st′ (meets g rules here (aTree (tree n d)) (contextOf ctx) t v at)
+      pub tree-node : {st′ : Words} → t ≡ d → Meets m Γ st sp st′ (node g n d Γ v at) → Meets m Γ st sp st′ (meets g rules here (aTree (tree n d)) Γ t v at)
       unfolding meets
       tree-node e k = rw (← eb, stands, le-leb n 64 low, eq-eqb t d e) k
 
       module _ (other : t ≡ d → ⊥) where
-        pub tree-new : t ≡ 64 → Stays m sp (newVariable d (contextOf ctx) v at) → Meets m st sp st (meets g rules here (aTree (tree n d)) (contextOf ctx) t v at)
+        pub tree-new : t ≡ 64 → Meets m Γ st sp st (newVariable d Γ v at) → Meets m Γ st sp st (meets g rules here (aTree (tree n d)) Γ t v at)
         unfolding meets
-        tree-new e k = rw (← eb, stands, le-leb n 64 low, ne-eqb t d other, eq-eqb t 64 e) (stays-meets st (newVariable d (contextOf ctx) v at) k)
+        tree-new e k = rw (← eb, stands, le-leb n 64 low, ne-eqb t d other, eq-eqb t 64 e) k
 
-        pub tree-variable : (t ≡ 64 → ⊥) → t ≡ 65 → Stays m sp (variable d (contextOf ctx) v at) → Meets m st sp st (meets g rules here (aTree (tree n d)) (contextOf ctx) t v at)
+        pub tree-variable : (t ≡ 64 → ⊥) → t ≡ 65 → Meets m Γ st sp st (variable d Γ v at) → Meets m Γ st sp st (meets g rules here (aTree (tree n d)) Γ t v at)
         unfolding meets
-        tree-variable h e k = rw (← eb, stands, le-leb n 64 low, ne-eqb t d other, ne-eqb t 64 h, eq-eqb t 65 e) (stays-meets st (variable d (contextOf ctx) v at) k)
+        tree-variable h e k = rw (← eb, stands, le-leb n 64 low, ne-eqb t d other, ne-eqb t 64 h, eq-eqb t 65 e) k
 
-        pub tree-chain : {st′ : Words} → (t ≡ 64 → ⊥) → (t ≡ 65 → ⊥) → Meets m st sp st′ (chain d (contextOf ctx) v at) → Meets m st sp st′ (meets g rules here (aTree (tree n d)) (contextOf ctx) t v at)
+        pub tree-chain : {st′ : Words} → (t ≡ 64 → ⊥) → (t ≡ 65 → ⊥) → Meets m Γ st sp st′ (chain d Γ v at) → Meets m Γ st sp st′ (meets g rules here (aTree (tree n d)) Γ t v at)
         unfolding meets
         tree-chain h i k = rw (← eb, stands, le-leb n 64 low, ne-eqb t d other, ne-eqb t 64 h, ne-eqb t 65 i) k
 
 -- THE PAIRS OF A CHAIN
 
-module _ (g : Grammar) (rules : Rules) (here : Place) (t v at sp : ℕ) (ctx : Ctx) where
-  pub start-kind : (st : Words) → (t ≡ 66 → ⊥) → Meets (record { check = Refused 23 at; sp = sp; ctx = ctx }) st sp st (meets g rules here aChain (contextOf ctx) t v at)
+module _ (g : Grammar) (rules : Rules) (here : Place) (t v at sp : ℕ) (st : Words) (Γ : Context) where
+  pub start-kind : (t ≡ 66 → ⊥) → Meets (Bad 23 at) Γ st sp st (meets g rules here aChain Γ t v at)
   unfolding meets
-  start-kind st h = rw (ne-eqb t 66 h, add-zero at) (record { check = refl; left = tt })
+  start-kind h = rw (ne-eqb t 66 h, add-zero at) (record { says = refl })
 
-  module _ (e : t ≡ 66) (c : Check) (is : c ≡ answer (there (contextOf ctx) v at)) where
-    pub start-refused : (st : Words) {no′ p : ℕ} → c ≡ Refused no′ p → Meets (record { check = Refused no′ p; sp = sp; ctx = ctx }) st sp st (meets g rules here aChain (contextOf ctx) t v at)
+  module _ (e : t ≡ 66) (c : Check) (is : c ≡ answer (there Γ v at)) where
+    pub start-refused : {no′ p : ℕ} → c ≡ Refused no′ p → Meets (Bad no′ p) Γ st sp st (meets g rules here aChain Γ t v at)
     unfolding meets
-    start-refused st f = rw (eq-eqb t 66 e, answer-refused (there (contextOf ctx) v at) c is f) (record { check = refl; left = tt })
+    start-refused f = rw (eq-eqb t 66 e, answer-refused (there Γ v at) c is f) (record { says = refl })
 
-    pub start-met : {st st′ : Words} {p s : ℕ} → c ≡ Passed p → s ≡ getD (contextOf ctx) v 0 → ctx .n ≤ 16 → Pushed st sp st′ (sp + 1) (dueOf 101 s ∷ [])
-        → Meets (record { check = Passed (at + 2); sp = sp + 1; ctx = ctx }) st sp st′ (meets g rules here aChain (contextOf ctx) t v at)
+    pub start-met : {st′ : Words} {p s : ℕ} → c ≡ Passed p → s ≡ getD Γ v 0 → Pushed st sp st′ (sp + 1) (dueOf 101 s ∷ [])
+        → Meets (Top (sp + 1)) Γ st sp st′ (meets g rules here aChain Γ t v at)
     unfolding meets
-    start-met {s = s} f i few k = rw (eq-eqb t 66 e, require-passed (ltb v (length (contextOf ctx))) 22 1 at c is f .0, ← i)
-        (record { check = refl; left = record { known = refl; few = few; pushed = pushed-as k (rw (count-due s)); most = omega arith } })
+    start-met {s = s} f i k = rw (eq-eqb t 66 e, require-passed (ltb v (length Γ)) 22 1 at c is f .0, ← i)
+        (record { says = record { dues = applicationCount s ∷ []; next = at + 2; read = refl; pushed = pushed-as k (rw (count-due s)); most = omega arith } })
 
-  module _ (s : ℕ) (st : Words) where
-    pub count-low : t < 1 → Meets (record { check = Refused 23 at; sp = sp; ctx = ctx }) st sp st (meets g rules here (applicationCount s) (contextOf ctx) t v at)
+  module _ (s : ℕ) where
+    pub count-low : t < 1 → Meets (Bad 23 at) Γ st sp st (meets g rules here (applicationCount s) Γ t v at)
     unfolding meets
-    count-low h = rw (lt-leb 1 t h, add-zero at) (record { check = refl; left = tt })
+    count-low h = rw (lt-leb 1 t h, add-zero at) (record { says = refl })
 
     module _ (low : 1 ≤ t) where
-      pub count-high : 4 < t → Meets (record { check = Refused 23 at; sp = sp; ctx = ctx }) st sp st (meets g rules here (applicationCount s) (contextOf ctx) t v at)
+      pub count-high : 4 < t → Meets (Bad 23 at) Γ st sp st (meets g rules here (applicationCount s) Γ t v at)
       unfolding meets
-      count-high h = rw (le-leb 1 t low, lt-leb t 4 h, add-zero at) (record { check = refl; left = tt })
+      count-high h = rw (le-leb 1 t low, lt-leb t 4 h, add-zero at) (record { says = refl })
 
       module _ (high : t ≤ 4) where
-        pub count-zero : (v ≡ 0 → ⊥) → Meets (record { check = Refused 23 (at + 1); sp = sp; ctx = ctx }) st sp st (meets g rules here (applicationCount s) (contextOf ctx) t v at)
+        pub count-zero : (v ≡ 0 → ⊥) → Meets (Bad 23 (at + 1)) Γ st sp st (meets g rules here (applicationCount s) Γ t v at)
         unfolding meets
-        count-zero h = rw (le-leb 1 t low, le-leb t 4 high, ne-eqb v 0 h) (record { check = refl; left = tt })
+        count-zero h = rw (le-leb 1 t low, le-leb t 4 high, ne-eqb v 0 h) (record { says = refl })
 
-        pub count-met : {st′ : Words} {top : ℕ} → v ≡ 0 → ctx .n ≤ 16 → Pushed st sp st′ top (replicate t (application s))
-            → Meets (record { check = Passed (at + 2); sp = top; ctx = ctx }) st sp st′ (meets g rules here (applicationCount s) (contextOf ctx) t v at)
+        pub count-met : {st′ : Words} {top : ℕ} → v ≡ 0 → Pushed st sp st′ top (replicate t (application s))
+            → Meets (Top top) Γ st sp st′ (meets g rules here (applicationCount s) Γ t v at)
         unfolding meets
-        count-met e few k = rw (le-leb 1 t low, le-leb t 4 high, eq-eqb v 0 e)
-            (record { check = refl; left = record { known = refl; few = few; pushed = k; most = omega (arith, k .size, replicate-length (application s) t) } })
+        count-met e k = rw (le-leb 1 t low, le-leb t 4 high, eq-eqb v 0 e)
+            (record { says = record { dues = replicate t (application s); next = at + 2; read = refl; pushed = k; most = omega (arith, k .size, replicate-length (application s) t) } })
 
-  pub argument-kind : (d : ℕ) → (t ≡ 65 → ⊥) → Stays (record { check = Refused 23 at; sp = sp; ctx = ctx }) sp (meets g rules here (argument d) (contextOf ctx) t v at)
+  pub argument-kind : (d : ℕ) → (t ≡ 65 → ⊥) → Meets (Bad 23 at) Γ st sp st (meets g rules here (argument d) Γ t v at)
   unfolding meets
-  argument-kind d h = rw (ne-eqb t 65 h, add-zero at) (record { check = refl; left = tt })
+  argument-kind d h = rw (ne-eqb t 65 h, add-zero at) (record { says = refl })
 
-  pub argument-there : (d : ℕ) {m : Met} → t ≡ 65 → Stays m sp (variable d (contextOf ctx) v at) → Stays m sp (meets g rules here (argument d) (contextOf ctx) t v at)
+  pub argument-there : (d : ℕ) {m : Met} → t ≡ 65 → Meets m Γ st sp st (variable d Γ v at) → Meets m Γ st sp st (meets g rules here (argument d) Γ t v at)
   unfolding meets variable
   argument-there d e k = rw (eq-eqb t 65 e) k
 
-  pub number-kind : (t ≡ 65 → ⊥) → Stays (record { check = Refused 23 at; sp = sp; ctx = ctx }) sp (meets g rules here numberArgument (contextOf ctx) t v at)
+  pub number-kind : (t ≡ 65 → ⊥) → Meets (Bad 23 at) Γ st sp st (meets g rules here numberArgument Γ t v at)
   unfolding meets
-  number-kind h = rw (ne-eqb t 65 h, add-zero at) (record { check = refl; left = tt })
+  number-kind h = rw (ne-eqb t 65 h, add-zero at) (record { says = refl })
 
-  module _ (e : t ≡ 65) (c : Check) (is : c ≡ answer (there (contextOf ctx) v at)) where
-    pub number-refused : {no′ p : ℕ} → c ≡ Refused no′ p → Stays (record { check = Refused no′ p; sp = sp; ctx = ctx }) sp (meets g rules here numberArgument (contextOf ctx) t v at)
+  module _ (e : t ≡ 65) (c : Check) (is : c ≡ answer (there Γ v at)) where
+    pub number-refused : {no′ p : ℕ} → c ≡ Refused no′ p → Meets (Bad no′ p) Γ st sp st (meets g rules here numberArgument Γ t v at)
     unfolding meets
-    number-refused f = rw (eq-eqb t 65 e, answer-refused (there (contextOf ctx) v at) c is f) (record { check = refl; left = tt })
+    number-refused f = rw (eq-eqb t 65 e, answer-refused (there Γ v at) c is f) (record { says = refl })
 
-    module _ {p s : ℕ} {b : Bool} (f : c ≡ Passed p) (i : s ≡ getD (contextOf ctx) v 0) (eb : b ≡ isNumber g s) where
-      pub number-other : b ≡ false → Stays (record { check = Refused 23 (at + 1); sp = sp; ctx = ctx }) sp (meets g rules here numberArgument (contextOf ctx) t v at)
+    module _ {p s : ℕ} {b : Bool} (f : c ≡ Passed p) (i : s ≡ getD Γ v 0) (eb : b ≡ isNumber g s) where
+      pub number-other : b ≡ false → Meets (Bad 23 (at + 1)) Γ st sp st (meets g rules here numberArgument Γ t v at)
       unfolding meets
-      number-other h = rw (eq-eqb t 65 e, require-passed (ltb v (length (contextOf ctx))) 22 1 at c is f .0, ← i, ← eb, h) (record { check = refl; left = tt })
+      number-other h = rw (eq-eqb t 65 e, require-passed (ltb v (length Γ)) 22 1 at c is f .0, ← i, ← eb, h) (record { says = refl })
 
-      pub number-there : b ≡ true → ctx .n ≤ 16 → Stays (record { check = Passed (at + 2); sp = sp; ctx = ctx }) sp (meets g rules here numberArgument (contextOf ctx) t v at)
+      pub number-there : b ≡ true → Meets (Top sp) Γ st sp st (meets g rules here numberArgument Γ t v at)
       unfolding meets
-      number-there h few = rw (eq-eqb t 65 e, require-passed (ltb v (length (contextOf ctx))) 22 1 at c is f .0, ← i, ← eb, h)
-          (record { check = refl; left = record { known = refl; few = few; none = refl; same = refl } })
+      number-there h = rw (eq-eqb t 65 e, require-passed (ltb v (length Γ)) 22 1 at c is f .0, ← i, ← eb, h)
+          (record { says = record { dues = []; next = at + 2; read = refl; pushed = pushed-none st sp; most = omega arith } })
 
 -- AN APPLICATION
 
-module _ (g : Grammar) (rules : Rules) (here : Place) (s t v at sp : ℕ) (st : Words) (ctx : Ctx) {b : Bool} (eb : b ≡ usable g rules here s t) where
-  pub application-unusable : b ≡ false → Meets (record { check = Refused 22 at; sp = sp; ctx = ctx }) st sp st (meets g rules here (application s) (contextOf ctx) t v at)
+module _ (g : Grammar) (rules : Rules) (here : Place) (s t v at sp : ℕ) (st : Words) (Γ : Context) {b : Bool} (eb : b ≡ usable g rules here s t) where
+  pub application-unusable : b ≡ false → Meets (Bad 22 at) Γ st sp st (meets g rules here (application s) Γ t v at)
   unfolding meets
-  application-unusable h = rw (← eb, h, add-zero at) (record { check = refl; left = tt })
+  application-unusable h = rw (← eb, h, add-zero at) (record { says = refl })
 
   module _ (h : b ≡ true) {m : Met} {st′ : Words} where
-    pub application-rule : t < length rules → Meets m st sp st′ (argumentsCounted (map argument (getD rules t noRule .parameters)) (contextOf ctx) v at) → Meets m st sp st′ (meets g rules here (application s) (contextOf ctx) t v at)
+    pub application-rule : t < length rules → Meets m Γ st sp st′ (argumentsCounted (map argument (getD rules t noRule .parameters)) Γ v at) → Meets m Γ st sp st′ (meets g rules here (application s) Γ t v at)
     unfolding meets argumentsDue argumentsCounted
     application-rule l k = rw (← eb, h, lt-ltb t (length rules) l) k
 
-    pub application-operation : length rules ≤ t → Meets m st sp st′ (argumentsCounted (operationDue t) (contextOf ctx) v at) → Meets m st sp st′ (meets g rules here (application s) (contextOf ctx) t v at)
+    pub application-operation : length rules ≤ t → Meets m Γ st sp st′ (argumentsCounted (operationDue t) Γ v at) → Meets m Γ st sp st′ (meets g rules here (application s) Γ t v at)
     unfolding meets argumentsDue argumentsCounted
     application-operation l k = rw (← eb, h, le-ltb t (length rules) l) k
 
 -- its count of arguments
-module _ (ds : List Due) (v at sp : ℕ) (st : Words) (ctx : Ctx) where
-  pub arguments-other : (v ≡ length ds → ⊥) → Meets (record { check = Refused 22 (at + 1); sp = sp; ctx = ctx }) st sp st (argumentsCounted ds (contextOf ctx) v at)
+module _ (ds : List Due) (v at sp : ℕ) (st : Words) (Γ : Context) where
+  pub arguments-other : (v ≡ length ds → ⊥) → Meets (Bad 22 (at + 1)) Γ st sp st (argumentsCounted ds Γ v at)
   unfolding argumentsCounted
-  arguments-other h = rw (ne-eqb v (length ds) h) (record { check = refl; left = tt })
+  arguments-other h = rw (ne-eqb v (length ds) h) (record { says = refl })
 
-  pub arguments-met : {st′ : Words} {top : ℕ} → v ≡ length ds → length ds ≤ 8 → ctx .n ≤ 16 → Pushed st sp st′ top ds → Meets (record { check = Passed (at + 2); sp = top; ctx = ctx }) st sp st′ (argumentsCounted ds (contextOf ctx) v at)
+  pub arguments-met : {st′ : Words} {top : ℕ} → v ≡ length ds → length ds ≤ 8 → Pushed st sp st′ top ds → Meets (Top top) Γ st sp st′ (argumentsCounted ds Γ v at)
   unfolding argumentsCounted
-  arguments-met e most few k = rw (eq-eqb v (length ds) e) (record { check = refl; left = record { known = refl; few = few; pushed = k; most = omega (arith, k .size) } })
+  arguments-met e most k = rw (eq-eqb v (length ds) e) (record { says = record { dues = ds; next = at + 2; read = refl; pushed = k; most = omega (arith, k .size) } })
 
-module _ (t v at sp : ℕ) (st : Words) (ctx : Ctx) {b : Bool} (eb : b ≡ between 1004 1005 t) where
+module _ (t v at sp : ℕ) (st : Words) (Γ : Context) {b : Bool} (eb : b ≡ between 1004 1005 t) where
   bare : b ≡ true → operationDue t ≡ []
   bare h = rw (← eb, h)
 
   binary : b ≡ false → operationDue t ≡ numberArgument ∷ []
   binary h = rw (← eb, h)
 
-  pub bare-other : b ≡ true → (v ≡ 0 → ⊥) → Meets (record { check = Refused 22 (at + 1); sp = sp; ctx = ctx }) st sp st (argumentsCounted (operationDue t) (contextOf ctx) v at)
-  bare-other h z = rw (bare h) (arguments-other [] v at sp st ctx z)
+  pub bare-other : b ≡ true → (v ≡ 0 → ⊥) → Meets (Bad 22 (at + 1)) Γ st sp st (argumentsCounted (operationDue t) Γ v at)
+  bare-other h z = rw (bare h) (arguments-other [] v at sp st Γ z)
 
-  pub bare-met : b ≡ true → v ≡ 0 → ctx .n ≤ 16 → Meets (record { check = Passed (at + 2); sp = sp; ctx = ctx }) st sp st (argumentsCounted (operationDue t) (contextOf ctx) v at)
-  bare-met h z few = rw (bare h) (arguments-met [] v at sp st ctx z (omega arith) few (pushed-none st sp))
+  pub bare-met : b ≡ true → v ≡ 0 → Meets (Top sp) Γ st sp st (argumentsCounted (operationDue t) Γ v at)
+  bare-met h z = rw (bare h) (arguments-met [] v at sp st Γ z (omega arith) (pushed-none st sp))
 
-  pub binary-other : b ≡ false → (v ≡ 1 → ⊥) → Meets (record { check = Refused 22 (at + 1); sp = sp; ctx = ctx }) st sp st (argumentsCounted (operationDue t) (contextOf ctx) v at)
-  binary-other h z = rw (binary h) (arguments-other (numberArgument ∷ []) v at sp st ctx z)
+  pub binary-other : b ≡ false → (v ≡ 1 → ⊥) → Meets (Bad 22 (at + 1)) Γ st sp st (argumentsCounted (operationDue t) Γ v at)
+  binary-other h z = rw (binary h) (arguments-other (numberArgument ∷ []) v at sp st Γ z)
 
-  pub binary-met : {st′ : Words} → b ≡ false → v ≡ 1 → ctx .n ≤ 16 → Pushed st sp st′ (sp + 1) (dueOf 104 0 ∷ []) → Meets (record { check = Passed (at + 2); sp = sp + 1; ctx = ctx }) st sp st′ (argumentsCounted (operationDue t) (contextOf ctx) v at)
-  binary-met h z few k = rw (binary h) (arguments-met (numberArgument ∷ []) v at sp st ctx z (omega arith) few (pushed-as k (rw (number-due 0))))
+  pub binary-met : {st′ : Words} → b ≡ false → v ≡ 1 → Pushed st sp st′ (sp + 1) (dueOf 104 0 ∷ []) → Meets (Top (sp + 1)) Γ st sp st′ (argumentsCounted (operationDue t) Γ v at)
+  binary-met h z k = rw (binary h) (arguments-met (numberArgument ∷ []) v at sp st Γ z (omega arith) (pushed-as k (rw (number-due 0))))

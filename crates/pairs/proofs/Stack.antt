@@ -6,7 +6,7 @@ use mathlib.Core.Bool.{Bool, true, false}
 use native.Mathlib.Omega.{arith}
 use native.Mathlib.Nat.{add-zero}
 use native.Mathlib.Numerals.{add-one}
-use lib.ListN.{length, getD, drop, set, replicate, length-set, length-append, length-take, drop-of-length-le, List·getD-eq-default}
+use lib.ListN.{length, getD, take, drop, set, replicate, length-set, length-append, length-take, drop-of-length-le, List·getD-eq-default}
 use lib.Seq.{getD-set-same, getD-set-other, getD-take, take-suc-set}
 use lib.Dec.{ltb, eqb}
 use borrow.Author.Tests.{eq-eqb, ne-eqb, lt-ltb, le-ltb, le-leb}
@@ -22,8 +22,7 @@ use Rattle.tree.specs.Tree.{levels}
 use Rattle.tree.specs.Reading.{tree, duesOf}
 use Rattle.tree.proofs.Reading.{children-dues, sequence-some, sequence-none}
 use Rattle.rules.specs.Typing.{Due, aTree, aChain, applicationCount, application, argument, numberArgument, Context, there, ofType}
-use Rattle.pairs.specs.declared.Ctx.{Ctx}
-use Rattle.pairs.specs.Views.{contextOf, dueOf, stackOf, Pushed, childrenDue, nodeDue, wordsAt, AreRows}
+use Rattle.pairs.specs.Views.{Known, dueOf, stackOf, Pushed, childrenDue, nodeDue, wordsAt, AreRows}
 
 -- A TEST'S ANSWER
 
@@ -33,21 +32,21 @@ require-passed false n k at c d e = let z : _≡_ {A = ℕ} 0 1 = cc in absurd (
 
 -- VARIABLES
 
-pub context-length : (ctx : Ctx) → length (ctx .types) ≡ 16 → ctx .n ≤ 16 → length (contextOf ctx) ≡ ctx .n
-context-length ctx len few = length-take (ctx .n) (ctx .types) ∙ omega arith
+pub context-length : (ts : Words) (n : ℕ) → Known ts n → length (take n ts) ≡ n
+context-length ts n known = length-take n ts ∙ omega (arith, known)
 
-pub type-absent : (ctx : Ctx) (v : ℕ) {x : ℕ} → x ≡ v → ctx .n ≤ x → 0 ≡ getD (contextOf ctx) v 0
-type-absent ctx v e h = sym (List·getD-eq-default (contextOf ctx) 0 {n = v} (omega (arith, length-take (ctx .n) (ctx .types))))
+pub type-absent : (ts : Words) (n v : ℕ) {x : ℕ} → x ≡ v → n ≤ x → 0 ≡ getD (take n ts) v 0
+type-absent ts n v e h = sym (List·getD-eq-default (take n ts) 0 {n = v} (omega (arith, length-take n ts)))
 
-pub type-there : (ctx : Ctx) (v : ℕ) {x : ℕ} → x ≡ v → x < ctx .n → getD (ctx .types) x 0 ≡ getD (contextOf ctx) v 0
-type-there ctx v {x} e h = rw (← e) (sym (getD-take (ctx .n) (ctx .types) x 0 h))
+pub type-there : (ts : Words) (n v : ℕ) {x : ℕ} → x ≡ v → x < n → getD ts x 0 ≡ getD (take n ts) v 0
+type-there ts n v {x} e h = rw (← e) (sym (getD-take n ts x 0 h))
 
-module _ (ctx : Ctx) (len : length (ctx .types) ≡ 16) (few : ctx .n ≤ 16) (v at : ℕ) {x : ℕ} (e : x ≡ v) where
-  pub there-absent : ctx .n ≤ x → Refused 22 (at + 1) ≡ answer (there (contextOf ctx) v at)
-  there-absent h = rw (context-length ctx len few, le-ltb v (ctx .n) (omega arith))
+module _ (Γ : Context) (v at : ℕ) {n x : ℕ} (len : length Γ ≡ n) (e : x ≡ v) where
+  pub there-absent : n ≤ x → Refused 22 (at + 1) ≡ answer (there Γ v at)
+  there-absent h = rw (le-ltb v (length Γ) (omega (arith, len, e)))
 
-  pub there-there : x < ctx .n → Passed at ≡ answer (there (contextOf ctx) v at)
-  there-there h = rw (context-length ctx len few, lt-ltb v (ctx .n) (omega arith))
+  pub there-there : x < n → Passed at ≡ answer (there Γ v at)
+  there-there h = rw (lt-ltb v (length Γ) (omega (arith, len, e)))
 
 module _ (Γ : Context) (v d at : ℕ) (c : Check) (is : c ≡ answer (there Γ v at)) where
   pub of-type-refused : {n p : ℕ} → c ≡ Refused n p → Refused n p ≡ answer (ofType Γ v d at)
@@ -70,8 +69,8 @@ of-type-passed Γ v d at c is {p} e = go (ltb v (length Γ)) (eqb (getD Γ v 0) 
     go true false i = let z : _≡_ {A = ℕ} 0 1 = cc in absurd (omega arith)
     go false b i = let z : _≡_ {A = ℕ} 0 1 = cc in absurd (omega arith)
 
-pub context-more : (ctx : Ctx) (d : ℕ) → length (ctx .types) ≡ 16 → ctx .n < 16 → (contextOf (record { types = set (ctx .types) (ctx .n) d; n = ctx .n + 1 }) ≡ contextOf ctx ++ d ∷ []) × (ctx .n + 1 ≤ 16)
-context-more ctx d len h = (rw (add-one (ctx .n)) (take-suc-set (ctx .types) (ctx .n) d (omega arith)), omega arith)
+pub context-more : (ts : Words) (n d : ℕ) → length ts ≡ 16 → n < 16 → (take (n + 1) (set ts n d) ≡ take n ts ++ d ∷ []) × (n + 1 ≤ 16)
+context-more ts n d len h = (rw (add-one n) (take-suc-set ts n d (omega arith)), omega arith)
 
 -- THE STACK
 

@@ -4,7 +4,6 @@ use Prim.Native.Nat.{ℕ, zero, suc, _+_, _*_, _≤_, _<_}
 use mathlib.Core.Path.{_≡_}
 use mathlib.Core.List.{List, [], _∷_, _++_, map}
 use mathlib.Core.Bool.{Bool, true, false}
-use mathlib.Core.Option.{none}
 use lib.ListN.{length, getD, take}
 use lib.Dec.{leb, eqb}
 use Rattle.words.specs.Reader.{Words, pick, and, between, Read, value, refused, Reader, _>>=_, _>>_}
@@ -27,6 +26,7 @@ use Rattle.pairs.specs.declared.Place.{Place}
 use Rattle.pairs.specs.declared.Place.the-variants.{Pattern, Replacement, Condition}
 use Rattle.pairs.specs.declared.Ctx.{Ctx}
 use Rattle.pairs.specs.declared.Met.{Met}
+use Rattle.pairs.specs.declared.Met.the-variants.{Bad, Top, New}
 use Rattle.pairs.specs.declared.Typed.{Typed}
 
 abbrev pub placeAs : Place → Typing.Place
@@ -38,6 +38,10 @@ placeAs Condition = inCondition
 abbrev pub contextOf : Ctx → Context
 contextOf c = take (c .n) (c .types)
 
+-- the types of n variables lie in an array with room for 16
+abbrev pub Known : Words → ℕ → Type 0
+Known ts n = (length ts ≡ 16) × (n ≤ 16)
+
 -- THE STACK
 
 -- a due, by its two words on the stack
@@ -45,10 +49,14 @@ unfoldable pub dueOf : ℕ → ℕ → Due
 dueOf a b =
     pick (leb a 65) (aTree (tree a b)) (pick (eqb a 100) aChain (pick (eqb a 101) (applicationCount b) (pick (eqb a 102) (application b) (pick (eqb a 103) (argument b) numberArgument))))
 
+-- the due at a height of the stack
+abbrev pub dueAt : Words → ℕ → Due
+dueAt st k = dueOf (getD st (2 * k) 0) (getD st (2 * k + 1) 0)
+
 -- the stack's dues; the top is the last
 unfoldable pub stackOf : Words → ℕ → List Due
 stackOf st zero = []
-stackOf st (suc k) = dueOf (getD st (2 * k) 0) (getD st (2 * k + 1) 0) ∷ stackOf st k
+stackOf st (suc k) = dueAt st k ∷ stackOf st k
 
 -- the dues stand on top of what the stack held before
 pub record Pushed (st : Words) (sp : ℕ) (st′ : Words) (sp′ : ℕ) (ds : List Due) : Type 0 where
@@ -74,33 +82,28 @@ AreRows rows = (g : Grammar) × Rows g rows
 
 -- WHAT A PAIR, AND WHAT PAIRS LEAVE
 
+-- the reading passes: these variables are there then, and what it makes due stands on the stack, up to the top
+pub record Left (Γ : Context) (st : Words) (sp : ℕ) (st′ : Words) (top : ℕ) (q : Read (Next Due Context)) : Type 0 where
+  pub dues : List Due
+  pub next : ℕ
+  pub read : q ≡ value (record { known = Γ; dues = dues }) next
+  pub pushed : Pushed st sp st′ top dues
+  pub most : top ≤ sp + 8
+
+-- what a pair comes to, where the variables Γ are there, says what its reading is
+abbrev pub Says : Met → Context → Words → ℕ → Words → Read (Next Due Context) → Type 0
+Says (Bad n p) Γ st sp st′ q = q ≡ refused n p
+Says (Top top) Γ st sp st′ q = Left Γ st sp st′ top q
+Says (New d) Γ st sp st′ q = (length Γ < 16) × Left (Γ ++ d ∷ []) st sp st′ sp q
+
+-- .. as a record, so that a law can infer what it is of
+pub record Meets (m : Met) (Γ : Context) (st : Words) (sp : ℕ) (st′ : Words) (q : Read (Next Due Context)) : Type 0 where
+  pub says : Says m Γ st sp st′ q
+
 -- what is known of what was read, if nothing was refused
 abbrev pub IfRead : {A : Type 0} → (A → Type 0) → Read A → Type 0
 IfRead P (value a next) = P a
 IfRead P (refused n p) = Unit {0}
-
--- what a pair leaves that is in order
-pub record Left (m : Met) (st : Words) (sp : ℕ) (st′ : Words) (s : Next Due Context) : Type 0 where
-  pub known : contextOf (m .ctx) ≡ s .known
-  pub few : m .ctx .n ≤ 16
-  pub pushed : Pushed st sp st′ (m .sp) (s .dues)
-  pub most : m .sp ≤ sp + 8
-
--- the pair's answer is that of the reading, and so is what it leaves
-pub record Meets (m : Met) (st : Words) (sp : ℕ) (st′ : Words) (q : Read (Next Due Context)) : Type 0 where
-  pub check : m .check ≡ answer q
-  pub left : IfRead (Left m st sp st′) q
-
--- what a pair leaves that makes nothing due
-pub record Kept (m : Met) (sp : ℕ) (s : Next Due Context) : Type 0 where
-  pub known : contextOf (m .ctx) ≡ s .known
-  pub few : m .ctx .n ≤ 16
-  pub none : s .dues ≡ []
-  pub same : m .sp ≡ sp
-
-pub record Stays (m : Met) (sp : ℕ) (q : Read (Next Due Context)) : Type 0 where
-  pub check : m .check ≡ answer q
-  pub left : IfRead (Kept m sp) q
 
 -- what pairs leave that are in order
 pub record Knows (r : Typed) (Γ : Context) : Type 0 where

@@ -29,11 +29,11 @@ use words::Check;
 ghost use mathlib.Core.Path.{_≡_};
 ghost use mathlib.Core.Bool.{true};
 ghost use mathlib.Core.List.{[], _∷_, _++_, map};
-ghost use Prim.Native.Nat.{_+_, _<_, _≤_, _^_};
-ghost use lib.ListN.{length, getD, replicate};
+ghost use Prim.Native.Nat.{ℕ, _+_, _<_, _≤_, _^_};
+ghost use lib.ListN.{length, getD, take, replicate};
 ghost use lib.Dec.{eqb};
 ghost use Rattle.words.specs.Reader as Reader;
-ghost use Rattle.words.specs.Reader.{accepted, or};
+ghost use Rattle.words.specs.Reader.{Words, accepted, or};
 ghost use Rattle.words.specs.Views.{answer};
 ghost use Rattle.grammar.specs.Grammar.{Grammar};
 ghost use Rattle.grammar.specs.Kinds.{children};
@@ -44,7 +44,7 @@ ghost use Rattle.tree.specs.Views.{InTables, AreTables};
 ghost use Rattle.rules.specs.Layout as Layout;
 ghost use Rattle.rules.specs.Rules.{Rule, Rules};
 ghost use Rattle.rules.specs.Typing as Typing;
-ghost use Rattle.pairs.specs.Views.{placeAs, contextOf, dueOf, Pushed, childrenDue, nodeDue, wordsAt, AreRows, Meets, Stays, TypedAs, Headed, Book, Given, searchesAs, appliesMap, ruleUsable, operationDue, argumentsCounted};
+ghost use Rattle.pairs.specs.Views.{placeAs, contextOf, Known, dueOf, dueAt, Pushed, childrenDue, nodeDue, wordsAt, AreRows, Meets, TypedAs, Headed, Book, Given, searchesAs, appliesMap, ruleUsable, operationDue, argumentsCounted};
 
 pub mod limits;
 
@@ -61,11 +61,11 @@ pub struct Ctx {
     pub n: usize,
 }
 
-// What one pair leaves: what was found, the stack's height and the variables.
-pub struct Met {
-    pub check: Check,
-    pub sp: usize,
-    pub ctx: Ctx,
+// What one pair comes to: a refusal, the stack's height with what the pair makes due on top, or a new variable of a type.
+pub enum Met {
+    Bad(u32, usize),
+    Top(usize),
+    New(u32),
 }
 
 // What a pattern, a replacement, a condition or a part leaves: what was found, and the variables.
@@ -76,43 +76,39 @@ pub struct Typed {
 
 // THE VARIABLES
 
-// The type of variable v; 0 if it is not there.
-pub fn type_of(ctx: Ctx, v: u32) -> u32
-    requires { ⌜ ctx .n ≤ 16 ⌝ }
-    ensures { λ r. ⌜ r ≡ getD (contextOf ctx) v 0 ⌝ }
+// The type of variable v, of the n that are there; 0 if it is not.
+pub fn type_of(known: &[u32; MOST_VARIABLES], n: usize, v: u32) -> u32
+    requires { ⌜ n ≤ 16 ⌝ }
+    ensures { λ r. ⌜ r ≡ getD (take n (now (known .entry))) v 0 ⌝ }
 {
     let x = words::wide(v);
-    let n = ctx.n;
     if n <= x {
         return 0;
     }
-    let types = ctx.types;
-    types[x]
+    known[x]
 }
 
-// Is variable v there?
-fn there(ctx: Ctx, v: u32, at: usize) -> Check
-    requires { ⌜ (ctx .n ≤ 16) × (at < 2 ^ 40) ⌝ }
-    ensures { λ r. ⌜ r ≡ answer (Typing.there (contextOf ctx) v at) ⌝ }
+// Is variable v there, of n?
+fn there(n: usize, v: u32, at: usize) -> Check
+    requires { ⌜ at < 2 ^ 40 ⌝ }
+    ensures { λ r. ⌜ ((Γ : Typing.Context) → length Γ ≡ n → r ≡ answer (Typing.there Γ v at)) ⌝ }
 {
-    let x = words::wide(v);
-    let n = ctx.n;
-    if n <= x {
+    if n <= words::wide(v) {
         return Check::Refused(22, at + 1);
     }
     Check::Passed(at)
 }
 
 // Is variable v there, and of type d?
-fn of_type(ctx: Ctx, v: u32, d: u32, at: usize) -> Check
-    requires { ⌜ (ctx .n ≤ 16) × (at < 2 ^ 40) ⌝ }
-    ensures { λ r. ⌜ r ≡ answer (Typing.ofType (contextOf ctx) v d at) ⌝ }
+fn of_type(known: &[u32; MOST_VARIABLES], n: usize, v: u32, d: u32, at: usize) -> Check
+    requires { ⌜ Known (now known) n × (at < 2 ^ 40) ⌝ }
+    ensures { λ r. ⌜ r ≡ answer (Typing.ofType (take n (now (known .entry))) v d at) ⌝ }
 {
-    let c = there(ctx, v, at);
+    let c = there(n, v, at);
     match c {
         Check::Refused(no, p) => Check::Refused(no, p),
         Check::Passed(p) => {
-            let t = type_of(ctx, v);
+            let t = type_of(known, n, v);
             if t != d {
                 return Check::Refused(23, at + 1);
             }
@@ -250,97 +246,73 @@ fn meet_node(
     nesting: u32,
     d: u32,
     v: u32,
-    ctx: Ctx,
     at: usize,
     st: &mut [u32],
     sp: usize,
 ) -> Met
-    requires { ⌜ AreTables (now heads) (now rows) × (nesting ≤ 64) × (sp < 890) × (at < 2 ^ 40) × (ctx .n ≤ 16) × (length (now st) ≡ 2048) ⌝ }
-    ensures { λ r. ⌜ InTables (now (heads .entry)) (now (rows .entry)) (λ g. Meets r (now (st .entry)) sp (now (st .exit)) (Typing.node g nesting d (contextOf ctx) v at)) ⌝ }
+    requires { ⌜ AreTables (now heads) (now rows) × (nesting ≤ 64) × (sp < 890) × (at < 2 ^ 40) × (length (now st) ≡ 2048) ⌝ }
+    ensures { λ r. ⌜ InTables (now (heads .entry)) (now (rows .entry)) (λ g. (Γ : Typing.Context) → Meets r Γ (now (st .entry)) sp (now (st .exit)) (Typing.node g nesting d Γ v at)) ⌝ }
 {
     let ok = tables::is_allowed(heads, d, v);
     if !ok {
-        return Met {
-            check: Check::Refused(23, at + 1),
-            sp,
-            ctx,
-        };
+        return Met::Bad(23, at + 1);
     }
     let top = push_children(heads, rows, d, v, nesting, st, sp);
-    Met {
-        check: Check::Passed(at + 2),
-        sp: top,
-        ctx,
-    }
+    Met::Top(top)
 }
 
 // A new variable (64, v).
-fn meet_new(d: u32, v: u32, ctx: Ctx, at: usize, sp: usize) -> Met
-    requires { ⌜ (at < 2 ^ 40) × (ctx .n ≤ 16) ⌝ }
-    ensures { λ r. ⌜ Stays r sp (Typing.newVariable d (contextOf ctx) v at) ⌝ }
+fn meet_new(d: u32, v: u32, n: usize, at: usize) -> Met
+    requires { ⌜ at < 2 ^ 40 ⌝ }
+    ensures { λ r. ⌜ ((Γ : Typing.Context) → length Γ ≡ n → (st : Words) (sp : ℕ) → Meets r Γ st sp st (Typing.newVariable d Γ v at)) ⌝ }
 {
     if v != d {
-        return Met {
-            check: Check::Refused(23, at + 1),
-            sp,
-            ctx,
-        };
+        return Met::Bad(23, at + 1);
     }
-    let n = ctx.n;
     if MOST_VARIABLES <= n {
-        return Met {
-            check: Check::Refused(24, at + 1),
-            sp,
-            ctx,
-        };
+        return Met::Bad(24, at + 1);
     }
-    let next = extended(ctx, d);
-    Met {
-        check: Check::Passed(at + 2),
-        sp,
-        ctx: next,
-    }
+    Met::New(d)
 }
 
 // A variable (65, v).
-fn meet_variable(d: u32, v: u32, ctx: Ctx, at: usize, sp: usize) -> Met
-    requires { ⌜ (at < 2 ^ 40) × (ctx .n ≤ 16) ⌝ }
-    ensures { λ r. ⌜ Stays r sp (Typing.variable d (contextOf ctx) v at) ⌝ }
+fn meet_variable(
+    d: u32,
+    v: u32,
+    known: &[u32; MOST_VARIABLES],
+    n: usize,
+    at: usize,
+    sp: usize,
+) -> Met
+    requires { ⌜ Known (now known) n × (at < 2 ^ 40) ⌝ }
+    ensures { λ r. ⌜ ((st : Words) → Meets r (take n (now (known .entry))) st sp st (Typing.variable d (take n (now (known .entry))) v at)) ⌝ }
 {
-    let c = of_type(ctx, v, d, at);
+    let c = of_type(known, n, v, d, at);
     match c {
-        Check::Refused(no, p) => Met {
-            check: Check::Refused(no, p),
-            sp,
-            ctx,
-        },
-        Check::Passed(p) => Met {
-            check: Check::Passed(at + 2),
-            sp,
-            ctx,
-        },
+        Check::Refused(no, p) => Met::Bad(no, p),
+        Check::Passed(p) => Met::Top(sp),
     }
 }
 
 // A chain (66, v) in a replacement.
-fn meet_chain(d: u32, v: u32, ctx: Ctx, at: usize, st: &mut [u32], sp: usize) -> Met
-    requires { ⌜ (sp < 890) × (at < 2 ^ 40) × (ctx .n ≤ 16) × (length (now st) ≡ 2048) ⌝ }
-    ensures { λ r. ⌜ Meets r (now (st .entry)) sp (now (st .exit)) (Typing.chain d (contextOf ctx) v at) ⌝ }
+fn meet_chain(
+    d: u32,
+    v: u32,
+    known: &[u32; MOST_VARIABLES],
+    n: usize,
+    at: usize,
+    st: &mut [u32],
+    sp: usize,
+) -> Met
+    requires { ⌜ Known (now known) n × (sp < 890) × (at < 2 ^ 40) × (length (now st) ≡ 2048) ⌝ }
+    ensures { λ r. ⌜ Meets r (take n (now (known .entry))) (now (st .entry)) sp (now (st .exit)) (Typing.chain d (take n (now (known .entry))) v at) ⌝ }
 {
-    let c = of_type(ctx, v, d, at);
+    let c = of_type(known, n, v, d, at);
     match c {
-        Check::Refused(no, p) => Met {
-            check: Check::Refused(no, p),
-            sp,
-            ctx,
-        },
+        Check::Refused(no, p) => Met::Bad(no, p),
         Check::Passed(p) => {
             push(st, sp, DUE_COUNT, d);
-            Met {
-                check: Check::Passed(at + 2),
-                sp: sp + 1,
-                ctx,
-            }
+            Met::Top(sp + 1)
         }
     }
 }
@@ -354,157 +326,126 @@ fn meet_tree(
     d: u32,
     t: u32,
     v: u32,
-    ctx: Ctx,
+    known: &[u32; MOST_VARIABLES],
+    n: usize,
     at: usize,
     st: &mut [u32],
     sp: usize,
 ) -> Met
-    requires { ⌜ AreTables (now heads) (now rows) × (sp < 890) × (at < 2 ^ 40) × (ctx .n ≤ 16) × (length (now st) ≡ 2048) ⌝ }
-    ensures { λ r. ⌜ InTables (now (heads .entry)) (now (rows .entry)) (λ g. (rules : Rules) → Meets r (now (st .entry)) sp (now (st .exit)) (Typing.meets g rules (placeAs here) (Typing.aTree (tree nesting d)) (contextOf ctx) t v at)) ⌝ }
+    requires { ⌜ AreTables (now heads) (now rows) × Known (now known) n × (sp < 890) × (at < 2 ^ 40) × (length (now st) ≡ 2048) ⌝ }
+    ensures { λ r. ⌜ InTables (now (heads .entry)) (now (rows .entry)) (λ g. (rules : Rules) → Meets r (take n (now (known .entry))) (now (st .entry)) sp (now (st .exit)) (Typing.meets g rules (placeAs here) (Typing.aTree (tree nesting d)) (take n (now (known .entry))) t v at)) ⌝ }
 {
     let ok = may_stand(here, d, t);
     if !ok {
-        return Met {
-            check: Check::Refused(23, at),
-            sp,
-            ctx,
-        };
+        return Met::Bad(23, at);
     }
     if MOST_NESTING < nesting {
-        return Met {
-            check: Check::Refused(24, at),
-            sp,
-            ctx,
-        };
+        return Met::Bad(24, at);
     }
     if t == d {
-        return meet_node(heads, rows, nesting, d, v, ctx, at, st, sp);
+        return meet_node(heads, rows, nesting, d, v, at, st, sp);
     }
     if t == MARK_NEW {
-        return meet_new(d, v, ctx, at, sp);
+        return meet_new(d, v, n, at);
     }
     if t == MARK_VARIABLE {
-        return meet_variable(d, v, ctx, at, sp);
+        return meet_variable(d, v, known, n, at, sp);
     }
-    meet_chain(d, v, ctx, at, st, sp)
+    meet_chain(d, v, known, n, at, st, sp)
 }
 
 // THE PAIRS OF A CHAIN
 
 // The first pair of a condition's chain.
-fn meet_start(t: u32, v: u32, ctx: Ctx, at: usize, st: &mut [u32], sp: usize) -> Met
-    requires { ⌜ (sp < 890) × (at < 2 ^ 40) × (ctx .n ≤ 16) × (length (now st) ≡ 2048) ⌝ }
-    ensures { λ r. ⌜ ((g : Grammar) (rules : Rules) (here : Typing.Place) → Meets r (now (st .entry)) sp (now (st .exit)) (Typing.meets g rules here Typing.aChain (contextOf ctx) t v at)) ⌝ }
+fn meet_start(
+    t: u32,
+    v: u32,
+    known: &[u32; MOST_VARIABLES],
+    n: usize,
+    at: usize,
+    st: &mut [u32],
+    sp: usize,
+) -> Met
+    requires { ⌜ Known (now known) n × (sp < 890) × (at < 2 ^ 40) × (length (now st) ≡ 2048) ⌝ }
+    ensures { λ r. ⌜ ((g : Grammar) (rules : Rules) (here : Typing.Place) → Meets r (take n (now (known .entry))) (now (st .entry)) sp (now (st .exit)) (Typing.meets g rules here Typing.aChain (take n (now (known .entry))) t v at)) ⌝ }
 {
     if t != MARK_CHAIN {
-        return Met {
-            check: Check::Refused(23, at),
-            sp,
-            ctx,
-        };
+        return Met::Bad(23, at);
     }
-    let c = there(ctx, v, at);
+    let c = there(n, v, at);
     match c {
-        Check::Refused(no, p) => Met {
-            check: Check::Refused(no, p),
-            sp,
-            ctx,
-        },
+        Check::Refused(no, p) => Met::Bad(no, p),
         Check::Passed(p) => {
-            let s = type_of(ctx, v);
+            let s = type_of(known, n, v);
             push(st, sp, DUE_COUNT, s);
-            Met {
-                check: Check::Passed(at + 2),
-                sp: sp + 1,
-                ctx,
-            }
+            Met::Top(sp + 1)
         }
     }
 }
 
 // A chain's count of applications, (K, 0).
-fn meet_count(s: u32, t: u32, v: u32, ctx: Ctx, at: usize, st: &mut [u32], sp: usize) -> Met
-    requires { ⌜ (sp < 890) × (at < 2 ^ 40) × (ctx .n ≤ 16) × (length (now st) ≡ 2048) ⌝ }
-    ensures { λ r. ⌜ ((g : Grammar) (rules : Rules) (here : Typing.Place) → Meets r (now (st .entry)) sp (now (st .exit)) (Typing.meets g rules here (Typing.applicationCount s) (contextOf ctx) t v at)) ⌝ }
+fn meet_count(s: u32, t: u32, v: u32, at: usize, st: &mut [u32], sp: usize) -> Met
+    requires { ⌜ (sp < 890) × (at < 2 ^ 40) × (length (now st) ≡ 2048) ⌝ }
+    ensures { λ r. ⌜ ((g : Grammar) (rules : Rules) (here : Typing.Place) (Γ : Typing.Context) → Meets r Γ (now (st .entry)) sp (now (st .exit)) (Typing.meets g rules here (Typing.applicationCount s) Γ t v at)) ⌝ }
 {
     if t < 1 {
-        return Met {
-            check: Check::Refused(23, at),
-            sp,
-            ctx,
-        };
+        return Met::Bad(23, at);
     }
     if MOST_APPLICATIONS < t {
-        return Met {
-            check: Check::Refused(23, at),
-            sp,
-            ctx,
-        };
+        return Met::Bad(23, at);
     }
     if v != 0 {
-        return Met {
-            check: Check::Refused(23, at + 1),
-            sp,
-            ctx,
-        };
+        return Met::Bad(23, at + 1);
     }
     let top = push_applications(t, s, st, sp);
-    Met {
-        check: Check::Passed(at + 2),
-        sp: top,
-        ctx,
-    }
+    Met::Top(top)
 }
 
 // An argument of type d.
-fn meet_argument(d: u32, t: u32, v: u32, ctx: Ctx, at: usize, sp: usize) -> Met
-    requires { ⌜ (at < 2 ^ 40) × (ctx .n ≤ 16) ⌝ }
-    ensures { λ r. ⌜ ((g : Grammar) (rules : Rules) (here : Typing.Place) → Stays r sp (Typing.meets g rules here (Typing.argument d) (contextOf ctx) t v at)) ⌝ }
+fn meet_argument(
+    d: u32,
+    t: u32,
+    v: u32,
+    known: &[u32; MOST_VARIABLES],
+    n: usize,
+    at: usize,
+    sp: usize,
+) -> Met
+    requires { ⌜ Known (now known) n × (at < 2 ^ 40) ⌝ }
+    ensures { λ r. ⌜ ((g : Grammar) (rules : Rules) (here : Typing.Place) (st : Words) → Meets r (take n (now (known .entry))) st sp st (Typing.meets g rules here (Typing.argument d) (take n (now (known .entry))) t v at)) ⌝ }
 {
     if t != MARK_VARIABLE {
-        return Met {
-            check: Check::Refused(23, at),
-            sp,
-            ctx,
-        };
+        return Met::Bad(23, at);
     }
-    meet_variable(d, v, ctx, at, sp)
+    meet_variable(d, v, known, n, at, sp)
 }
 
 // An argument that is a number token.
-fn meet_number(heads: &[u32; HEADS], t: u32, v: u32, ctx: Ctx, at: usize, sp: usize) -> Met
-    requires { ⌜ (at < 2 ^ 40) × (ctx .n ≤ 16) ⌝ }
-    ensures { λ r. ⌜ InHeads (now (heads .entry)) (λ g. (rules : Rules) (here : Typing.Place) → Stays r sp (Typing.meets g rules here Typing.numberArgument (contextOf ctx) t v at)) ⌝ }
+fn meet_number(
+    heads: &[u32; HEADS],
+    t: u32,
+    v: u32,
+    known: &[u32; MOST_VARIABLES],
+    n: usize,
+    at: usize,
+    sp: usize,
+) -> Met
+    requires { ⌜ Known (now known) n × (at < 2 ^ 40) ⌝ }
+    ensures { λ r. ⌜ InHeads (now (heads .entry)) (λ g. (rules : Rules) (here : Typing.Place) (st : Words) → Meets r (take n (now (known .entry))) st sp st (Typing.meets g rules here Typing.numberArgument (take n (now (known .entry))) t v at)) ⌝ }
 {
     if t != MARK_VARIABLE {
-        return Met {
-            check: Check::Refused(23, at),
-            sp,
-            ctx,
-        };
+        return Met::Bad(23, at);
     }
-    let c = there(ctx, v, at);
+    let c = there(n, v, at);
     match c {
-        Check::Refused(no, p) => Met {
-            check: Check::Refused(no, p),
-            sp,
-            ctx,
-        },
+        Check::Refused(no, p) => Met::Bad(no, p),
         Check::Passed(p) => {
-            let s = type_of(ctx, v);
+            let s = type_of(known, n, v);
             let ok = tables::is_number(heads, s);
             if !ok {
-                return Met {
-                    check: Check::Refused(23, at + 1),
-                    sp,
-                    ctx,
-                };
+                return Met::Bad(23, at + 1);
             }
-            Met {
-                check: Check::Passed(at + 2),
-                sp,
-                ctx,
-            }
+            Met::Top(sp)
         }
     }
 }
@@ -621,73 +562,44 @@ fn meet_rule(
     starts: &[usize; STARTS],
     t: u32,
     v: u32,
-    ctx: Ctx,
     at: usize,
     st: &mut [u32],
     sp: usize,
 ) -> Met
-    requires { ⌜ (1 ≤ types) × (t < 64) × (length (now ws) < 2 ^ 32) × (sp < 890) × (at < 2 ^ 40) × (ctx .n ≤ 16) × (length (now st) ≡ 2048) ⌝ }
-    ensures { λ r. ⌜ ((rule : Rule) → Headed types (now (ws .entry)) (getD (now (starts .entry)) t 0) rule → Meets r (now (st .entry)) sp (now (st .exit)) (argumentsCounted (map Typing.argument (rule .parameters)) (contextOf ctx) v at)) ⌝ }
+    requires { ⌜ (1 ≤ types) × (t < 64) × (length (now ws) < 2 ^ 32) × (sp < 890) × (at < 2 ^ 40) × (length (now st) ≡ 2048) ⌝ }
+    ensures { λ r. ⌜ ((rule : Rule) → Headed types (now (ws .entry)) (getD (now (starts .entry)) t 0) rule → (Γ : Typing.Context) → Meets r Γ (now (st .entry)) sp (now (st .exit)) (argumentsCounted (map Typing.argument (rule .parameters)) Γ v at)) ⌝ }
 {
     let start = start_of(starts, t);
     let h = rules::read_head(types, ws, start);
     match h {
-        HeadRead::NoHead(no, p) => Met {
-            check: Check::Refused(no, p),
-            sp,
-            ctx,
-        },
+        HeadRead::NoHead(no, p) => Met::Bad(no, p),
         HeadRead::Header(head) => {
             if v != head.count {
-                return Met {
-                    check: Check::Refused(22, at + 1),
-                    sp,
-                    ctx,
-                };
+                return Met::Bad(22, at + 1);
             }
             let top = push_arguments(ws, head.parameters, head.count, st, sp);
-            Met {
-                check: Check::Passed(at + 2),
-                sp: top,
-                ctx,
-            }
+            Met::Top(top)
         }
     }
 }
 
 // The pair of an operation that is usable.
-fn meet_operation(t: u32, v: u32, ctx: Ctx, at: usize, st: &mut [u32], sp: usize) -> Met
-    requires { ⌜ (sp < 890) × (at < 2 ^ 40) × (ctx .n ≤ 16) × (length (now st) ≡ 2048) ⌝ }
-    ensures { λ r. ⌜ Meets r (now (st .entry)) sp (now (st .exit)) (argumentsCounted (operationDue t) (contextOf ctx) v at) ⌝ }
+fn meet_operation(t: u32, v: u32, at: usize, st: &mut [u32], sp: usize) -> Met
+    requires { ⌜ (sp < 890) × (at < 2 ^ 40) × (length (now st) ≡ 2048) ⌝ }
+    ensures { λ r. ⌜ ((Γ : Typing.Context) → Meets r Γ (now (st .entry)) sp (now (st .exit)) (argumentsCounted (operationDue t) Γ v at)) ⌝ }
 {
     let bare = between(FIRST_BARE, LAST_OPERATION, t);
     if bare {
         if v != 0 {
-            return Met {
-                check: Check::Refused(22, at + 1),
-                sp,
-                ctx,
-            };
+            return Met::Bad(22, at + 1);
         }
-        return Met {
-            check: Check::Passed(at + 2),
-            sp,
-            ctx,
-        };
+        return Met::Top(sp);
     }
     if v != 1 {
-        return Met {
-            check: Check::Refused(22, at + 1),
-            sp,
-            ctx,
-        };
+        return Met::Bad(22, at + 1);
     }
     push(st, sp, DUE_NUMBER, 0);
-    Met {
-        check: Check::Passed(at + 2),
-        sp: sp + 1,
-        ctx,
-    }
+    Met::Top(sp + 1)
 }
 
 // An application of t, with v arguments, to a scope of type s.
@@ -700,27 +612,22 @@ fn meet_application(
     s: u32,
     t: u32,
     v: u32,
-    ctx: Ctx,
     at: usize,
     st: &mut [u32],
     sp: usize,
 ) -> Met
-    requires { ⌜ (1 ≤ types) × (getD (now ws) 0 0 ≤ 64) × (length (now ws) < 2 ^ 32) × (sp < 890) × (at < 2 ^ 40) × (ctx .n ≤ 16) × (length (now st) ≡ 2048) ⌝ }
-    ensures { λ r. ⌜ InHeads (now (heads .entry)) (λ g. (rules : Rules) → Book types (now (ws .entry)) (now (starts .entry)) rules → Meets r (now (st .entry)) sp (now (st .exit)) (Typing.meets g rules (placeAs here) (Typing.application s) (contextOf ctx) t v at)) ⌝ }
+    requires { ⌜ (1 ≤ types) × (getD (now ws) 0 0 ≤ 64) × (length (now ws) < 2 ^ 32) × (sp < 890) × (at < 2 ^ 40) × (length (now st) ≡ 2048) ⌝ }
+    ensures { λ r. ⌜ InHeads (now (heads .entry)) (λ g. (rules : Rules) → Book types (now (ws .entry)) (now (starts .entry)) rules → (Γ : Typing.Context) → Meets r Γ (now (st .entry)) sp (now (st .exit)) (Typing.meets g rules (placeAs here) (Typing.application s) Γ t v at)) ⌝ }
 {
     let ok = usable(here, heads, types, ws, starts, s, t);
     if !ok {
-        return Met {
-            check: Check::Refused(22, at),
-            sp,
-            ctx,
-        };
+        return Met::Bad(22, at);
     }
     let n = words::word(ws, 0);
     if t < n {
-        return meet_rule(types, ws, starts, t, v, ctx, at, st, sp);
+        return meet_rule(types, ws, starts, t, v, at, st, sp);
     }
-    meet_operation(t, v, ctx, at, st, sp)
+    meet_operation(t, v, at, st, sp)
 }
 
 // ALL THE PAIRS
@@ -736,30 +643,31 @@ fn meet_link(
     b: u32,
     t: u32,
     v: u32,
-    ctx: Ctx,
+    known: &[u32; MOST_VARIABLES],
+    n: usize,
     at: usize,
     st: &mut [u32],
     sp: usize,
 ) -> Met
-    requires { ⌜ (1 ≤ types) × (getD (now ws) 0 0 ≤ 64) × (length (now ws) < 2 ^ 32) × (65 < a) × (sp < 890) × (at < 2 ^ 40) × (ctx .n ≤ 16) × (length (now st) ≡ 2048) ⌝ }
-    ensures { λ r. ⌜ InHeads (now (heads .entry)) (λ g. (rules : Rules) → Book types (now (ws .entry)) (now (starts .entry)) rules → Meets r (now (st .entry)) sp (now (st .exit)) (Typing.meets g rules (placeAs here) (dueOf a b) (contextOf ctx) t v at)) ⌝ }
+    requires { ⌜ (1 ≤ types) × (getD (now ws) 0 0 ≤ 64) × (length (now ws) < 2 ^ 32) × (65 < a) × Known (now known) n × (sp < 890) × (at < 2 ^ 40) × (length (now st) ≡ 2048) ⌝ }
+    ensures { λ r. ⌜ InHeads (now (heads .entry)) (λ g. (rules : Rules) → Book types (now (ws .entry)) (now (starts .entry)) rules → Meets r (take n (now (known .entry))) (now (st .entry)) sp (now (st .exit)) (Typing.meets g rules (placeAs here) (dueOf a b) (take n (now (known .entry))) t v at)) ⌝ }
 {
     if a == DUE_CHAIN {
-        return meet_start(t, v, ctx, at, st, sp);
+        return meet_start(t, v, known, n, at, st, sp);
     }
     if a == DUE_COUNT {
-        return meet_count(b, t, v, ctx, at, st, sp);
+        return meet_count(b, t, v, at, st, sp);
     }
     if a == DUE_APPLICATION {
-        return meet_application(here, heads, types, ws, starts, b, t, v, ctx, at, st, sp);
+        return meet_application(here, heads, types, ws, starts, b, t, v, at, st, sp);
     }
     if a == DUE_ARGUMENT {
-        return meet_argument(b, t, v, ctx, at, sp);
+        return meet_argument(b, t, v, known, n, at, sp);
     }
-    meet_number(heads, t, v, ctx, at, sp)
+    meet_number(heads, t, v, known, n, at, sp)
 }
 
-// A pair (t, v) where the due (a, b) of the stack is to be met.
+// A pair (t, v) where the due at the height sp of the stack is to be met.
 fn meet(
     here: Place,
     heads: &[u32; HEADS],
@@ -767,25 +675,42 @@ fn meet(
     types: u32,
     ws: &[u32],
     starts: &[usize; STARTS],
-    a: u32,
-    b: u32,
     t: u32,
     v: u32,
-    ctx: Ctx,
+    known: &[u32; MOST_VARIABLES],
+    n: usize,
     at: usize,
     st: &mut [u32],
     sp: usize,
 ) -> Met
-    requires { ⌜ AreTables (now heads) (now rows) × (1 ≤ types) × (getD (now ws) 0 0 ≤ 64) × (length (now ws) < 2 ^ 32) × (sp < 890) × (at < 2 ^ 40) × (ctx .n ≤ 16) × (length (now st) ≡ 2048) ⌝ }
-    ensures { λ r. ⌜ InTables (now (heads .entry)) (now (rows .entry)) (λ g. (rules : Rules) → Book types (now (ws .entry)) (now (starts .entry)) rules → Meets r (now (st .entry)) sp (now (st .exit)) (Typing.meets g rules (placeAs here) (dueOf a b) (contextOf ctx) t v at)) ⌝ }
+    requires { ⌜ AreTables (now heads) (now rows) × (1 ≤ types) × (getD (now ws) 0 0 ≤ 64) × (length (now ws) < 2 ^ 32) × Known (now known) n × (sp < 890) × (at < 2 ^ 40) × (length (now st) ≡ 2048) ⌝ }
+    ensures { λ r. ⌜ InTables (now (heads .entry)) (now (rows .entry)) (λ g. (rules : Rules) → Book types (now (ws .entry)) (now (starts .entry)) rules → Meets r (take n (now (known .entry))) (now (st .entry)) sp (now (st .exit)) (Typing.meets g rules (placeAs here) (dueAt (now (st .entry)) sp) (take n (now (known .entry))) t v at)) ⌝ }
 {
+    let a = st[2 * sp];
+    let b = st[2 * sp + 1];
     if a <= LAST_TREE {
-        return meet_tree(here, heads, rows, a, b, t, v, ctx, at, st, sp);
+        return meet_tree(here, heads, rows, a, b, t, v, known, n, at, st, sp);
     }
-    meet_link(here, heads, types, ws, starts, a, b, t, v, ctx, at, st, sp)
+    meet_link(
+        here,
+        heads,
+        types,
+        ws,
+        starts,
+        a,
+        b,
+        t,
+        v,
+        known,
+        n,
+        at,
+        st,
+        sp,
+    )
 }
 
-// The pairs ps, which begin at `start`, against the due (a, b): one loop over the stack of what is due.
+// The pairs ps, which begin at `start`, against the due (a, b): one loop over the stack of what is due. The variables stay here and are lent: to copy them for
+// each pair took most of the time.
 fn pairs_typed(
     here: Place,
     heads: &[u32; HEADS],
@@ -806,19 +731,16 @@ fn pairs_typed(
     push(st, 0, a, b);
     let mut sp: usize = 1;
     let mut i: usize = 0;
-    let mut known = ctx;
+    let mut known = ctx.types;
+    let mut n = ctx.n;
     while 0 < sp {
         if ps.len() - i < 2 {
             return Typed {
                 check: Check::Refused(23, start + ps.len()),
-                ctx: known,
+                ctx,
             };
         }
-        let t = ps[i];
-        let v = ps[i + 1];
         let top = sp - 1;
-        let c = st[2 * top];
-        let d = st[2 * top + 1];
         let m = meet(
             here,
             heads,
@@ -826,27 +748,29 @@ fn pairs_typed(
             types,
             ws,
             starts,
-            c,
-            d,
-            t,
-            v,
-            known,
+            ps[i],
+            ps[i + 1],
+            &known,
+            n,
             start + i,
             st,
             top,
         );
-        let check = m.check;
-        match check {
-            Check::Refused(no, p) => {
+        match m {
+            Met::Bad(no, p) => {
                 return Typed {
                     check: Check::Refused(no, p),
-                    ctx: known,
+                    ctx,
                 };
             }
-            Check::Passed(p) => {
-                sp = m.sp;
-                let next = m.ctx;
-                known = next;
+            Met::Top(h) => {
+                sp = h;
+                i = i + 2;
+            }
+            Met::New(d) => {
+                known[n] = d;
+                n = n + 1;
+                sp = top;
                 i = i + 2;
             }
         }
@@ -854,12 +778,12 @@ fn pairs_typed(
     if i < ps.len() {
         return Typed {
             check: Check::Refused(23, start + i),
-            ctx: known,
+            ctx,
         };
     }
     Typed {
         check: Check::Passed(start + i),
-        ctx: known,
+        ctx: Ctx { types: known, n },
     }
 }
 

@@ -46,7 +46,7 @@ use Rattle.typing.proofs.Places.{RuleAt, rule-shape, rule-replacement}
 module _ (g : Grammar) (rules : Rules) (ws : Words) (s p at : ℕ) (ctx : Ctx) (len : length (ctx .types) ≡ 16) (few : ctx .n ≤ 16) where
   pub construct-full : 16 ≤ ctx .n → TypedAs (record { check = Refused 24 at; ctx = ctx }) (partTyped g rules ws (constructAt s p) (contextOf ctx) at)
   unfolding partTyped
-  construct-full h = rw (context-length ctx len few, le-ltb (ctx .n) 16 h, add-zero at) (record { check = refl; left = tt })
+  construct-full h = rw (context-length (ctx .types) (ctx .n) (len, few), le-ltb (ctx .n) 16 h, add-zero at) (record { check = refl; left = tt })
 
   module _ (room : ctx .n < 16) (r : Typed) (t : TypedAs r (typed g rules ws inReplacement (dueOf 1 s) (contextOf ctx) p)) where
     replaced : TypedAs r (typed g rules ws inReplacement (aTree (tree 1 s)) (contextOf ctx) p)
@@ -56,14 +56,14 @@ module _ (g : Grammar) (rules : Rules) (ws : Words) (s p at : ℕ) (ctx : Ctx) (
     unfolding partTyped
     construct-refused f =
         let e = answer-refused (typed g rules ws inReplacement (aTree (tree 1 s)) (contextOf ctx) p) (r .check) (replaced .check) f in
-        rw (context-length ctx len few, lt-ltb (ctx .n) 16 room, e) (record { check = refl; left = tt })
+        rw (context-length (ctx .types) (ctx .n) (len, few), lt-ltb (ctx .n) 16 room, e) (record { check = refl; left = tt })
 
     pub construct-there : {next : ℕ} {ctx′ : Ctx} → r .check ≡ Passed next → (contextOf ctx′ ≡ contextOf ctx ++ s ∷ []) × (ctx′ .n ≤ 16)
         → TypedAs (record { check = Passed next; ctx = ctx′ }) (partTyped g rules ws (constructAt s p) (contextOf ctx) at)
     unfolding partTyped
     construct-there f k =
         let e = answer-passed (typed g rules ws inReplacement (aTree (tree 1 s)) (contextOf ctx) p) (r .check) (replaced .check) f in
-        rw (context-length ctx len few, lt-ltb (ctx .n) 16 room, e .1) (record { check = refl; left = record { known = k .0; few = k .1 } })
+        rw (context-length (ctx .types) (ctx .n) (len, few), lt-ltb (ctx .n) 16 room, e .1) (record { check = refl; left = record { known = k .0; few = k .1 } })
 
 module _ (g : Grammar) (rules : Rules) (ws : Words) (at : ℕ) (ctx : Ctx) where
   absent : (o : Option ℕ) (x p : ℕ) → length (contextOf ctx) ≤ getD ws x 0 → TypedAs (record { check = Refused 22 x; ctx = ctx }) (partTyped g rules ws (deconstructAt o x p) (contextOf ctx) at)
@@ -81,14 +81,14 @@ module _ (g : Grammar) (rules : Rules) (ws : Words) (at : ℕ) (ctx : Ctx) where
 
   module _ (len : length (ctx .types) ≡ 16) (few : ctx .n ≤ 16) (d : Taken) {v w : ℕ} (ev : v ≡ getD ws (d .variable) 0) (ew : w ≡ v) where
     pub deconstruct-absent : ctx .n ≤ w → TypedAs (record { check = Refused 22 (d .variable); ctx = ctx }) (partTyped g rules ws (deconstructOf d) (contextOf ctx) at)
-    deconstruct-absent h = absent (searchedType (d .searches) (d .searched)) (d .variable) (d .pattern) (omega (arith, context-length ctx len few))
+    deconstruct-absent h = absent (searchedType (d .searches) (d .searched)) (d .variable) (d .pattern) (omega (arith, context-length (ctx .types) (ctx .n) (len, few)))
 
     module _ (h : w < ctx .n) {r : Typed} where
       pub deconstruct-searched : d .searches ≡ true → TypedAs r (typed g rules ws inPattern (dueOf 1 (d .searched)) (contextOf ctx) (d .pattern)) → TypedAs r (partTyped g rules ws (deconstructOf d) (contextOf ctx) at)
-      deconstruct-searched b t = rw b (there-searched (d .searched) (d .variable) (d .pattern) (omega (arith, context-length ctx len few)) (rw (tree-due 1 (d .searched) (omega arith)) at t))
+      deconstruct-searched b t = rw b (there-searched (d .searched) (d .variable) (d .pattern) (omega (arith, context-length (ctx .types) (ctx .n) (len, few))) (rw (tree-due 1 (d .searched) (omega arith)) at t))
 
       pub deconstruct-own : {t : ℕ} → d .searches ≡ false → t ≡ getD (contextOf ctx) v 0 → TypedAs r (typed g rules ws inPattern (dueOf 1 t) (contextOf ctx) (d .pattern)) → TypedAs r (partTyped g rules ws (deconstructOf d) (contextOf ctx) at)
-      deconstruct-own {t} b e k = rw b (there-own (d .variable) (d .pattern) (omega (arith, context-length ctx len few)) (rw (← ev, ← e) (rw (tree-due 1 t (omega arith)) at k)))
+      deconstruct-own {t} b e k = rw b (there-own (d .variable) (d .pattern) (omega (arith, context-length (ctx .types) (ctx .n) (len, few))) (rw (← ev, ← e) (rw (tree-due 1 t (omega arith)) at k)))
 
 -- what the reader of a part tells
 as-taken : (a : PartAt) (d : Taken) → partAs a ≡ Deconstruct d → a ≡ deconstructOf d

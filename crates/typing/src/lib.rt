@@ -72,7 +72,8 @@ fn deconstruct_typed(
             st,
         );
     }
-    let d = pairs::type_of(ctx, v);
+    let known = ctx.types;
+    let d = pairs::type_of(&known, n, v);
     pairs::stretch_typed(
         Place::Pattern,
         heads,

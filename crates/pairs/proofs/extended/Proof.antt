@@ -16,7 +16,7 @@ add-t5 : tie.Need-add-t5
 add-t5 c = search needs
 
 returns : tie.Need-returns
-returns c = let len : length (c .before .args .ctx .types) ≡ 16 = search needs in context-more (c .before .args .ctx) (c .before .args .d) len (c .before .pre)
+returns c = let len : length (c .before .args .ctx .types) ≡ 16 = search needs in context-more (c .before .args .ctx .types) (c .before .args .ctx .n) (c .before .args .d) len (c .before .pre)
 
 pub extended-spec : {M : Type 1} → statement M
 extended-spec = tie.close (tie.spec mul-types array-write-types add-t5 returns)

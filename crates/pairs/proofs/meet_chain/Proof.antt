@@ -1,5 +1,6 @@
 -- `pairs::meet_chain` meets its contract. Assumes nothing.
 use borrow.Author.Needs.{needs}
+use lib.ListN.{take}
 use Rattle.pairs.proofs.Pairs.{chain-refused, chain-met}
 use Rattle.pairs.proofs.meet_chain.Statement.{statement}
 use Rattle.pairs.proofs.meet_chain.Tie as tie
@@ -19,17 +20,14 @@ push-requires c κs = search needs
 add-t16 : tie.Need-add-t16
 add-t16 c = search needs
 
-add-t18 : tie.Need-add-t18
-add-t18 c = search needs
-
 returns : tie.Need-returns
-returns c = chain-refused (c .before .before .before .before .before .args .d) (c .before .before .before .before .before .args .v) (c .before .before .before .before .before .args .at) (c .before .before .before .before .before .args .sp) (c .before .before .before .before .before .args .ctx) _ (c .before .before .before .of-type .ensures) (c .before .before .before .before .before .args .st .now) (c .before .c .given .1)
+returns c = chain-refused (c .before .before .before .before .before .args .d) (c .before .before .before .before .before .args .v) (c .before .before .before .before .before .args .at) (c .before .before .before .before .before .args .sp) (c .before .before .before .before .before .args .st .now) (take (c .before .before .before .before .before .args .n) (c .before .before .before .before .before .args .known .now)) _ (c .before .before .before .of-type .ensures) (c .before .c .given .1)
 
 same-length : tie.Need-same-length
 same-length c = search needs
 
 returns-2 : tie.Need-returns-2
-returns-2 c = chain-met (c .before .before .before .before .before .before .before .before .before .args .d) (c .before .before .before .before .before .before .before .before .before .args .v) (c .before .before .before .before .before .before .before .before .before .args .at) (c .before .before .before .before .before .before .before .before .before .args .sp) (c .before .before .before .before .before .before .before .before .before .args .ctx) _ (c .before .before .before .before .before .before .before .of-type .ensures) (c .before .before .before .before .before .c2 .given .1) (c .before .before .before .before .before .before .before .before .before .pre .2) (c .before .before .push .ensures)
+returns-2 c = chain-met (c .before .before .before .before .before .before .before .before .before .args .d) (c .before .before .before .before .before .before .before .before .before .args .v) (c .before .before .before .before .before .before .before .before .before .args .at) (c .before .before .before .before .before .before .before .before .before .args .sp) (c .before .before .before .before .before .before .before .before .before .args .st .now) (take (c .before .before .before .before .before .before .before .before .before .args .n) (c .before .before .before .before .before .before .before .before .before .args .known .now)) _ (c .before .before .before .before .before .before .before .of-type .ensures) (c .before .before .before .before .before .c2 .given .1) (c .before .before .push .ensures)
 
 pub meet-chain-spec : {M : Type 1} → statement M
 meet-chain-spec =
@@ -40,7 +38,6 @@ meet-chain-spec =
     enum-known-c-2
     push-requires
     add-t16
-    add-t18
     returns
     same-length
     returns-2)

@@ -1,5 +1,6 @@
 -- `pairs::meet_link` meets its contract. Assumes nothing.
 use borrow.Author.Needs.{needs}
+use lib.ListN.{take}
 use Rattle.pairs.proofs.Book.{due-chain, due-count, due-application, due-argument, due-number}
 use Rattle.pairs.specs.Views.{placeAs}
 use Rattle.pairs.proofs.meet_link.Statement.{statement}
@@ -12,7 +13,7 @@ same-length : tie.Need-same-length
 same-length c = search needs
 
 returns : tie.Need-returns
-returns c = λ g h rules b. due-chain g rules (placeAs (c .before .before .before .before .before .before .before .args .here)) (c .before .before .before .before .before .before .before .args .a) (c .before .before .before .before .before .before .before .args .b) (c .before .before .before .before .before .before .before .args .t) (c .before .before .before .before .before .before .before .args .v) (c .before .before .before .before .before .before .before .args .at) (c .before .before .before .before .before .before .before .args .sp) (c .before .before .before .before .before .before .before .args .ctx) (c .before .before .before .before .before .before .before .args .st .now) _ (c .before .before .before .before .if1 .taken) (c .before .before .meet-start .ensures g rules (placeAs (c .before .before .before .before .before .before .before .args .here)))
+returns c = λ g h rules b. due-chain g rules (placeAs (c .before .before .before .before .before .before .before .args .here)) (c .before .before .before .before .before .before .before .args .a) (c .before .before .before .before .before .before .before .args .b) (c .before .before .before .before .before .before .before .args .t) (c .before .before .before .before .before .before .before .args .v) (c .before .before .before .before .before .before .before .args .at) (c .before .before .before .before .before .before .before .args .sp) (c .before .before .before .before .before .before .before .args .st .now) (take (c .before .before .before .before .before .before .before .args .n) (c .before .before .before .before .before .before .before .args .known .now)) _ (c .before .before .before .before .if1 .taken) (c .before .before .meet-start .ensures g rules (placeAs (c .before .before .before .before .before .before .before .args .here)))
 
 meet-count-requires : tie.Need-meet-count-requires
 meet-count-requires c κs = search needs
@@ -21,7 +22,7 @@ same-length-2 : tie.Need-same-length-2
 same-length-2 c = search needs
 
 returns-2 : tie.Need-returns-2
-returns-2 c = λ g h rules b. due-count g rules (placeAs (c .before .before .before .before .before .before .before .before .args .here)) (c .before .before .before .before .before .before .before .before .args .a) (c .before .before .before .before .before .before .before .before .args .b) (c .before .before .before .before .before .before .before .before .args .t) (c .before .before .before .before .before .before .before .before .args .v) (c .before .before .before .before .before .before .before .before .args .at) (c .before .before .before .before .before .before .before .before .args .sp) (c .before .before .before .before .before .before .before .before .args .ctx) (c .before .before .before .before .before .before .before .before .args .st .now) _ (c .before .before .before .before .if2 .taken) (c .before .before .meet-count .ensures g rules (placeAs (c .before .before .before .before .before .before .before .before .args .here)))
+returns-2 c = λ g h rules b. due-count g rules (placeAs (c .before .before .before .before .before .before .before .before .args .here)) (c .before .before .before .before .before .before .before .before .args .a) (c .before .before .before .before .before .before .before .before .args .b) (c .before .before .before .before .before .before .before .before .args .t) (c .before .before .before .before .before .before .before .before .args .v) (c .before .before .before .before .before .before .before .before .args .at) (c .before .before .before .before .before .before .before .before .args .sp) (c .before .before .before .before .before .before .before .before .args .st .now) (take (c .before .before .before .before .before .before .before .before .args .n) (c .before .before .before .before .before .before .before .before .args .known .now)) _ (c .before .before .before .before .if2 .taken) (c .before .before .meet-count .ensures g rules (placeAs (c .before .before .before .before .before .before .before .before .args .here)) (take (c .before .before .before .before .before .before .before .before .args .n) (c .before .before .before .before .before .before .before .before .args .known .now)))
 
 meet-application-requires : tie.Need-meet-application-requires
 meet-application-requires c κs = search needs
@@ -30,19 +31,19 @@ same-length-3 : tie.Need-same-length-3
 same-length-3 c = search needs
 
 returns-3 : tie.Need-returns-3
-returns-3 c = λ g h rules b. due-application g rules (placeAs (c .before .before .before .before .before .before .before .before .before .args .here)) (c .before .before .before .before .before .before .before .before .before .args .a) (c .before .before .before .before .before .before .before .before .before .args .b) (c .before .before .before .before .before .before .before .before .before .args .t) (c .before .before .before .before .before .before .before .before .before .args .v) (c .before .before .before .before .before .before .before .before .before .args .at) (c .before .before .before .before .before .before .before .before .before .args .sp) (c .before .before .before .before .before .before .before .before .before .args .ctx) (c .before .before .before .before .before .before .before .before .before .args .st .now) _ (c .before .before .before .before .if3 .taken) (c .before .before .meet-application .ensures g h rules b)
+returns-3 c = λ g h rules b. due-application g rules (placeAs (c .before .before .before .before .before .before .before .before .before .args .here)) (c .before .before .before .before .before .before .before .before .before .args .a) (c .before .before .before .before .before .before .before .before .before .args .b) (c .before .before .before .before .before .before .before .before .before .args .t) (c .before .before .before .before .before .before .before .before .before .args .v) (c .before .before .before .before .before .before .before .before .before .args .at) (c .before .before .before .before .before .before .before .before .before .args .sp) (c .before .before .before .before .before .before .before .before .before .args .st .now) (take (c .before .before .before .before .before .before .before .before .before .args .n) (c .before .before .before .before .before .before .before .before .before .args .known .now)) _ (c .before .before .before .before .if3 .taken) (c .before .before .meet-application .ensures g h rules b (take (c .before .before .before .before .before .before .before .before .before .args .n) (c .before .before .before .before .before .before .before .before .before .args .known .now)))
 
 meet-argument-requires : tie.Need-meet-argument-requires
 meet-argument-requires c κs = search needs
 
 returns-4 : tie.Need-returns-4
-returns-4 c = λ g h rules b. due-argument g rules (placeAs (c .before .before .before .before .before .before .before .args .here)) (c .before .before .before .before .before .before .before .args .a) (c .before .before .before .before .before .before .before .args .b) (c .before .before .before .before .before .before .before .args .t) (c .before .before .before .before .before .before .before .args .v) (c .before .before .before .before .before .before .before .args .at) (c .before .before .before .before .before .before .before .args .sp) (c .before .before .before .before .before .before .before .args .ctx) (c .before .before .before .before .before .before .before .args .st .now) (c .before .if4 .taken) (c .meet-argument .ensures g rules (placeAs (c .before .before .before .before .before .before .before .args .here)))
+returns-4 c = λ g h rules b. due-argument g rules (placeAs (c .before .before .before .before .before .before .before .args .here)) (c .before .before .before .before .before .before .before .args .a) (c .before .before .before .before .before .before .before .args .b) (c .before .before .before .before .before .before .before .args .t) (c .before .before .before .before .before .before .before .args .v) (c .before .before .before .before .before .before .before .args .at) (c .before .before .before .before .before .before .before .args .sp) (c .before .before .before .before .before .before .before .args .st .now) (take (c .before .before .before .before .before .before .before .args .n) (c .before .before .before .before .before .before .before .args .known .now)) (c .before .if4 .taken) (c .meet-argument .ensures g rules (placeAs (c .before .before .before .before .before .before .before .args .here)) (c .before .before .before .before .before .before .before .args .st .now))
 
 meet-number-requires : tie.Need-meet-number-requires
 meet-number-requires c κs = search needs
 
 returns-5 : tie.Need-returns-5
-returns-5 c = λ g h rules b. due-number g rules (placeAs (c .before .before .before .before .before .before .before .args .here)) (c .before .before .before .before .before .before .before .args .a) (c .before .before .before .before .before .before .before .args .b) (c .before .before .before .before .before .before .before .args .t) (c .before .before .before .before .before .before .before .args .v) (c .before .before .before .before .before .before .before .args .at) (c .before .before .before .before .before .before .before .args .sp) (c .before .before .before .before .before .before .before .args .ctx) (c .before .before .before .before .before .before .before .args .st .now) (c .before .before .before .before .before .before .before .pre .3) (c .before .before .before .before .if1 .left) (c .before .before .before .if2 .left) (c .before .before .if3 .left) (c .before .if4 .left) (c .meet-number .ensures g h rules (placeAs (c .before .before .before .before .before .before .before .args .here)))
+returns-5 c = λ g h rules b. due-number g rules (placeAs (c .before .before .before .before .before .before .before .args .here)) (c .before .before .before .before .before .before .before .args .a) (c .before .before .before .before .before .before .before .args .b) (c .before .before .before .before .before .before .before .args .t) (c .before .before .before .before .before .before .before .args .v) (c .before .before .before .before .before .before .before .args .at) (c .before .before .before .before .before .before .before .args .sp) (c .before .before .before .before .before .before .before .args .st .now) (take (c .before .before .before .before .before .before .before .args .n) (c .before .before .before .before .before .before .before .args .known .now)) (c .before .before .before .before .before .before .before .pre .3) (c .before .before .before .before .if1 .left) (c .before .before .before .if2 .left) (c .before .before .if3 .left) (c .before .if4 .left) (c .meet-number .ensures g h rules (placeAs (c .before .before .before .before .before .before .before .args .here)) (c .before .before .before .before .before .before .before .args .st .now))
 
 pub meet-link-spec : {M : Type 1} → statement M
 meet-link-spec =

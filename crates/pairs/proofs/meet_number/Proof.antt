@@ -1,12 +1,14 @@
 -- `pairs::meet_number` meets its contract. Assumes nothing.
 use borrow.Author.Needs.{needs}
 use borrow.Author.Tests.{not-true, not-false}
+use lib.ListN.{take}
+use Rattle.pairs.proofs.Stack.{context-length}
 use Rattle.pairs.proofs.Pairs.{number-kind, number-refused, number-other, number-there}
 use Rattle.pairs.proofs.meet_number.Statement.{statement}
 use Rattle.pairs.proofs.meet_number.Tie as tie
 
 returns : tie.Need-returns
-returns c = λ g h rules here. number-kind g rules here (c .before .args .t) (c .before .args .v) (c .before .args .at) (c .before .args .sp) (c .before .args .ctx) (c .if1 .taken)
+returns c = λ g h rules here st. number-kind g rules here (c .before .args .t) (c .before .args .v) (c .before .args .at) (c .before .args .sp) st (take (c .before .args .n) (c .before .args .known .now)) (c .if1 .taken)
 
 there-requires : tie.Need-there-requires
 there-requires c κs = search needs
@@ -23,20 +25,17 @@ type-of-requires c κs = search needs
 is-number-requires : tie.Need-is-number-requires
 is-number-requires c κs = search needs
 
-add-t18 : tie.Need-add-t18
-add-t18 c = search needs
+add-t17 : tie.Need-add-t17
+add-t17 c = search needs
 
 returns-2 : tie.Need-returns-2
-returns-2 c = λ g h rules here. number-other g rules here (c .before .before .before .before .before .before .before .before .args .t) (c .before .before .before .before .before .before .before .before .args .v) (c .before .before .before .before .before .before .before .before .args .at) (c .before .before .before .before .before .before .before .before .args .sp) (c .before .before .before .before .before .before .before .before .args .ctx) (c .before .before .before .before .before .before .before .if1 .left) _ (c .before .before .before .before .before .before .there .ensures) (c .before .before .before .before .c2 .given .1) (c .before .before .type-of .ensures) (c .before .is-number .ensures g h) (not-true _ (c .if2 .taken))
-
-add-t20 : tie.Need-add-t20
-add-t20 c = search needs
+returns-2 c = λ g h rules here st. number-other g rules here (c .before .before .before .before .before .before .before .before .args .t) (c .before .before .before .before .before .before .before .before .args .v) (c .before .before .before .before .before .before .before .before .args .at) (c .before .before .before .before .before .before .before .before .args .sp) st (take (c .before .before .before .before .before .before .before .before .args .n) (c .before .before .before .before .before .before .before .before .args .known .now)) (c .before .before .before .before .before .before .before .if1 .left) _ (c .before .before .before .before .before .before .there .ensures (take (c .before .before .before .before .before .before .before .before .args .n) (c .before .before .before .before .before .before .before .before .args .known .now)) (context-length (c .before .before .before .before .before .before .before .before .args .known .now) (c .before .before .before .before .before .before .before .before .args .n) (c .before .before .before .before .before .before .before .before .pre .0))) (c .before .before .before .before .c2 .given .1) (c .before .before .type-of .ensures) (c .before .is-number .ensures g h) (not-true _ (c .if2 .taken))
 
 returns-3 : tie.Need-returns-3
-returns-3 c = λ g h rules here. number-refused g rules here (c .before .before .before .before .before .args .t) (c .before .before .before .before .before .args .v) (c .before .before .before .before .before .args .at) (c .before .before .before .before .before .args .sp) (c .before .before .before .before .before .args .ctx) (c .before .before .before .before .if1 .left) _ (c .before .before .before .there .ensures) (c .before .c .given .1)
+returns-3 c = λ g h rules here st. number-refused g rules here (c .before .before .before .before .before .args .t) (c .before .before .before .before .before .args .v) (c .before .before .before .before .before .args .at) (c .before .before .before .before .before .args .sp) st (take (c .before .before .before .before .before .args .n) (c .before .before .before .before .before .args .known .now)) (c .before .before .before .before .if1 .left) _ (c .before .before .before .there .ensures (take (c .before .before .before .before .before .args .n) (c .before .before .before .before .before .args .known .now)) (context-length (c .before .before .before .before .before .args .known .now) (c .before .before .before .before .before .args .n) (c .before .before .before .before .before .pre .0))) (c .before .c .given .1)
 
 returns-4 : tie.Need-returns-4
-returns-4 c = λ g h rules here. number-there g rules here (c .before .before .before .before .before .before .before .before .args .t) (c .before .before .before .before .before .before .before .before .args .v) (c .before .before .before .before .before .before .before .before .args .at) (c .before .before .before .before .before .before .before .before .args .sp) (c .before .before .before .before .before .before .before .before .args .ctx) (c .before .before .before .before .before .before .before .if1 .left) _ (c .before .before .before .before .before .before .there .ensures) (c .before .before .before .before .c2 .given .1) (c .before .before .type-of .ensures) (c .before .is-number .ensures g h) (not-false _ (c .if2 .left)) (c .before .before .before .before .before .before .before .before .pre .1)
+returns-4 c = λ g h rules here st. number-there g rules here (c .before .before .before .before .before .before .before .before .args .t) (c .before .before .before .before .before .before .before .before .args .v) (c .before .before .before .before .before .before .before .before .args .at) (c .before .before .before .before .before .before .before .before .args .sp) st (take (c .before .before .before .before .before .before .before .before .args .n) (c .before .before .before .before .before .before .before .before .args .known .now)) (c .before .before .before .before .before .before .before .if1 .left) _ (c .before .before .before .before .before .before .there .ensures (take (c .before .before .before .before .before .before .before .before .args .n) (c .before .before .before .before .before .before .before .before .args .known .now)) (context-length (c .before .before .before .before .before .before .before .before .args .known .now) (c .before .before .before .before .before .before .before .before .args .n) (c .before .before .before .before .before .before .before .before .pre .0))) (c .before .before .before .before .c2 .given .1) (c .before .before .type-of .ensures) (c .before .is-number .ensures g h) (not-false _ (c .if2 .left))
 
 pub meet-number-spec : {M : Type 1} → statement M
 meet-number-spec =
@@ -48,8 +47,7 @@ meet-number-spec =
     enum-known-c-2
     type-of-requires
     is-number-requires
-    add-t18
+    add-t17
     returns-2
-    add-t20
     returns-3
     returns-4)

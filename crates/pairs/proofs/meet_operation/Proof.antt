@@ -7,52 +7,44 @@ use Rattle.pairs.proofs.meet_operation.Tie as tie
 between-requires : tie.Need-between-requires
 between-requires c κs = search needs
 
+add-t9 : tie.Need-add-t9
+add-t9 c = search needs
+
+returns : tie.Need-returns
+returns c = λ Γ. bare-other (c .before .before .before .before .args .t) (c .before .before .before .before .args .v) (c .before .before .before .before .args .at) (c .before .before .before .before .args .sp) (c .before .before .before .before .args .st .now) Γ (c .before .before .between .ensures) (c .before .if1 .taken) (c .if2 .taken)
+
+returns-2 : tie.Need-returns-2
+returns-2 c = λ Γ. bare-met (c .before .before .before .before .args .t) (c .before .before .before .before .args .v) (c .before .before .before .before .args .at) (c .before .before .before .before .args .sp) (c .before .before .before .before .args .st .now) Γ (c .before .before .between .ensures) (c .before .if1 .taken) (c .if2 .left)
+
 add-t10 : tie.Need-add-t10
 add-t10 c = search needs
 
-returns : tie.Need-returns
-returns c = bare-other (c .before .before .before .before .args .t) (c .before .before .before .before .args .v) (c .before .before .before .before .args .at) (c .before .before .before .before .args .sp) (c .before .before .before .before .args .st .now) (c .before .before .before .before .args .ctx) (c .before .before .between .ensures) (c .before .if1 .taken) (c .if2 .taken)
-
-add-t12 : tie.Need-add-t12
-add-t12 c = search needs
-
-returns-2 : tie.Need-returns-2
-returns-2 c = bare-met (c .before .before .before .before .args .t) (c .before .before .before .before .args .v) (c .before .before .before .before .args .at) (c .before .before .before .before .args .sp) (c .before .before .before .before .args .st .now) (c .before .before .before .before .args .ctx) (c .before .before .between .ensures) (c .before .if1 .taken) (c .if2 .left) (c .before .before .before .before .pre .2)
-
-add-t14 : tie.Need-add-t14
-add-t14 c = search needs
-
 returns-3 : tie.Need-returns-3
-returns-3 c = binary-other (c .before .before .before .before .args .t) (c .before .before .before .before .args .v) (c .before .before .before .before .args .at) (c .before .before .before .before .args .sp) (c .before .before .before .before .args .st .now) (c .before .before .before .before .args .ctx) (c .before .before .between .ensures) (c .before .if1 .left) (c .if3 .taken)
+returns-3 c = λ Γ. binary-other (c .before .before .before .before .args .t) (c .before .before .before .before .args .v) (c .before .before .before .before .args .at) (c .before .before .before .before .args .sp) (c .before .before .before .before .args .st .now) Γ (c .before .before .between .ensures) (c .before .if1 .left) (c .if3 .taken)
 
 push-requires : tie.Need-push-requires
 push-requires c κs = search needs
 
-add-t19 : tie.Need-add-t19
-add-t19 c = search needs
-
-add-t21 : tie.Need-add-t21
-add-t21 c = search needs
+add-t14 : tie.Need-add-t14
+add-t14 c = search needs
 
 same-length : tie.Need-same-length
 same-length c = search needs
 
 returns-4 : tie.Need-returns-4
-returns-4 c = binary-met (c .before .before .before .before .before .before .before .before .args .t) (c .before .before .before .before .before .before .before .before .args .v) (c .before .before .before .before .before .before .before .before .args .at) (c .before .before .before .before .before .before .before .before .args .sp) (c .before .before .before .before .before .before .before .before .args .st .now) (c .before .before .before .before .before .before .before .before .args .ctx) (c .before .before .before .before .before .before .between .ensures) (c .before .before .before .before .before .if1 .left) (c .before .before .before .before .if3 .left) (c .before .before .before .before .before .before .before .before .pre .2) (c .before .before .push .ensures)
+returns-4 c = λ Γ. binary-met (c .before .before .before .before .before .before .before .before .args .t) (c .before .before .before .before .before .before .before .before .args .v) (c .before .before .before .before .before .before .before .before .args .at) (c .before .before .before .before .before .before .before .before .args .sp) (c .before .before .before .before .before .before .before .before .args .st .now) Γ (c .before .before .before .before .before .before .between .ensures) (c .before .before .before .before .before .if1 .left) (c .before .before .before .before .if3 .left) (c .before .before .push .ensures)
 
 pub meet-operation-spec : {M : Type 1} → statement M
 meet-operation-spec =
     tie.close
     (tie.spec
     between-requires
-    add-t10
+    add-t9
     returns
-    add-t12
     returns-2
-    add-t14
+    add-t10
     returns-3
     push-requires
-    add-t19
-    add-t21
+    add-t14
     same-length
     returns-4)

@@ -17,26 +17,23 @@ enum-known-h c = search needs
 enum-known-h-2 : tie.Need-enum-known-h-2
 enum-known-h-2 c = search needs
 
-add-t19 : tie.Need-add-t19
-add-t19 c = search needs
+add-t17 : tie.Need-add-t17
+add-t17 c = search needs
 
 returns : tie.Need-returns
-returns c = λ rule h. counted-other (c .before .before .before .before .before .before .before .before .before .args .types) (c .before .before .before .before .before .before .before .before .before .args .ws .now) (c .before .before .before .before .before .before .start-of .result) _ (c .before .before .before .before .before .read-head .ensures) rule (headed-at (c .before .before .before .before .before .before .start-of .ensures) h) (c .before .before .before .h2 .given .1) (c .before .before .before .before .before .before .before .before .before .args .v) (c .before .before .before .before .before .before .before .before .before .args .at) (c .before .before .before .before .before .before .before .before .before .args .sp) (c .before .before .before .before .before .before .before .before .before .args .st .now) (c .before .before .before .before .before .before .before .before .before .args .ctx) (c .if1 .taken)
+returns c = λ rule h Γ. counted-other (c .before .before .before .before .before .before .before .before .before .args .types) (c .before .before .before .before .before .before .before .before .before .args .ws .now) (c .before .before .before .before .before .before .start-of .result) _ (c .before .before .before .before .before .read-head .ensures) rule (headed-at (c .before .before .before .before .before .before .start-of .ensures) h) (c .before .before .before .h2 .given .1) (c .before .before .before .before .before .before .before .before .before .args .v) (c .before .before .before .before .before .before .before .before .before .args .at) (c .before .before .before .before .before .before .before .before .before .args .sp) (c .before .before .before .before .before .before .before .before .before .args .st .now) Γ (c .if1 .taken)
 
 push-arguments-requires : tie.Need-push-arguments-requires
-push-arguments-requires c κs = let few = head-few (c .before .before .before .before .before .before .before .before .before .before .args .types) (c .before .before .before .before .before .before .before .before .before .before .args .ws .now) (c .before .before .before .before .before .before .before .start-of .result) _ (c .before .before .before .before .before .before .read-head .ensures) (c .before .before .before .before .h2 .given .1) in (few .0, omega (arith, few .1, c .before .before .before .before .before .before .before .before .before .before .pre .2), omega (arith, c .before .before .before .before .before .before .before .before .before .before .pre .3), c .before .before .before .before .before .before .before .before .before .before .pre .6)
-
-add-t23 : tie.Need-add-t23
-add-t23 c = search needs
+push-arguments-requires c κs = let few = head-few (c .before .before .before .before .before .before .before .before .before .before .args .types) (c .before .before .before .before .before .before .before .before .before .before .args .ws .now) (c .before .before .before .before .before .before .before .start-of .result) _ (c .before .before .before .before .before .before .read-head .ensures) (c .before .before .before .before .h2 .given .1) in (few .0, omega (arith, few .1, c .before .before .before .before .before .before .before .before .before .before .pre .2), omega (arith, c .before .before .before .before .before .before .before .before .before .before .pre .3), c .before .before .before .before .before .before .before .before .before .before .pre .5)
 
 returns-2 : tie.Need-returns-2
-returns-2 c = λ rule h. unheaded (c .before .before .before .before .before .before .before .args .types) (c .before .before .before .before .before .before .before .args .ws .now) (c .before .before .before .before .start-of .result) _ (c .before .before .before .read-head .ensures) rule (headed-at (c .before .before .before .before .start-of .ensures) h) (c .before .h .given .1)
+returns-2 c = λ rule h Γ. unheaded (c .before .before .before .before .before .before .before .args .types) (c .before .before .before .before .before .before .before .args .ws .now) (c .before .before .before .before .start-of .result) _ (c .before .before .before .read-head .ensures) rule (headed-at (c .before .before .before .before .start-of .ensures) h) (c .before .h .given .1)
 
 same-length : tie.Need-same-length
 same-length c = search needs
 
 returns-3 : tie.Need-returns-3
-returns-3 c = λ rule h. counted-met (c .before .before .before .before .before .before .before .before .before .before .before .before .before .args .types) (c .before .before .before .before .before .before .before .before .before .before .before .before .before .args .ws .now) (c .before .before .before .before .before .before .before .before .before .before .start-of .result) _ (c .before .before .before .before .before .before .before .before .before .read-head .ensures) rule (headed-at (c .before .before .before .before .before .before .before .before .before .before .start-of .ensures) h) (c .before .before .before .before .before .before .before .h2 .given .1) (c .before .before .before .before .before .before .before .before .before .before .before .before .before .args .v) (c .before .before .before .before .before .before .before .before .before .before .before .before .before .args .at) (c .before .before .before .before .before .before .before .before .before .before .before .before .before .args .sp) (c .before .before .before .before .before .before .before .before .before .before .before .before .before .args .st .now) (c .before .before .before .before .before .before .before .before .before .before .before .before .before .args .ctx) (c .before .before .before .before .if1 .left) (c .before .before .before .before .before .before .before .before .before .before .before .before .before .pre .5) (c .before .before .push-arguments .ensures)
+returns-3 c = λ rule h Γ. counted-met (c .before .before .before .before .before .before .before .before .before .before .before .before .before .args .types) (c .before .before .before .before .before .before .before .before .before .before .before .before .before .args .ws .now) (c .before .before .before .before .before .before .before .before .before .before .start-of .result) _ (c .before .before .before .before .before .before .before .before .before .read-head .ensures) rule (headed-at (c .before .before .before .before .before .before .before .before .before .before .start-of .ensures) h) (c .before .before .before .before .before .before .before .h2 .given .1) (c .before .before .before .before .before .before .before .before .before .before .before .before .before .args .v) (c .before .before .before .before .before .before .before .before .before .before .before .before .before .args .at) (c .before .before .before .before .before .before .before .before .before .before .before .before .before .args .sp) (c .before .before .before .before .before .before .before .before .before .before .before .before .before .args .st .now) Γ (c .before .before .before .before .if1 .left) (c .before .before .push-arguments .ensures)
 
 pub meet-rule-spec : {M : Type 1} → statement M
 meet-rule-spec =
@@ -46,10 +43,9 @@ meet-rule-spec =
     read-head-requires
     enum-known-h
     enum-known-h-2
-    add-t19
+    add-t17
     returns
     push-arguments-requires
-    add-t23
     returns-2
     same-length
     returns-3)

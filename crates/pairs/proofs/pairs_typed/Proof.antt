@@ -1,7 +1,7 @@
 -- `pairs::pairs_typed` meets its contract. The loop's invariant: the whole reading is that of the pairs left, from where the loop stands, against what the stack has due. Assumes nothing.
 use Prim.Native.Nat.{_+_, _-_, _*_, _≤_}
 use borrow.Author.Needs.{needs}
-use lib.ListN.{length}
+use lib.ListN.{length, take}
 use mathlib.Core.List.{[], _∷_}
 use mathlib.Core.Path.{_≡_, refl}
 use native.Mathlib.Omega.{arith}
@@ -10,92 +10,71 @@ use Rattle.grammar.specs.Tables.{Tables}
 use Rattle.rules.specs.Rules.{Rules}
 use Rattle.rules.specs.Typing.{meets}
 use Rattle.tree.specs.Dues.{whole}
-use Rattle.pairs.proofs.Loop.{rest, rest-all, loop-short, loop-fault, loop-next, loop-over, loop-whole}
 use Rattle.rules.proofs.Accept.{meets-steady}
-use Rattle.pairs.specs.Views.{placeAs, contextOf, dueOf, stackOf, Book}
+use Rattle.pairs.proofs.Loop.{rest, rest-all, loop-short, loop-fault, loop-next, loop-new, loop-over, loop-whole}
+use Rattle.pairs.specs.Views.{placeAs, contextOf, Known, dueOf, stackOf, Book}
 use Rattle.pairs.proofs.pairs_typed.Statement.{statement}
 use Rattle.pairs.proofs.pairs_typed.Tie as tie
 
 abbrev Inv-loop : tie.InvT-loop
-Inv-loop here heads rows types ws starts ps start a b st₀ sp₀ i₀ known₀ st sp i known = (length st ≡ 2048) × (2 * sp + 7 * (length ps - i) ≤ 1794) × (i ≤ length ps) × (known .n ≤ 16) × ((g : Grammar) → Tables g heads rows → (rules : Rules) → Book types ws starts rules → whole (meets g rules (placeAs here)) 23 ps (dueOf a b ∷ []) (contextOf known₀) start ≡ rest (meets g rules (placeAs here)) ps start i (stackOf st sp) (contextOf known))
+Inv-loop here heads rows types ws starts ps start a b ctx st₀ sp₀ i₀ known₀ n₀ st sp i known n = (length st ≡ 2048) × (2 * sp + 7 * (length ps - i) ≤ 1794) × (i ≤ length ps) × Known known n × ((g : Grammar) → Tables g heads rows → (rules : Rules) → Book types ws starts rules → whole (meets g rules (placeAs here)) 23 ps (dueOf a b ∷ []) (contextOf ctx) start ≡ rest (meets g rules (placeAs here)) ps start i (stackOf st sp) (take n known))
 
 abbrev μ-loop : tie.MeasureT-loop
-μ-loop here heads rows types ws starts ps start a b st₀ sp₀ i₀ known₀ st sp i known = length ps - i
+μ-loop here heads rows types ws starts ps start a b ctx st₀ sp₀ i₀ known₀ n₀ st sp i known n = length ps - i
 
 push-requires : tie.Need-push-requires Inv-loop μ-loop
 push-requires c κs = (omega arith, c .before .before .before .before .pre .7)
 
 loop-holds : tie.Need-loop-holds Inv-loop μ-loop
-loop-holds c = (omega (arith, c .before .before .push .kept .0, c .before .before .before .before .before .before .before .pre .7), omega (arith, c .before .before .before .before .before .before .before .pre .4), omega arith, c .before .before .before .before .before .before .before .pre .6, λ g h rules b. rest-all (meets g rules (placeAs (c .before .before .before .before .before .before .before .args .here))) (c .before .before .before .before .before .before .before .args .ps .now) (c .before .before .before .before .before .before .before .args .start) (c .before .before .before .before .before .before .before .args .a) (c .before .before .before .before .before .before .before .args .b) (contextOf (c .before .before .before .before .before .before .before .args .ctx)) (c .before .before .before .before .before .before .before .args .st .now) _ (c .before .before .push .ensures))
+loop-holds c = (omega (arith, c .before .before .before .push .kept .0, c .before .before .before .before .before .before .before .before .pre .7), omega (arith, c .before .before .before .before .before .before .before .before .pre .4), omega arith, (search (needs, c .before .before .before .before .before .before .before .before .good), c .before .before .before .before .before .before .before .before .pre .6), λ g h rules b. rest-all (meets g rules (placeAs (c .before .before .before .before .before .before .before .before .args .here))) (c .before .before .before .before .before .before .before .before .args .ps .now) (c .before .before .before .before .before .before .before .before .args .start) (c .before .before .before .before .before .before .before .before .args .a) (c .before .before .before .before .before .before .before .before .args .b) (contextOf (c .before .before .before .before .before .before .before .before .args .ctx)) (c .before .before .before .before .before .before .before .before .args .st .now) _ (c .before .before .before .push .ensures))
 
 sub-if1 : tie.Need-sub-if1 Inv-loop μ-loop
 sub-if1 c = search needs
 
-add-t34 : tie.Need-add-t34 Inv-loop μ-loop
-add-t34 c = search needs
+add-t30 : tie.Need-add-t30 Inv-loop μ-loop
+add-t30 c = search needs
 
 same-length : tie.Need-same-length Inv-loop μ-loop
 same-length c = search needs
 
 returns : tie.Need-returns Inv-loop μ-loop
-returns c = λ g h rules b. loop-short (meets g rules (placeAs (c .before .before .before .before .before .before .before .before .before .before .args .here))) (c .before .before .before .before .before .before .before .before .before .before .args .ps .now) (c .before .before .before .before .before .before .before .before .before .before .args .start) (c .before .before .loop .i) (c .before .before .loop .sp) (c .before .before .loop .st) (c .before .before .loop .known) _ (c .before .before .loop .inv .4 g h rules b) (c .before .loop-test .taken) (c .before .before .loop .inv .2) (c .if1 .taken)
-
-mul-t : tie.Need-mul-t Inv-loop μ-loop
-mul-t c = search needs
-
-shared-slice-read-t : tie.Need-shared-slice-read-t Inv-loop μ-loop
-shared-slice-read-t c = search needs
-
-add-v : tie.Need-add-v Inv-loop μ-loop
-add-v c = search needs
-
-mul-v : tie.Need-mul-v Inv-loop μ-loop
-mul-v c = search needs
-
-shared-slice-read-v : tie.Need-shared-slice-read-v Inv-loop μ-loop
-shared-slice-read-v c = search needs
+returns c = λ g h rules b. loop-short (meets g rules (placeAs (c .before .before .before .before .before .before .before .before .before .before .before .args .here))) (c .before .before .before .before .before .before .before .before .before .before .before .args .ps .now) (c .before .before .before .before .before .before .before .before .before .before .before .args .start) (c .before .before .loop .i) (c .before .before .loop .sp) (c .before .before .loop .st) (take (c .before .before .loop .n) (c .before .before .loop .known)) _ (c .before .before .loop .inv .4 g h rules b) (c .before .loop-test .taken) (c .before .before .before .before .before .before .before .before .before .before .before .args .ctx) (c .before .before .loop .inv .2) (c .if1 .taken)
 
 sub-top : tie.Need-sub-top Inv-loop μ-loop
 sub-top c = search needs
 
-mul-c : tie.Need-mul-c Inv-loop μ-loop
-mul-c c = search needs
+mul-meet : tie.Need-mul-meet Inv-loop μ-loop
+mul-meet c = search needs
 
-mul-c-2 : tie.Need-mul-c-2 Inv-loop μ-loop
-mul-c-2 c = search needs
-
-slice-read-c : tie.Need-slice-read-c Inv-loop μ-loop
-slice-read-c c = search needs
-
-mul-d : tie.Need-mul-d Inv-loop μ-loop
-mul-d c = search needs
-
-add-d : tie.Need-add-d Inv-loop μ-loop
-add-d c = search needs
-
-mul-d-2 : tie.Need-mul-d-2 Inv-loop μ-loop
-mul-d-2 c = search needs
-
-slice-read-d : tie.Need-slice-read-d Inv-loop μ-loop
-slice-read-d c = search needs
+shared-slice-read-meet : tie.Need-shared-slice-read-meet Inv-loop μ-loop
+shared-slice-read-meet c = search needs
 
 add-meet : tie.Need-add-meet Inv-loop μ-loop
 add-meet c = search needs
 
-meet-requires : tie.Need-meet-requires Inv-loop μ-loop
-meet-requires c κs = ((c .before .before .before .before .before .before .before .before .before .before .before .before .before .before .before .pre .0 .grammar, c .before .before .before .before .before .before .before .before .before .before .before .before .before .before .before .pre .0 .tables), c .before .before .before .before .before .before .before .before .before .before .before .before .before .before .before .pre .1, c .before .before .before .before .before .before .before .before .before .before .before .before .before .before .before .pre .2, c .before .before .before .before .before .before .before .before .before .before .before .before .before .before .before .pre .3, omega (arith, c .before .before .before .before .before .before .before .loop .inv .1, c .before .before .before .before .before .before .before .loop .inv .2, c .before .before .before .before .before .if1 .left, c .before .before .before .before .before .before .loop-test .taken), omega (arith, c .before .before .before .before .before .before .before .before .before .before .before .before .before .before .before .pre .5, c .before .before .before .before .before .before .before .before .before .before .before .before .before .before .before .pre .4, c .before .before .before .before .before .before .before .loop .inv .2), c .before .before .before .before .before .before .before .loop .inv .3, c .before .before .before .before .before .before .before .loop .inv .0)
+mul-meet-2 : tie.Need-mul-meet-2 Inv-loop μ-loop
+mul-meet-2 c = search needs
 
-enum-known-check : tie.Need-enum-known-check Inv-loop μ-loop
-enum-known-check c = search needs
+shared-slice-read-meet-2 : tie.Need-shared-slice-read-meet-2 Inv-loop μ-loop
+shared-slice-read-meet-2 c = search needs
+
+add-meet-2 : tie.Need-add-meet-2 Inv-loop μ-loop
+add-meet-2 c = search needs
+
+meet-requires : tie.Need-meet-requires Inv-loop μ-loop
+meet-requires c κs = ((c .before .before .before .before .before .before .before .before .before .before .before .before .before .before .before .pre .0 .grammar, c .before .before .before .before .before .before .before .before .before .before .before .before .before .before .before .pre .0 .tables), c .before .before .before .before .before .before .before .before .before .before .before .before .before .before .before .pre .1, c .before .before .before .before .before .before .before .before .before .before .before .before .before .before .before .pre .2, c .before .before .before .before .before .before .before .before .before .before .before .before .before .before .before .pre .3, c .before .before .before .before .before .before .loop .inv .3, omega (arith, c .before .before .before .before .before .before .loop .inv .1, c .before .before .before .before .before .before .loop .inv .2, c .before .before .before .before .if1 .left, c .before .before .before .before .before .loop-test .taken), omega (arith, c .before .before .before .before .before .before .before .before .before .before .before .before .before .before .before .pre .5, c .before .before .before .before .before .before .before .before .before .before .before .before .before .before .before .pre .4, c .before .before .before .before .before .before .loop .inv .2), c .before .before .before .before .before .before .loop .inv .0)
+
+enum-known-m : tie.Need-enum-known-m Inv-loop μ-loop
+enum-known-m c = search needs
 
 same-length-2 : tie.Need-same-length-2 Inv-loop μ-loop
 same-length-2 c = search needs
 
 returns-2 : tie.Need-returns-2 Inv-loop μ-loop
-returns-2 c = λ g h rules b. loop-fault (meets g rules (placeAs (c .before .before .before .before .before .before .before .before .before .before .before .before .before .before .before .before .before .before .before .before .before .args .here))) (c .before .before .before .before .before .before .before .before .before .before .before .before .before .before .before .before .before .before .before .before .before .args .ps .now) (c .before .before .before .before .before .before .before .before .before .before .before .before .before .before .before .before .before .before .before .before .before .args .start) (c .before .before .before .before .before .before .before .before .before .before .before .before .before .loop .i) (c .before .before .before .before .before .before .before .before .before .before .before .before .before .loop .sp) (c .before .before .before .before .before .before .before .before .before .before .before .before .before .loop .st) (c .before .before .before .before .before .before .before .before .before .before .before .before .before .loop .known) _ (c .before .before .before .before .before .before .before .before .before .before .before .before .before .loop .inv .4 g h rules b) (c .before .before .before .before .before .before .before .before .before .before .before .before .loop-test .taken) _ _ refl refl (omega (arith, c .before .before .before .before .before .before .before .before .before .before .before .if1 .left, c .before .before .before .before .before .before .before .before .before .before .before .before .before .loop .inv .2)) (c .before .before .before .before .before .meet .result) _ (c .before .before .before .before .before .meet .ensures g h rules b) (c .before .check .given .1)
+returns-2 c = λ g h rules b. loop-fault (meets g rules (placeAs (c .before .before .before .before .before .before .before .before .before .before .before .before .before .before .before .before .before .before .before .before .before .args .here))) (c .before .before .before .before .before .before .before .before .before .before .before .before .before .before .before .before .before .before .before .before .before .args .ps .now) (c .before .before .before .before .before .before .before .before .before .before .before .before .before .before .before .before .before .before .before .before .before .args .start) (c .before .before .before .before .before .before .before .before .before .before .before .before .loop .i) (c .before .before .before .before .before .before .before .before .before .before .before .before .loop .sp) (c .before .before .before .before .before .before .before .before .before .before .before .before .loop .st) (take (c .before .before .before .before .before .before .before .before .before .before .before .before .loop .n) (c .before .before .before .before .before .before .before .before .before .before .before .before .loop .known)) _ (c .before .before .before .before .before .before .before .before .before .before .before .before .loop .inv .4 g h rules b) (c .before .before .before .before .before .before .before .before .before .before .before .loop-test .taken) (omega (arith, c .before .before .before .before .before .before .before .before .before .before .if1 .left, c .before .before .before .before .before .before .before .before .before .before .before .before .loop .inv .2)) (c .before .before .before .before .before .meet .result) _ (c .before .before .before .before .before .meet .ensures g h rules b) (c .before .before .before .before .before .before .before .before .before .before .before .before .before .before .before .before .before .before .before .before .before .args .ctx) (c .before .m .given .1)
 
-enum-known-check-2 : tie.Need-enum-known-check-2 Inv-loop μ-loop
-enum-known-check-2 c = search needs
+enum-known-m-2 : tie.Need-enum-known-m-2 Inv-loop μ-loop
+enum-known-m-2 c = search needs
 
 add-i : tie.Need-add-i Inv-loop μ-loop
 add-i c = search needs
@@ -104,7 +83,28 @@ loop-less : tie.Need-loop-less Inv-loop μ-loop
 loop-less c = search needs
 
 loop-again : tie.Need-loop-again Inv-loop μ-loop
-loop-again c = let u = loop-next (meets (c .before .before .before .before .before .before .before .before .before .before .before .before .before .before .before .before .before .before .before .before .before .before .pre .0 .grammar) (c .before .before .before .before .before .before .before .before .before .before .before .before .before .before .before .before .before .before .before .before .before .before .pre .0 .rules) (placeAs (c .before .before .before .before .before .before .before .before .before .before .before .before .before .before .before .before .before .before .before .before .before .before .args .here))) (c .before .before .before .before .before .before .before .before .before .before .before .before .before .before .before .before .before .before .before .before .before .before .args .ps .now) (c .before .before .before .before .before .before .before .before .before .before .before .before .before .before .before .before .before .before .before .before .before .before .args .start) (c .before .before .before .before .before .before .before .before .before .before .before .before .before .before .loop .i) (c .before .before .before .before .before .before .before .before .before .before .before .before .before .before .loop .sp) (c .before .before .before .before .before .before .before .before .before .before .before .before .before .before .loop .st) (c .before .before .before .before .before .before .before .before .before .before .before .before .before .before .loop .known) _ (c .before .before .before .before .before .before .before .before .before .before .before .before .before .before .loop .inv .4 (c .before .before .before .before .before .before .before .before .before .before .before .before .before .before .before .before .before .before .before .before .before .before .pre .0 .grammar) (c .before .before .before .before .before .before .before .before .before .before .before .before .before .before .before .before .before .before .before .before .before .before .pre .0 .tables) (c .before .before .before .before .before .before .before .before .before .before .before .before .before .before .before .before .before .before .before .before .before .before .pre .0 .rules) (c .before .before .before .before .before .before .before .before .before .before .before .before .before .before .before .before .before .before .before .before .before .before .pre .0 .book)) (c .before .before .before .before .before .before .before .before .before .before .before .before .before .loop-test .taken) _ _ refl refl (omega (arith, c .before .before .before .before .before .before .before .before .before .before .before .before .if1 .left, c .before .before .before .before .before .before .before .before .before .before .before .before .before .before .loop .inv .2)) (c .before .before .before .before .before .before .meet .result) _ (c .before .before .before .before .before .before .meet .ensures (c .before .before .before .before .before .before .before .before .before .before .before .before .before .before .before .before .before .before .before .before .before .before .pre .0 .grammar) (c .before .before .before .before .before .before .before .before .before .before .before .before .before .before .before .before .before .before .before .before .before .before .pre .0 .tables) (c .before .before .before .before .before .before .before .before .before .before .before .before .before .before .before .before .before .before .before .before .before .before .pre .0 .rules) (c .before .before .before .before .before .before .before .before .before .before .before .before .before .before .before .before .before .before .before .before .before .before .pre .0 .book)) (c .before .before .check2 .given .1) (meets-steady (c .before .before .before .before .before .before .before .before .before .before .before .before .before .before .before .before .before .before .before .before .before .before .pre .0 .grammar) (c .before .before .before .before .before .before .before .before .before .before .before .before .before .before .before .before .before .before .before .before .before .before .pre .0 .rules) (placeAs (c .before .before .before .before .before .before .before .before .before .before .before .before .before .before .before .before .before .before .before .before .before .before .args .here)) _ _ _ _) in (omega (arith, c .before .before .before .before .before .before .meet .kept .1 .1 .1 .1 .1 .1 .1 .1 .1 .1 .1 .1 .0, c .before .before .before .before .before .before .before .before .before .before .before .before .before .before .loop .inv .0), omega (arith, u .2, c .before .before .before .before .before .before .before .before .before .before .before .before .before .before .loop .inv .1, c .before .before .before .before .before .before .before .before .before .before .before .before .before .before .loop .inv .2, c .before .before .before .before .before .before .before .before .before .before .before .before .if1 .left, c .before .before .before .before .before .before .before .before .before .before .before .before .before .loop-test .taken), omega (arith, c .before .before .before .before .before .before .before .before .before .before .before .before .if1 .left, c .before .before .before .before .before .before .before .before .before .before .before .before .before .before .loop .inv .2), u .1, λ g h rules b. loop-next (meets g rules (placeAs (c .before .before .before .before .before .before .before .before .before .before .before .before .before .before .before .before .before .before .before .before .before .before .args .here))) (c .before .before .before .before .before .before .before .before .before .before .before .before .before .before .before .before .before .before .before .before .before .before .args .ps .now) (c .before .before .before .before .before .before .before .before .before .before .before .before .before .before .before .before .before .before .before .before .before .before .args .start) (c .before .before .before .before .before .before .before .before .before .before .before .before .before .before .loop .i) (c .before .before .before .before .before .before .before .before .before .before .before .before .before .before .loop .sp) (c .before .before .before .before .before .before .before .before .before .before .before .before .before .before .loop .st) (c .before .before .before .before .before .before .before .before .before .before .before .before .before .before .loop .known) _ (c .before .before .before .before .before .before .before .before .before .before .before .before .before .before .loop .inv .4 g h rules b) (c .before .before .before .before .before .before .before .before .before .before .before .before .before .loop-test .taken) _ _ refl refl (omega (arith, c .before .before .before .before .before .before .before .before .before .before .before .before .if1 .left, c .before .before .before .before .before .before .before .before .before .before .before .before .before .before .loop .inv .2)) (c .before .before .before .before .before .before .meet .result) _ (c .before .before .before .before .before .before .meet .ensures g h rules b) (c .before .before .check2 .given .1) (meets-steady g rules (placeAs (c .before .before .before .before .before .before .before .before .before .before .before .before .before .before .before .before .before .before .before .before .before .before .args .here)) _ _ _ _) .0)
+loop-again c = let u = loop-next (meets (c .before .before .before .before .before .before .before .before .before .before .before .before .before .before .before .before .before .before .before .before .before .pre .0 .grammar) (c .before .before .before .before .before .before .before .before .before .before .before .before .before .before .before .before .before .before .before .before .before .pre .0 .rules) (placeAs (c .before .before .before .before .before .before .before .before .before .before .before .before .before .before .before .before .before .before .before .before .before .args .here))) (c .before .before .before .before .before .before .before .before .before .before .before .before .before .before .before .before .before .before .before .before .before .args .ps .now) (c .before .before .before .before .before .before .before .before .before .before .before .before .before .before .before .before .before .before .before .before .before .args .start) (c .before .before .before .before .before .before .before .before .before .before .before .before .loop .i) (c .before .before .before .before .before .before .before .before .before .before .before .before .loop .sp) (c .before .before .before .before .before .before .before .before .before .before .before .before .loop .st) (take (c .before .before .before .before .before .before .before .before .before .before .before .before .loop .n) (c .before .before .before .before .before .before .before .before .before .before .before .before .loop .known)) _ (c .before .before .before .before .before .before .before .before .before .before .before .before .loop .inv .4 (c .before .before .before .before .before .before .before .before .before .before .before .before .before .before .before .before .before .before .before .before .before .pre .0 .grammar) (c .before .before .before .before .before .before .before .before .before .before .before .before .before .before .before .before .before .before .before .before .before .pre .0 .tables) (c .before .before .before .before .before .before .before .before .before .before .before .before .before .before .before .before .before .before .before .before .before .pre .0 .rules) (c .before .before .before .before .before .before .before .before .before .before .before .before .before .before .before .before .before .before .before .before .before .pre .0 .book)) (c .before .before .before .before .before .before .before .before .before .before .before .loop-test .taken) (omega (arith, c .before .before .before .before .before .before .before .before .before .before .if1 .left, c .before .before .before .before .before .before .before .before .before .before .before .before .loop .inv .2)) (c .before .before .before .before .before .meet .result) _ (c .before .before .before .before .before .meet .ensures (c .before .before .before .before .before .before .before .before .before .before .before .before .before .before .before .before .before .before .before .before .before .pre .0 .grammar) (c .before .before .before .before .before .before .before .before .before .before .before .before .before .before .before .before .before .before .before .before .before .pre .0 .tables) (c .before .before .before .before .before .before .before .before .before .before .before .before .before .before .before .before .before .before .before .before .before .pre .0 .rules) (c .before .before .before .before .before .before .before .before .before .before .before .before .before .before .before .before .before .before .before .before .before .pre .0 .book)) (meets-steady (c .before .before .before .before .before .before .before .before .before .before .before .before .before .before .before .before .before .before .before .before .before .pre .0 .grammar) (c .before .before .before .before .before .before .before .before .before .before .before .before .before .before .before .before .before .before .before .before .before .pre .0 .rules) (placeAs (c .before .before .before .before .before .before .before .before .before .before .before .before .before .before .before .before .before .before .before .before .before .args .here)) _ _ _ _) (c .before .m2 .given .1) in (omega (arith, c .before .before .before .before .before .meet .kept .1 .1 .1 .1 .1 .1 .1 .1 .1 .1 .1 .0, c .before .before .before .before .before .before .before .before .before .before .before .before .loop .inv .0), omega (arith, u .1, c .before .before .before .before .before .before .before .before .before .before .before .before .loop .inv .1, c .before .before .before .before .before .before .before .before .before .before .before .before .loop .inv .2, c .before .before .before .before .before .before .before .before .before .before .if1 .left, c .before .before .before .before .before .before .before .before .before .before .before .loop-test .taken), omega (arith, c .before .before .before .before .before .before .before .before .before .before .if1 .left, c .before .before .before .before .before .before .before .before .before .before .before .before .loop .inv .2), c .before .before .before .before .before .before .before .before .before .before .before .before .loop .inv .3, λ g h rules b. loop-next (meets g rules (placeAs (c .before .before .before .before .before .before .before .before .before .before .before .before .before .before .before .before .before .before .before .before .before .args .here))) (c .before .before .before .before .before .before .before .before .before .before .before .before .before .before .before .before .before .before .before .before .before .args .ps .now) (c .before .before .before .before .before .before .before .before .before .before .before .before .before .before .before .before .before .before .before .before .before .args .start) (c .before .before .before .before .before .before .before .before .before .before .before .before .loop .i) (c .before .before .before .before .before .before .before .before .before .before .before .before .loop .sp) (c .before .before .before .before .before .before .before .before .before .before .before .before .loop .st) (take (c .before .before .before .before .before .before .before .before .before .before .before .before .loop .n) (c .before .before .before .before .before .before .before .before .before .before .before .before .loop .known)) _ (c .before .before .before .before .before .before .before .before .before .before .before .before .loop .inv .4 g h rules b) (c .before .before .before .before .before .before .before .before .before .before .before .loop-test .taken) (omega (arith, c .before .before .before .before .before .before .before .before .before .before .if1 .left, c .before .before .before .before .before .before .before .before .before .before .before .before .loop .inv .2)) (c .before .before .before .before .before .meet .result) _ (c .before .before .before .before .before .meet .ensures g h rules b) (meets-steady g rules (placeAs (c .before .before .before .before .before .before .before .before .before .before .before .before .before .before .before .before .before .before .before .before .before .args .here)) _ _ _ _) (c .before .m2 .given .1) .0)
+
+enum-known-m-3 : tie.Need-enum-known-m-3 Inv-loop μ-loop
+enum-known-m-3 c = search needs
+
+mul-known : tie.Need-mul-known Inv-loop μ-loop
+mul-known c = search needs
+
+array-write-known : tie.Need-array-write-known Inv-loop μ-loop
+array-write-known c = let u = loop-new (meets (c .before .before .before .before .before .before .before .before .before .before .before .before .before .before .before .before .before .before .before .before .before .pre .0 .grammar) (c .before .before .before .before .before .before .before .before .before .before .before .before .before .before .before .before .before .before .before .before .before .pre .0 .rules) (placeAs (c .before .before .before .before .before .before .before .before .before .before .before .before .before .before .before .before .before .before .before .before .before .args .here))) (c .before .before .before .before .before .before .before .before .before .before .before .before .before .before .before .before .before .before .before .before .before .args .ps .now) (c .before .before .before .before .before .before .before .before .before .before .before .before .before .before .before .before .before .before .before .before .before .args .start) (c .before .before .before .before .before .before .before .before .before .before .before .before .loop .i) (c .before .before .before .before .before .before .before .before .before .before .before .before .loop .sp) (c .before .before .before .before .before .before .before .before .before .before .before .before .loop .st) (take (c .before .before .before .before .before .before .before .before .before .before .before .before .loop .n) (c .before .before .before .before .before .before .before .before .before .before .before .before .loop .known)) _ (c .before .before .before .before .before .before .before .before .before .before .before .before .loop .inv .4 (c .before .before .before .before .before .before .before .before .before .before .before .before .before .before .before .before .before .before .before .before .before .pre .0 .grammar) (c .before .before .before .before .before .before .before .before .before .before .before .before .before .before .before .before .before .before .before .before .before .pre .0 .tables) (c .before .before .before .before .before .before .before .before .before .before .before .before .before .before .before .before .before .before .before .before .before .pre .0 .rules) (c .before .before .before .before .before .before .before .before .before .before .before .before .before .before .before .before .before .before .before .before .before .pre .0 .book)) (c .before .before .before .before .before .before .before .before .before .before .before .loop-test .taken) (omega (arith, c .before .before .before .before .before .before .before .before .before .before .if1 .left, c .before .before .before .before .before .before .before .before .before .before .before .before .loop .inv .2)) (c .before .before .before .before .before .meet .result) _ (c .before .before .before .before .before .meet .ensures (c .before .before .before .before .before .before .before .before .before .before .before .before .before .before .before .before .before .before .before .before .before .pre .0 .grammar) (c .before .before .before .before .before .before .before .before .before .before .before .before .before .before .before .before .before .before .before .before .before .pre .0 .tables) (c .before .before .before .before .before .before .before .before .before .before .before .before .before .before .before .before .before .before .before .before .before .pre .0 .rules) (c .before .before .before .before .before .before .before .before .before .before .before .before .before .before .before .before .before .before .before .before .before .pre .0 .book)) (meets-steady (c .before .before .before .before .before .before .before .before .before .before .before .before .before .before .before .before .before .before .before .before .before .pre .0 .grammar) (c .before .before .before .before .before .before .before .before .before .before .before .before .before .before .before .before .before .before .before .before .before .pre .0 .rules) (placeAs (c .before .before .before .before .before .before .before .before .before .before .before .before .before .before .before .before .before .before .before .before .before .args .here)) _ _ _ _) (c .before .before .before .before .before .before .before .before .before .before .before .before .loop .known) (c .before .before .before .before .before .before .before .before .before .before .before .before .loop .inv .3) refl (c .before .m3 .given .1) in omega (arith, u .1 .1)
+
+add-n : tie.Need-add-n Inv-loop μ-loop
+add-n c = search needs
+
+add-i-2 : tie.Need-add-i-2 Inv-loop μ-loop
+add-i-2 c = search needs
+
+loop-less-2 : tie.Need-loop-less-2 Inv-loop μ-loop
+loop-less-2 c = search needs
+
+loop-again-2 : tie.Need-loop-again-2 Inv-loop μ-loop
+loop-again-2 c = let u = loop-new (meets (c .before .before .before .before .before .before .before .before .before .before .before .before .before .before .before .before .before .before .before .before .before .pre .0 .grammar) (c .before .before .before .before .before .before .before .before .before .before .before .before .before .before .before .before .before .before .before .before .before .pre .0 .rules) (placeAs (c .before .before .before .before .before .before .before .before .before .before .before .before .before .before .before .before .before .before .before .before .before .args .here))) (c .before .before .before .before .before .before .before .before .before .before .before .before .before .before .before .before .before .before .before .before .before .args .ps .now) (c .before .before .before .before .before .before .before .before .before .before .before .before .before .before .before .before .before .before .before .before .before .args .start) (c .before .before .before .before .before .before .before .before .before .before .before .before .loop .i) (c .before .before .before .before .before .before .before .before .before .before .before .before .loop .sp) (c .before .before .before .before .before .before .before .before .before .before .before .before .loop .st) (take (c .before .before .before .before .before .before .before .before .before .before .before .before .loop .n) (c .before .before .before .before .before .before .before .before .before .before .before .before .loop .known)) _ (c .before .before .before .before .before .before .before .before .before .before .before .before .loop .inv .4 (c .before .before .before .before .before .before .before .before .before .before .before .before .before .before .before .before .before .before .before .before .before .pre .0 .grammar) (c .before .before .before .before .before .before .before .before .before .before .before .before .before .before .before .before .before .before .before .before .before .pre .0 .tables) (c .before .before .before .before .before .before .before .before .before .before .before .before .before .before .before .before .before .before .before .before .before .pre .0 .rules) (c .before .before .before .before .before .before .before .before .before .before .before .before .before .before .before .before .before .before .before .before .before .pre .0 .book)) (c .before .before .before .before .before .before .before .before .before .before .before .loop-test .taken) (omega (arith, c .before .before .before .before .before .before .before .before .before .before .if1 .left, c .before .before .before .before .before .before .before .before .before .before .before .before .loop .inv .2)) (c .before .before .before .before .before .meet .result) _ (c .before .before .before .before .before .meet .ensures (c .before .before .before .before .before .before .before .before .before .before .before .before .before .before .before .before .before .before .before .before .before .pre .0 .grammar) (c .before .before .before .before .before .before .before .before .before .before .before .before .before .before .before .before .before .before .before .before .before .pre .0 .tables) (c .before .before .before .before .before .before .before .before .before .before .before .before .before .before .before .before .before .before .before .before .before .pre .0 .rules) (c .before .before .before .before .before .before .before .before .before .before .before .before .before .before .before .before .before .before .before .before .before .pre .0 .book)) (meets-steady (c .before .before .before .before .before .before .before .before .before .before .before .before .before .before .before .before .before .before .before .before .before .pre .0 .grammar) (c .before .before .before .before .before .before .before .before .before .before .before .before .before .before .before .before .before .before .before .before .before .pre .0 .rules) (placeAs (c .before .before .before .before .before .before .before .before .before .before .before .before .before .before .before .before .before .before .before .before .before .args .here)) _ _ _ _) (c .before .before .before .before .before .before .before .before .before .before .before .before .loop .known) (c .before .before .before .before .before .before .before .before .before .before .before .before .loop .inv .3) refl (c .before .m3 .given .1) in (omega (arith, c .before .before .before .before .before .meet .kept .1 .1 .1 .1 .1 .1 .1 .1 .1 .1 .1 .0, c .before .before .before .before .before .before .before .before .before .before .before .before .loop .inv .0), omega (arith, c .before .before .before .before .before .before .before .before .before .before .before .before .loop .inv .1, c .before .before .before .before .before .before .before .before .before .before .before .before .loop .inv .2, c .before .before .before .before .before .before .before .before .before .before .if1 .left, c .before .before .before .before .before .before .before .before .before .before .before .loop-test .taken), omega (arith, c .before .before .before .before .before .before .before .before .before .before .if1 .left, c .before .before .before .before .before .before .before .before .before .before .before .before .loop .inv .2), u .1, λ g h rules b. loop-new (meets g rules (placeAs (c .before .before .before .before .before .before .before .before .before .before .before .before .before .before .before .before .before .before .before .before .before .args .here))) (c .before .before .before .before .before .before .before .before .before .before .before .before .before .before .before .before .before .before .before .before .before .args .ps .now) (c .before .before .before .before .before .before .before .before .before .before .before .before .before .before .before .before .before .before .before .before .before .args .start) (c .before .before .before .before .before .before .before .before .before .before .before .before .loop .i) (c .before .before .before .before .before .before .before .before .before .before .before .before .loop .sp) (c .before .before .before .before .before .before .before .before .before .before .before .before .loop .st) (take (c .before .before .before .before .before .before .before .before .before .before .before .before .loop .n) (c .before .before .before .before .before .before .before .before .before .before .before .before .loop .known)) _ (c .before .before .before .before .before .before .before .before .before .before .before .before .loop .inv .4 g h rules b) (c .before .before .before .before .before .before .before .before .before .before .before .loop-test .taken) (omega (arith, c .before .before .before .before .before .before .before .before .before .before .if1 .left, c .before .before .before .before .before .before .before .before .before .before .before .before .loop .inv .2)) (c .before .before .before .before .before .meet .result) _ (c .before .before .before .before .before .meet .ensures g h rules b) (meets-steady g rules (placeAs (c .before .before .before .before .before .before .before .before .before .before .before .before .before .before .before .before .before .before .before .before .before .args .here)) _ _ _ _) (c .before .before .before .before .before .before .before .before .before .before .before .before .loop .known) (c .before .before .before .before .before .before .before .before .before .before .before .before .loop .inv .3) refl (c .before .m3 .given .1) .0)
 
 add-t47 : tie.Need-add-t47 Inv-loop μ-loop
 add-t47 c = search needs
@@ -113,7 +113,7 @@ same-length-3 : tie.Need-same-length-3 Inv-loop μ-loop
 same-length-3 c = search needs
 
 returns-3 : tie.Need-returns-3 Inv-loop μ-loop
-returns-3 c = λ g h rules b. loop-over (meets g rules (placeAs (c .before .before .before .before .before .before .before .before .before .before .args .here))) (c .before .before .before .before .before .before .before .before .before .before .args .ps .now) (c .before .before .before .before .before .before .before .before .before .before .args .start) (c .before .before .loop .i) (c .before .before .loop .sp) (c .before .before .loop .st) (c .before .before .loop .known) _ (c .before .before .loop .inv .4 g h rules b) (c .before .loop-test .left) (c .if2 .taken)
+returns-3 c = λ g h rules b. loop-over (meets g rules (placeAs (c .before .before .before .before .before .before .before .before .before .before .before .args .here))) (c .before .before .before .before .before .before .before .before .before .before .before .args .ps .now) (c .before .before .before .before .before .before .before .before .before .before .before .args .start) (c .before .before .loop .i) (c .before .before .loop .sp) (c .before .before .loop .st) (take (c .before .before .loop .n) (c .before .before .loop .known)) _ (c .before .before .loop .inv .4 g h rules b) (c .before .loop-test .left) (c .before .before .before .before .before .before .before .before .before .before .before .args .ctx) (c .if2 .taken)
 
 add-t45 : tie.Need-add-t45 Inv-loop μ-loop
 add-t45 c = search needs
@@ -122,7 +122,7 @@ same-length-4 : tie.Need-same-length-4 Inv-loop μ-loop
 same-length-4 c = search needs
 
 returns-4 : tie.Need-returns-4 Inv-loop μ-loop
-returns-4 c = λ g h rules b. loop-whole (meets g rules (placeAs (c .before .before .before .before .before .before .before .before .before .before .args .here))) (c .before .before .before .before .before .before .before .before .before .before .args .ps .now) (c .before .before .before .before .before .before .before .before .before .before .args .start) (c .before .before .loop .i) (c .before .before .loop .sp) (c .before .before .loop .st) (c .before .before .loop .known) _ (c .before .before .loop .inv .4 g h rules b) (c .before .loop-test .left) (c .if2 .left) (c .before .before .loop .inv .3)
+returns-4 c = λ g h rules b. loop-whole (meets g rules (placeAs (c .before .before .before .before .before .before .before .before .before .before .before .args .here))) (c .before .before .before .before .before .before .before .before .before .before .before .args .ps .now) (c .before .before .before .before .before .before .before .before .before .before .before .args .start) (c .before .before .loop .i) (c .before .before .loop .sp) (c .before .before .loop .st) (take (c .before .before .loop .n) (c .before .before .loop .known)) _ (c .before .before .loop .inv .4 g h rules b) (c .before .loop-test .left) (record { types = c .before .before .loop .known; n = c .before .before .loop .n }) (c .if2 .left) refl (c .before .before .loop .inv .3 .1)
 
 pub pairs-typed-spec : {M : Type 1} → statement M
 pairs-typed-spec =
@@ -133,31 +133,31 @@ pairs-typed-spec =
     push-requires
     loop-holds
     sub-if1
-    add-t34
+    add-t30
     same-length
     returns
-    mul-t
-    shared-slice-read-t
-    add-v
-    mul-v
-    shared-slice-read-v
     sub-top
-    mul-c
-    mul-c-2
-    slice-read-c
-    mul-d
-    add-d
-    mul-d-2
-    slice-read-d
+    mul-meet
+    shared-slice-read-meet
     add-meet
+    mul-meet-2
+    shared-slice-read-meet-2
+    add-meet-2
     meet-requires
-    enum-known-check
+    enum-known-m
     same-length-2
     returns-2
-    enum-known-check-2
+    enum-known-m-2
     add-i
     loop-less
     loop-again
+    enum-known-m-3
+    mul-known
+    array-write-known
+    add-n
+    add-i-2
+    loop-less-2
+    loop-again-2
     add-t47
     same-length-3
     returns-3

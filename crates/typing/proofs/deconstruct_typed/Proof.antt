@@ -34,7 +34,7 @@ same-length-2 : tie.Need-same-length-2
 same-length-2 c = search needs
 
 returns-3 : tie.Need-returns-3
-returns-3 c = λ g h rules b at. let len : length (c .before .before .before .before .before .before .before .before .before .before .before .args .ctx .types) ≡ 16 = search (needs, c .before .before .before .before .before .before .before .before .before .before .before .good) in deconstruct-own g rules (c .before .before .before .before .before .before .before .before .before .before .before .args .ws .now) at (c .before .before .before .before .before .before .before .before .before .before .before .args .ctx) len (c .before .before .before .before .before .before .before .before .before .before .before .pre .5) (c .before .before .before .before .before .before .before .before .before .before .before .args .part) (c .before .before .before .before .before .before .before .before .word .ensures) (c .before .before .before .before .before .before .before .wide .ensures) (c .before .before .before .before .before .before .if1 .left) (c .before .before .before .before .before .if2 .left) (c .before .before .before .before .type-of .ensures) (c .before .before .stretch-typed2 .ensures g h rules b)
+returns-3 c = λ g h rules b at. let len : length (c .before .before .before .before .before .before .before .before .before .before .before .before .before .args .ctx .types) ≡ 16 = search (needs, c .before .before .before .before .before .before .before .before .before .before .before .before .before .good) in deconstruct-own g rules (c .before .before .before .before .before .before .before .before .before .before .before .before .before .args .ws .now) at (c .before .before .before .before .before .before .before .before .before .before .before .before .before .args .ctx) len (c .before .before .before .before .before .before .before .before .before .before .before .before .before .pre .5) (c .before .before .before .before .before .before .before .before .before .before .before .before .before .args .part) (c .before .before .before .before .before .before .before .before .before .before .word .ensures) (c .before .before .before .before .before .before .before .before .before .wide .ensures) (c .before .before .before .before .before .before .before .before .if1 .left) (c .before .before .before .before .before .before .before .if2 .left) (c .before .before .before .before .type-of .ensures) (c .before .before .stretch-typed2 .ensures g h rules b)
 
 pub deconstruct-typed-spec : {M : Type 1} → statement M
 deconstruct-typed-spec =
