@@ -2,6 +2,7 @@ pub mod Marks
 pub mod Marking
 pub mod Spans
 pub mod Same
+pub mod Above
 pub mod Steps
 pub mod Matcher
 pub mod Clashing

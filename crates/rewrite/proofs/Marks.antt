@@ -74,6 +74,13 @@ unfolding marked markOf
 marked-append none b = refl
 marked-append (node {t} {v} {ts} {ws} fine q) b = rw (first-same (node {ts = ts} fine q) b, marked-append q b)
 
+-- the first mark
+pub first-mark : (g : Grammar) (ws : Words) → 2 ≤ length ws → getD (marked g ws) 0 0 ≡ mark (getD (firstTree g ws) 0 0) (size (firstTree g ws)) (nesting g (firstTree g ws))
+unfolding marked markOf first
+first-mark g [] h = absurd (omega arith)
+first-mark g (t ∷ []) h = absurd (omega arith)
+first-mark g (t ∷ v ∷ ws) h = refl
+
 -- the marks from a node on
 pub marked-drop : (g : Grammar) (ws : Words) (h p : ℕ) → p ≡ 2 * h → getD (marked g ws) p 0 ≡ getD (marked g (drop p ws)) 0 0
 unfolding marked

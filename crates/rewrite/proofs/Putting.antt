@@ -1,22 +1,20 @@
 -- A tree put in the place of another: the moves in work memory, and the marks afterwards. Assumes nothing.
 use Prim.Native.Nat.{ℕ, zero, suc, _+_, _-_, _*_, _<_, _≤_}
 use mathlib.Core.Path.{_≡_, refl, sym, ap, ap₂, _∙_}
-use mathlib.Core.List.{List, [], _∷_, _++_, append-assoc}
+use mathlib.Core.List.{List, [], _∷_, _++_}
 use native.Mathlib.Omega.{arith}
-use native.Mathlib.Numerals.{add-one, add-two}
-use lib.ListN.{length, getD, take, drop, length-append, length-take, length-drop, take-append-drop}
-use lib.Seq.{paste, length-paste, take-paste, take-at, drop-at, take-take, take-add, take-all, drop-drop, drop-nil, take-nil, length-take-le}
+use lib.ListN.{length, getD, take, drop, length-append, length-drop}
+use lib.Seq.{paste, length-paste, take-paste, take-at, drop-at, take-take, take-add, drop-drop, drop-nil, take-nil, length-take-le}
 use Rattle.words.specs.Reader.{Words}
 use Rattle.grammar.specs.Grammar.{Grammar}
-use Rattle.grammar.specs.Tables.{Tables}
-use Rattle.tree.specs.Tree.{Trees, none, node, size, first, after, firstTree}
-use Rattle.tree.proofs.Trees.{tells, trees-even, first-even, after-drop}
+use Rattle.tree.specs.Tree.{Trees, size, after, firstTree}
+use Rattle.tree.proofs.Trees.{trees-even, first-even, after-drop}
 use Rattle.meaning.specs.Meaning.{put}
 use Rattle.rewrite.specs.Marked.{typeIn, sizeIn, marked, unmarked}
-use Rattle.rewrite.specs.Post.{span, Unfinished, TreeMarked, Ready, InPlace}
+use Rattle.rewrite.specs.Post.{span, Unfinished, Kept, AboveMarked, Ready, InPlace}
 use Rattle.rewrite.proofs.Marks.{marked-length, marked-append}
-use Rattle.rewrite.proofs.Marking.{Child, child-of}
-use Rattle.rewrite.proofs.Spans.{drop-take, span-later, span-length, word-there, suffix-trees, suffix-size, first-size}
+use Rattle.rewrite.proofs.Marking.{child-of}
+use Rattle.rewrite.proofs.Spans.{drop-take, span-later, word-there, suffix-trees, suffix-some, suffix-size, first-size}
 use Rattle.rewrite.proofs.Same.{unmark}
 
 -- MARKS OF A PART
@@ -98,15 +96,7 @@ module _ (g : Grammar) (w : Words) (base place end from n t : ℕ) (scope ws : W
   stands-rest = sym (span-later w base place end low) ∙ ap (drop (place - base)) (r .stands) ∙ marked-suffix g scope (r .half) (place - base) (r .even)
 
   there : (c : ℕ) × (cs : List ℕ) × Trees g (c ∷ cs) rest-words
-  there = go (suffix-trees scope (r .tree) (r .half) (place - base) (r .even) (omega (arith, r .long)))
-    where
-      go : (us : List ℕ) × Trees g us rest-words → (c : ℕ) × (cs : List ℕ) × Trees g (c ∷ cs) rest-words
-      go ([], q) = absurd (omega (arith, trees-none rest-words q, length-drop (place - base) scope, r .long))
-        where
-          trees-none : (x : Words) → Trees g [] x → length x ≡ 0
-          trees-none [] q = refl
-          trees-none (y ∷ x) q = absurd (tells q)
-      go ((c ∷ cs), q) = (c, cs, q)
+  there = suffix-some scope (r .tree) (r .half) (place - base) (r .even) (omega (arith, r .long))
 
   node-size : sizeIn (getD w place 0) ≡ size (firstTree g rest-words)
   node-size =
@@ -135,6 +125,26 @@ module _ (g : Grammar) (w : Words) (base place end from n t : ℕ) (scope ws : W
   follows-long p e =
       omega (arith, ap length (after-drop g rest-words 1), length-drop (length (firstTree g rest-words)) rest-words, node-size, first-even g rest-words 1, rest-long)
 
+  -- the words before the place stand as they did
+  front-stands : (w₂ : Words) → take place w₂ ≡ take place w → span w₂ base place ≡ take (place - base) (marked g scope)
+  front-stands w₂ front =
+      sym (drop-take place base w₂) ∙ ap (drop base) front ∙ drop-take place base w ∙ sym (take-take (place - base) (end - base) (drop base w) (omega arith)) ∙ ap (take (place - base)) (r .stands)
+
+  put-front : take (place - base) (put g scope (place - base) ws) ≡ take (place - base) scope
+  unfolding put
+  put-front = take-at (take (place - base) scope) (ws ++ after g rest-words 1) (place - base) (length-take-le (place - base) scope (omega (arith, r .long)))
+
+  kept : (w₂ : Words) → take place w₂ ≡ take place w → Kept g w₂ base place (put g scope (place - base) ws)
+  kept w₂ front = record {
+    old = scope;
+    type = t;
+    tree = r .tree;
+    few = r .few;
+    long = omega (arith, r .long);
+    same = sym put-front;
+    stands = front-stands w₂ front;
+  }
+
   -- after the moves all is right but the marks before the place
   unfinished : (p rest : ℕ) (w₂ : Words) → p ≡ place + 2 * sizeIn (getD w place 0) → p + rest ≡ end → take place w₂ ≡ take place w → take (n + rest) (drop place w₂) ≡ span w from (from + n) ++ span w p end
       → Unfinished g w₂ base place (place + (n + rest)) (put g scope (place - base) ws)
@@ -144,13 +154,11 @@ module _ (g : Grammar) (w : Words) (base place end from n t : ℕ) (scope ws : W
       let x = after g rest-words 1 in
       let lq : length (take q scope) ≡ q = length-take-le q scope (omega (arith, r .long)) in
       let top : place + (n + rest) - place ≡ n + rest = omega arith in
-      let same : span w₂ base place ≡ span w base place = sym (drop-take place base w₂) ∙ ap (drop base) front ∙ drop-take place base w in
-      let part : span w base place ≡ take q (marked g scope) = sym (take-take q (end - base) (drop base w) (omega arith)) ∙ ap (take q) (r .stands) in
       record {
         long = omega (arith, length-append (take q scope) (ws ++ x), length-append ws x, lq, r .new-long, follows-long p e);
         half = r .half;
         even = r .even;
-        front = ap unmarked (same ∙ part) ∙ unmarked-take (marked g scope) (r .half) q (r .even) ∙ ap (take q) (unmark types (r .tree)) ∙ sym (take-at (take q scope) (ws ++ x) q lq);
+        front = ap unmarked (front-stands w₂ front) ∙ unmarked-take (marked g scope) (r .half) q (r .even) ∙ ap (take q) (unmark types (r .tree)) ∙ sym put-front;
         back = ap (λ k. take k (drop place w₂)) top ∙ middle ∙ ap₂ (λ a b. a ++ b) (r .new-stands) (what-follows p e) ∙ sym (marked-append (r .new) x)
             ∙ ap (marked g) (sym (drop-at (take q scope) (ws ++ x) q lq));
       }
@@ -158,7 +166,7 @@ module _ (g : Grammar) (w : Words) (base place end from n t : ℕ) (scope ws : W
 -- IN PLACE
 
 module _ (heads rows w : Words) (base place end from n : ℕ) (low : base ≤ place) (two : place < end) (high : end ≤ from) (room : from + n + (end - place) ≤ length w) where
-  pub put-done : (p rest : ℕ) (w₂ w₃ : Words) → p ≡ place + 2 * sizeIn (getD w place 0) → p ≤ end → rest ≡ end - p → w₂ ≡ moved w place p from n rest → TreeMarked heads rows w₂ w₃ base place (place + (n + rest))
+  pub put-done : (p rest : ℕ) (w₂ w₃ : Words) → p ≡ place + 2 * sizeIn (getD w place 0) → p ≤ end → rest ≡ end - p → w₂ ≡ moved w place p from n rest → AboveMarked heads rows w₂ w₃ base place (place + (n + rest))
       → InPlace heads rows w w₃ base place end from n
   put-done p rest w₂ w₃ e inside er e₂ m = record {
     long = m .long ∙ ap length e₂ ∙ moved-long w place p end from n rest (omega arith) (omega arith) high (omega arith);
@@ -166,7 +174,8 @@ module _ (heads rows w : Words) (base place end from n : ℕ) (low : base ≤ pl
         let front : take place w₂ ≡ take place w = ap (take place) e₂ ∙ moved-front w place p end from n rest (omega arith) (omega arith) high (omega arith) in
         let middle : take (n + rest) (drop place w₂) ≡ span w from (from + n) ++ span w p end = ap (λ l. take (n + rest) (drop place l)) e₂ ∙ moved-middle w place p end from n rest (omega arith) (omega arith) high (omega arith) in
         let u = unfinished g w base place end from n t scope ws (tb .rows-of .types) r low two (omega arith) p rest w₂ e (omega arith) front middle in
-        let is = m .marks g t (put g scope (place - base) ws) tb (r .fits) (r .small) u in
+        let k = kept g w base place end from n t scope ws (tb .rows-of .types) r low two (omega arith) w₂ front in
+        let is = m .marks g t (put g scope (place - base) ws) tb (r .fits) (r .small) u k in
         let lb : length (take base w₂) ≡ base = length-take-le base w₂ (omega (arith, ap length e₂, moved-long w place p end from n rest (omega arith) (omega arith) high (omega arith))) in
         let top : base + length (put g scope (place - base) ws) - base ≡ length (marked g (put g scope (place - base) ws)) = omega (arith, marked-length g (put g scope (place - base) ws)) in (
           ap (take base) is ∙ take-at (take base w₂) (marked g (put g scope (place - base) ws) ++ drop (place + (n + rest)) w₂) base lb ∙ sym (take-take base place w₂ low) ∙ ap (take base) front ∙ take-take base place w low,

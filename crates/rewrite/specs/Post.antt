@@ -3,7 +3,7 @@ use Prim.Native.Nat.{ℕ, _+_, _-_, _*_, _≤_}
 use mathlib.Core.Path.{_≡_}
 use mathlib.Core.Bool.{Bool, true}
 use mathlib.Core.List.{List, [], _∷_, _++_}
-use lib.ListN.{length, take, drop}
+use lib.ListN.{length, getD, take, drop, set}
 use Rattle.words.specs.Reader.{Words}
 use Rattle.grammar.specs.Grammar.{Grammar}
 use Rattle.grammar.specs.Kinds.{allowed, children}
@@ -12,7 +12,7 @@ use Rattle.tree.specs.Limits.{mostNodes}
 use Rattle.tree.specs.Tree.{Trees, size, nodeNesting, firstTree}
 use Rattle.words.specs.Views.{equalWords}
 use Rattle.grammar.specs.Limits.{mostTypes}
-use Rattle.rewrite.specs.Marked.{markOf, marked, unmarked}
+use Rattle.rewrite.specs.Marked.{typeIn, markOf, marked, unmarked}
 use Rattle.rewrite.specs.Vars.{Stands}
 use Rattle.meaning.specs.Meaning.{put}
 
@@ -24,6 +24,12 @@ MarkMade heads rows t v below r = (g : Grammar) (ws : Words) (ts : List ℕ) →
 -- the words from base to top
 abbrev pub span : Words → ℕ → ℕ → Words
 span w base top = take (top - base) (drop base w)
+
+-- the node at p is marked, whose children's marked trees the words from there to top begin with; no other word is changed
+pub record NodeMarked (heads rows w w′ : Words) (p top : ℕ) : Type 0 where
+  pub word : ℕ
+  pub made : MarkMade heads rows (typeIn (getD w p 0)) (getD w (p + 1) 0) (span w (p + 2) top) word
+  pub stored : w′ ≡ set w p word
 
 -- a tree stands from base to top: its words before the place are marked wrongly or not at all, those from there on rightly
 pub record Unfinished (g : Grammar) (w : Words) (base place top : ℕ) (ws : Words) : Type 0 where
@@ -37,6 +43,22 @@ pub record Unfinished (g : Grammar) (w : Words) (base place top : ℕ) (ws : Wor
 pub record TreeMarked (heads rows w w′ : Words) (base place top : ℕ) : Type 0 where
   pub long : length w′ ≡ length w
   pub marks : (g : Grammar) (t : ℕ) (ws : Words) → Tables g heads rows → Trees g (t ∷ []) ws → size ws ≤ mostNodes → Unfinished g w base place top ws → w′ ≡ take base w ++ (marked g ws ++ drop top w)
+
+-- the words before the place stand as in another marked tree, the old one, which begins with the same words
+pub record Kept (g : Grammar) (w : Words) (base place : ℕ) (ws : Words) : Type 0 where
+  pub old : Words
+  pub type : ℕ
+  pub tree : Trees g (type ∷ []) old
+  pub few : size old ≤ mostNodes
+  pub long : place - base ≤ length old
+  pub same : take (place - base) old ≡ take (place - base) ws
+  pub stands : span w base place ≡ take (place - base) (marked g old)
+
+-- .. then marking the nodes above the place is enough
+pub record AboveMarked (heads rows w w′ : Words) (base place top : ℕ) : Type 0 where
+  pub long : length w′ ≡ length w
+  pub marks : (g : Grammar) (t : ℕ) (ws : Words) → Tables g heads rows → Trees g (t ∷ []) ws → size ws ≤ mostNodes → Unfinished g w base place top ws → Kept g w base place ws
+      → w′ ≡ take base w ++ (marked g ws ++ drop top w)
 
 -- r says whether the tree at `start` and the first tree of the part are the same
 abbrev pub SameTree : Words → ℕ → Words → Bool → Type 0

@@ -12,7 +12,7 @@ ghost use Rattle.words.specs.Reader.{pick, and};
 ghost use lib.Dec.{eqb};
 ghost use lib.ListN.{length};
 ghost use Rattle.rewrite.specs.Marked.{mark, typeIn, sizeIn, nestingIn};
-ghost use Rattle.rewrite.specs.Post.{MarkMade, TreeMarked, InPlace, NestingOf, Written, SameTree};
+ghost use Rattle.rewrite.specs.Post.{MarkMade, NodeMarked, TreeMarked, AboveMarked, InPlace, NestingOf, Written, SameTree};
 ghost use Rattle.rewrite.specs.Vars.{bound, startAt, Sound};
 ghost use Rattle.rewrite.specs.Matching.{NewTold, PairTold, failedBy, MatchAnswers, FirstAnswers};
 ghost use Rattle.rewrite.specs.declared.Verdict as Verdict;
@@ -111,6 +111,19 @@ fn mark_of(heads: &[u32; HEADS], rows: &[u8; ROWS], t: u32, v: u32, below: &[u32
     pack(t, size, deepest)
 }
 
+// Marks the node at p of a tree that ends by top: its children's trees are marked.
+fn mark_node(heads: &[u32; HEADS], rows: &[u8; ROWS], w: &mut [u32], p: usize, top: usize)
+    requires { ⌜ (p + 2 ≤ top) × (top ≤ length (now w)) ⌝ }
+    ensures { λ _. ⌜ NodeMarked (now (heads .entry)) (now (rows .entry)) (now (w .entry)) (now (w .exit)) p top ⌝ }
+{
+    let below = p + 2;
+    let t = type_in(w[p]);
+    let v = w[p + 1];
+    let arena = &w[..];
+    let m = mark_of(heads, rows, t, v, &arena[below..top]);
+    w[p] = m;
+}
+
 // Marks the nodes before the place in the tree that stands from base to top, the last first: a node's children are marked before it.
 pub fn mark_tree(
     heads: &[u32; HEADS],
@@ -126,12 +139,29 @@ pub fn mark_tree(
     let mut p = place;
     while 2 <= p - base {
         p = p - 2;
-        let below = p + 2;
-        let t = type_in(w[p]);
-        let v = w[p + 1];
-        let arena = &w[..];
-        let m = mark_of(heads, rows, t, v, &arena[below..top]);
-        w[p] = m;
+        mark_node(heads, rows, w, p, top);
+    }
+}
+
+// The same where another tree is put in the place: only the nodes above it are marked again, since a tree that ended by the place has not changed.
+fn mark_above(
+    heads: &[u32; HEADS],
+    rows: &[u8; ROWS],
+    w: &mut [u32],
+    base: usize,
+    place: usize,
+    top: usize,
+)
+    requires { ⌜ (base ≤ place) × (place ≤ top) × (top ≤ length (now w)) ⌝ }
+    ensures { λ _. ⌜ AboveMarked (now (heads .entry)) (now (rows .entry)) (now (w .entry)) (now (w .exit)) base place top ⌝ }
+{
+    let mut p = place;
+    while 2 <= p - base {
+        p = p - 2;
+        let end = p + 2 * size_in(w[p]);
+        if place < end {
+            mark_node(heads, rows, w, p, top);
+        }
     }
 }
 
@@ -156,7 +186,7 @@ pub fn put_in_place(
         words::copy_up(w, after, from + n, rest);
         words::move_down(w, from, place, n + rest);
         let top = place + (n + rest);
-        mark_tree(heads, rows, w, base, place, top);
+        mark_above(heads, rows, w, base, place, top);
     }
 }
 

@@ -1,8 +1,8 @@
 use lib.Seq.{paste}
-use lib.ListN.{take, drop}
-use mathlib.Core.List.{List, _++_}
-use mathlib.Core.Path.{_≡_, refl, sym, ap, _∙_}
-use Prim.Native.Nat.{ℕ, _+_, _*_, _-_, _≤_, _<_}
+use lib.ListN.{drop}
+use mathlib.Core.List.{List}
+use mathlib.Core.Path.{refl, ap, _∙_}
+use Prim.Native.Nat.{ℕ, _+_, _*_, _-_}
 use native.Mathlib.Omega.{arith}
 use Rattle.rewrite.proofs.Putting.{put-done, put-not}
 use borrow.Author.Needs.{needs}
@@ -10,7 +10,7 @@ use Rattle.rewrite.proofs.put_in_place.Statement.{statement}
 use Rattle.rewrite.proofs.put_in_place.Tie as tie
 use Rattle.rewrite.proofs.put_in_place.Reads as reads
 use Rattle.rewrite.proofs.put_in_place.Lts as lts
-use Rattle.rewrite.proofs.mark_tree.Reads as mark-tree-reads
+use Rattle.rewrite.proofs.mark_above.Reads as mark-above-reads
 use Rattle.rewrite.proofs.size_in.Reads as size-in-reads
 use Rattle.words.proofs.copy_up.Reads as copy-up-reads
 use Rattle.words.proofs.move_down.Reads as move-down-reads
@@ -60,8 +60,8 @@ add-top-2 : tie.Need-add-top-2
 add-top-2 c = search needs
 
 -- src/lib.rt:160:9
-mark-tree-requires : tie.Need-mark-tree-requires
-mark-tree-requires c κs = search needs
+mark-above-requires : tie.Need-mark-above-requires
+mark-above-requires c κs = search needs
 
 -- src/lib.rt:141:1
 same-length : tie.Need-same-length
@@ -69,7 +69,7 @@ same-length c = search needs
 
 -- src/lib.rt:141:1
 returns : tie.Need-returns
-returns c = put-done (c .before .before .before .before .before .before .before .before .before .before .before .before .before .before .before .before .args .heads .now) (c .before .before .before .before .before .before .before .before .before .before .before .before .before .before .before .before .args .rows .now) (c .before .before .before .before .before .before .before .before .before .before .before .before .before .before .before .before .args .w .now) (c .before .before .before .before .before .before .before .before .before .before .before .before .before .before .before .before .args .base) (c .before .before .before .before .before .before .before .before .before .before .before .before .before .before .before .before .args .place) (c .before .before .before .before .before .before .before .before .before .before .before .before .before .before .before .before .args .end) (c .before .before .before .before .before .before .before .before .before .before .before .before .before .before .before .before .args .from) (c .before .before .before .before .before .before .before .before .before .before .before .before .before .before .before .before .args .n) (c .before .before .before .before .before .before .before .before .before .before .before .before .before .before .before .before .pre .0) (c .before .before .before .before .before .before .before .before .before .before .before .before .before .before .before .before .pre .1) (c .before .before .before .before .before .before .before .before .before .before .before .before .before .before .before .before .pre .2) (c .before .before .before .before .before .before .before .before .before .before .before .before .before .before .before .before .pre .3) _ _ _ _ (ap (λ (k : ℕ). c .before .before .before .before .before .before .before .before .before .before .before .before .before .before .before .before .args .place + 2 * k) (c .before .before .before .before .before .before .before .before .before .before .before .before .before .size-in .ensures .0)) (omega arith) refl (c .before .before .before .before .before .before .move-down .ensures ∙ ap (λ (l : List ℕ). paste l (c .before .before .before .before .before .before .before .before .before .before .before .before .before .before .before .before .args .place) (drop (c .before .before .before .before .before .before .before .before .before .before .before .before .before .before .before .before .args .from) l) (c .before .before .before .before .before .before .before .before .before .before .before .before .before .before .before .before .args .n + (c .before .before .before .before .before .before .before .before .before .before .before .before .before .before .before .before .args .end - (c .before .before .before .before .before .before .before .before .before .before .before .before .before .before .before .before .args .place + 2 * c .before .before .before .before .before .before .before .before .before .before .before .before .before .size-in .result)))) (c .before .before .before .before .before .before .before .before .before .before .copy-up .ensures)) (c .before .before .mark-tree .ensures)
+returns c = put-done (c .before .before .before .before .before .before .before .before .before .before .before .before .before .before .before .before .args .heads .now) (c .before .before .before .before .before .before .before .before .before .before .before .before .before .before .before .before .args .rows .now) (c .before .before .before .before .before .before .before .before .before .before .before .before .before .before .before .before .args .w .now) (c .before .before .before .before .before .before .before .before .before .before .before .before .before .before .before .before .args .base) (c .before .before .before .before .before .before .before .before .before .before .before .before .before .before .before .before .args .place) (c .before .before .before .before .before .before .before .before .before .before .before .before .before .before .before .before .args .end) (c .before .before .before .before .before .before .before .before .before .before .before .before .before .before .before .before .args .from) (c .before .before .before .before .before .before .before .before .before .before .before .before .before .before .before .before .args .n) (c .before .before .before .before .before .before .before .before .before .before .before .before .before .before .before .before .pre .0) (c .before .before .before .before .before .before .before .before .before .before .before .before .before .before .before .before .pre .1) (c .before .before .before .before .before .before .before .before .before .before .before .before .before .before .before .before .pre .2) (c .before .before .before .before .before .before .before .before .before .before .before .before .before .before .before .before .pre .3) _ _ _ _ (ap (λ (k : ℕ). c .before .before .before .before .before .before .before .before .before .before .before .before .before .before .before .before .args .place + 2 * k) (c .before .before .before .before .before .before .before .before .before .before .before .before .before .size-in .ensures .0)) (omega arith) refl (c .before .before .before .before .before .before .move-down .ensures ∙ ap (λ (l : List ℕ). paste l (c .before .before .before .before .before .before .before .before .before .before .before .before .before .before .before .before .args .place) (drop (c .before .before .before .before .before .before .before .before .before .before .before .before .before .before .before .before .args .from) l) (c .before .before .before .before .before .before .before .before .before .before .before .before .before .before .before .before .args .n + (c .before .before .before .before .before .before .before .before .before .before .before .before .before .before .before .before .args .end - (c .before .before .before .before .before .before .before .before .before .before .before .before .before .before .before .before .args .place + 2 * c .before .before .before .before .before .before .before .before .before .before .before .before .before .size-in .result)))) (c .before .before .before .before .before .before .before .before .before .before .copy-up .ensures)) (c .before .before .mark-above .ensures)
 
 -- src/lib.rt:141:1
 returns-2 : tie.Need-returns-2
@@ -90,7 +90,7 @@ put-in-place-spec =
     move-down-requires
     add-top
     add-top-2
-    mark-tree-requires
+    mark-above-requires
     same-length
     returns
     returns-2)
