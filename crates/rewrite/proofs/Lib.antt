@@ -3,6 +3,7 @@ pub mod Marking
 pub mod Spans
 pub mod Same
 pub mod Above
+pub mod Swapping
 pub mod Steps
 pub mod Matcher
 pub mod Clashing

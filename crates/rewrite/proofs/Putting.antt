@@ -3,19 +3,20 @@ use Prim.Native.Nat.{ℕ, zero, suc, _+_, _-_, _*_, _<_, _≤_}
 use mathlib.Core.Path.{_≡_, refl, sym, ap, ap₂, _∙_}
 use mathlib.Core.List.{List, [], _∷_, _++_}
 use native.Mathlib.Omega.{arith}
-use lib.ListN.{length, getD, take, drop, length-append, length-drop}
-use lib.Seq.{paste, length-paste, take-paste, take-at, drop-at, take-take, take-add, drop-drop, drop-nil, take-nil, length-take-le}
+use lib.ListN.{length, getD, take, drop, length-append, length-drop, take-append-drop}
+use lib.Seq.{paste, length-paste, take-paste, drop-paste, take-at, drop-at, take-take, take-add, drop-drop, drop-nil, take-nil, length-take-le}
 use Rattle.words.specs.Reader.{Words}
 use Rattle.grammar.specs.Grammar.{Grammar}
-use Rattle.tree.specs.Tree.{Trees, size, after, firstTree}
-use Rattle.tree.proofs.Trees.{trees-even, first-even, after-drop}
+use Rattle.tree.specs.Tree.{Trees, size, nesting, after, firstTree}
+use Rattle.tree.proofs.Trees.{Even, even-of, size-append, trees-even, tree-some, first-after, first-even, after-drop}
 use Rattle.meaning.specs.Meaning.{put}
-use Rattle.rewrite.specs.Marked.{typeIn, sizeIn, marked, unmarked}
+use Rattle.rewrite.specs.Marked.{typeIn, sizeIn, nestingIn, marked, unmarked}
 use Rattle.rewrite.specs.Post.{span, Unfinished, Kept, AboveMarked, Ready, InPlace}
 use Rattle.rewrite.proofs.Marks.{marked-length, marked-append}
-use Rattle.rewrite.proofs.Marking.{child-of}
+use Rattle.rewrite.proofs.Marking.{Child, child-of}
 use Rattle.rewrite.proofs.Spans.{drop-take, span-later, word-there, suffix-trees, suffix-some, suffix-size, first-size}
-use Rattle.rewrite.proofs.Same.{unmark}
+use Rattle.rewrite.proofs.Same.{unmark, whole-first}
+use Rattle.rewrite.proofs.Swapping.{swap-marks}
 
 -- MARKS OF A PART
 
@@ -98,12 +99,15 @@ module _ (g : Grammar) (w : Words) (base place end from n t : ℕ) (scope ws : W
   there : (c : ℕ) × (cs : List ℕ) × Trees g (c ∷ cs) rest-words
   there = suffix-some scope (r .tree) (r .half) (place - base) (r .even) (omega (arith, r .long))
 
-  node-size : sizeIn (getD w place 0) ≡ size (firstTree g rest-words)
-  node-size =
+  old-child : Child g (there .0) (there .1) rest-words (getD w place 0)
+  old-child =
       let here = word-there w (marked g rest-words) place (end - place) stands-rest (omega arith) in
       let s = first-size g rest-words 1 in
       let u = suffix-size scope (r .half) (place - base) (r .even) in
-      child-of g (there .0) (there .1) rest-words (getD w place 0) types (omega (arith, r .few)) (there .2) here .counted
+      child-of g (there .0) (there .1) rest-words (getD w place 0) types (omega (arith, r .few)) (there .2) here
+
+  node-size : sizeIn (getD w place 0) ≡ size (firstTree g rest-words)
+  node-size = old-child .counted
 
   rest-long : length rest-words ≡ end - place
   rest-long = omega (arith, length-drop (place - base) scope, r .long)
@@ -163,6 +167,64 @@ module _ (g : Grammar) (w : Words) (base place end from n t : ℕ) (scope ws : W
             ∙ ap (marked g) (sym (drop-at (take q scope) (ws ++ x) q lq));
       }
 
+  -- THE SAME MARK: the new tree is as large and nests as deep as the old one
+
+  front-even : Even (take (place - base) scope)
+  front-even = even-of (take (place - base) scope) (omega (arith, length-take-le (place - base) scope (omega (arith, r .long)), r .even))
+
+  new-small : size ws ≤ 2048
+  unfolding put
+  new-small =
+      let x = after g rest-words 1 in
+      omega (arith, r .small, size-append (take (place - base) scope) (ws ++ x) front-even, size-append ws x (trees-even (r .new)))
+
+  new-child : Child g (r .type) [] ws (getD w from 0)
+  new-child =
+      let f = whole-first ws (r .new) in
+      child-of g (r .type) [] ws (getD w from 0) types (rw f (omega (arith, new-small))) (r .new) (word-there w (marked g ws) from (from + n - from) (r .new-stands) (omega (arith, r .new-long, trees-even (r .new), tree-some ws (r .new))))
+
+  module _ (alike : getD w from 0 ≡ getD w place 0) where
+    same-size : size ws ≡ size (firstTree g rest-words)
+    same-size = sym (ap size (whole-first ws (r .new))) ∙ sym (new-child .counted) ∙ ap sizeIn alike ∙ old-child .counted
+
+    same-nesting : nesting g ws ≡ nesting g (firstTree g rest-words)
+    same-nesting = sym (ap (nesting g) (whole-first ws (r .new))) ∙ sym (new-child .nested) ∙ ap nestingIn alike ∙ old-child .nested
+
+    new-end : place + n ≡ place + 2 * sizeIn (getD w place 0)
+    new-end = omega (arith, r .new-long, trees-even (r .new), same-size, node-size)
+
+    put-marks : marked g (put g scope (place - base) ws) ≡ take (place - base) (marked g scope) ++ (marked g ws ++ marked g (after g rest-words 1))
+    unfolding put
+    put-marks =
+        let q = place - base in
+        let a = take q scope in
+        let u = firstTree g rest-words in
+        let x = after g rest-words 1 in
+        let whole : a ++ (u ++ x) ≡ scope = ap (λ l. a ++ l) (first-after g rest-words 1) ∙ take-append-drop q scope in
+        swap-marks g (there .0) (r .type) u ws x (old-child .tree) (r .new) (sym same-size) (sym same-nesting) a front-even
+        ∙ ap₂ (λ l b. l ++ b) (ap₂ (λ k l. take k (marked g l)) (length-take-le q scope (omega (arith, r .long))) whole) (marked-append (r .new) x)
+
+    put-long : length (put g scope (place - base) ws) ≡ (place - base) + (n + (end - (place + n)))
+    unfolding put
+    put-long =
+        let x = after g rest-words 1 in
+        omega (arith, length-append (take (place - base) scope) (ws ++ x), length-append ws x, length-take-le (place - base) scope (omega (arith, r .long)), r .new-long, follows-long (place + n) new-end)
+
+    same-stands : (w₂ : Words) → w₂ ≡ paste w place (drop from w) n → from + n ≤ length w → take place w₂ ≡ take place w
+        → span w₂ base (base + length (put g scope (place - base) ws)) ≡ marked g (put g scope (place - base) ws)
+    same-stands w₂ e room₂ front =
+        let q = place - base in
+        let rest = end - (place + n) in
+        let up : base + q ≡ place = omega arith in
+        let z : base + length (put g scope q ws) - base ≡ q + (n + rest) = omega (arith, put-long) in
+        let y : from + n - from ≡ n = omega arith in
+        let ld : n ≤ length (drop from w) = omega (arith, length-drop from w) in
+        let middle : take n (drop place w₂) ≡ marked g ws = ap (λ l. take n (drop place l)) e ∙ paste-middle w place (drop from w) n (omega arith) ld ∙ ap (λ k. take k (drop from w)) (sym y) ∙ r .new-stands in
+        let back : take rest (drop (place + n) w₂) ≡ marked g (after g rest-words 1) = ap (λ l. take rest (drop (place + n) l)) e ∙ ap (take rest) (drop-paste w place (drop from w) n (omega arith) ld) ∙ what-follows (place + n) new-end in
+        ap (λ k. take k (drop base w₂)) z ∙ take-add q (n + rest) (drop base w₂)
+        ∙ ap₂ (λ a b. a ++ b) (front-stands w₂ front) (ap (take (n + rest)) (drop-drop q base w₂ ∙ ap (λ k. drop k w₂) up) ∙ take-add n rest (drop place w₂) ∙ ap₂ (λ a b. a ++ b) middle (ap (take rest) (drop-drop n place w₂) ∙ back))
+        ∙ sym put-marks
+
 -- IN PLACE
 
 module _ (heads rows w : Words) (base place end from n : ℕ) (low : base ≤ place) (two : place < end) (high : end ≤ from) (room : from + n + (end - place) ≤ length w) where
@@ -184,6 +246,19 @@ module _ (heads rows w : Words) (base place end from n : ℕ) (low : base ≤ pl
               ∙ take-at (marked g (put g scope (place - base) ws)) (drop (place + (n + rest)) w₂) (base + length (put g scope (place - base) ws) - base) (sym top),
         );
   }
+
+  -- the first words are the same: what follows the tree stays, and so does each mark before it
+  pub put-same : (w₂ : Words) → getD w from 0 ≡ getD w place 0 → w₂ ≡ paste w place (drop from w) n → InPlace heads rows w w₂ base place end from n
+  put-same w₂ alike e =
+      let ld : n ≤ length (drop from w) = omega (arith, length-drop from w) in
+      let front : take place w₂ ≡ take place w = ap (take place) e ∙ paste-front w place (drop from w) n (omega arith) ld in
+      record {
+        long = ap length e ∙ length-paste w place (drop from w) n (omega arith) ld;
+        in-place = λ g t scope ws tb r. (
+          sym (take-take base place w₂ low) ∙ ap (take base) front ∙ take-take base place w low,
+          same-stands g w base place end from n t scope ws (tb .rows-of .types) r low two (omega arith) alike w₂ e (omega arith) front,
+        );
+      }
 
   -- the node's tree ends inside the scope, so there is no other way
   pub put-not : end < place + 2 * sizeIn (getD w place 0) → InPlace heads rows w w base place end from n

@@ -166,7 +166,7 @@ fn mark_above(
 }
 
 // Puts the tree of n words that stands at `from` in the place of the tree that stands there, in the scope from base to end: what follows goes behind
-// the new tree, then both move down.
+// the new tree, then both move down. If the first words are the same, so are the sizes and the nestings: then nothing else changes.
 pub fn put_in_place(
     heads: &[u32; HEADS],
     rows: &[u8; ROWS],
@@ -180,6 +180,10 @@ pub fn put_in_place(
     requires { ⌜ (base ≤ place) × (place < end) × (end ≤ from) × (from + n + (end - place) ≤ length (now w)) ⌝ }
     ensures { λ _. ⌜ InPlace (now (heads .entry)) (now (rows .entry)) (now (w .entry)) (now (w .exit)) base place end from n ⌝ }
 {
+    if w[from] == w[place] {
+        words::move_down(w, from, place, n);
+        return;
+    }
     let after = place + 2 * size_in(w[place]);
     if after <= end {
         let rest = end - after;
