@@ -4,6 +4,7 @@ pub mod Spans
 pub mod Same
 pub mod Above
 pub mod Swapping
+pub mod Resizing
 pub mod Steps
 pub mod Matcher
 pub mod Clashing

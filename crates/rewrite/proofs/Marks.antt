@@ -92,6 +92,16 @@ marked-drop g (t ∷ v ∷ ws) (suc h) zero e = absurd (omega arith)
 marked-drop g (t ∷ v ∷ ws) (suc h) (suc zero) e = absurd (omega arith)
 marked-drop g (t ∷ v ∷ ws) (suc h) (suc (suc p)) e = marked-drop g ws h p (omega arith)
 
+pub marked-suffix : (g : Grammar) (ws : Words) (h q : ℕ) → q ≡ 2 * h → drop q (marked g ws) ≡ marked g (drop q ws)
+unfolding marked
+marked-suffix g ws zero q e = let z : q ≡ 0 = omega arith in rw z
+marked-suffix g [] (suc h) q e = rw (drop-nil {A = ℕ} q)
+marked-suffix g (t ∷ []) (suc h) zero e = absurd (omega arith)
+marked-suffix g (t ∷ []) (suc h) (suc q) e = rw (drop-nil {A = ℕ} q)
+marked-suffix g (t ∷ v ∷ ws) (suc h) zero e = absurd (omega arith)
+marked-suffix g (t ∷ v ∷ ws) (suc h) (suc zero) e = absurd (omega arith)
+marked-suffix g (t ∷ v ∷ ws) (suc h) (suc (suc q)) e = marked-suffix g ws h q (omega arith)
+
 -- the trees one after the other
 pub first-more : (g : Grammar) (ws : Words) (m n k : ℕ) → k ≡ m + n → first g ws k ≡ first g ws m ++ first g (after g ws m) n
 unfolding first after

@@ -4,31 +4,21 @@ use mathlib.Core.Path.{_≡_, refl, sym, ap, ap₂, _∙_}
 use mathlib.Core.List.{List, [], _∷_, _++_}
 use native.Mathlib.Omega.{arith}
 use lib.ListN.{length, getD, take, drop, length-append, length-drop, take-append-drop}
-use lib.Seq.{paste, length-paste, take-paste, drop-paste, take-at, drop-at, take-take, take-add, drop-drop, drop-nil, take-nil, length-take-le}
+use lib.Seq.{paste, length-paste, take-paste, drop-paste, take-at, drop-at, take-take, take-add, drop-drop, take-nil, length-take-le}
 use Rattle.words.specs.Reader.{Words}
 use Rattle.grammar.specs.Grammar.{Grammar}
 use Rattle.tree.specs.Tree.{Trees, size, nesting, after, firstTree}
 use Rattle.tree.proofs.Trees.{Even, even-of, size-append, trees-even, tree-some, first-after, first-even, after-drop}
 use Rattle.meaning.specs.Meaning.{put}
 use Rattle.rewrite.specs.Marked.{typeIn, sizeIn, nestingIn, marked, unmarked}
-use Rattle.rewrite.specs.Post.{span, Unfinished, Kept, AboveMarked, Ready, InPlace}
-use Rattle.rewrite.proofs.Marks.{marked-length, marked-append}
+use Rattle.rewrite.specs.Post.{span, Unfinished, Kept, AboveMarked, Resizable, Resized, Ready, InPlace}
+use Rattle.rewrite.proofs.Marks.{marked-length, marked-append, marked-suffix}
 use Rattle.rewrite.proofs.Marking.{Child, child-of}
 use Rattle.rewrite.proofs.Spans.{drop-take, span-later, word-there, suffix-trees, suffix-some, suffix-size, first-size}
 use Rattle.rewrite.proofs.Same.{unmark, whole-first}
 use Rattle.rewrite.proofs.Swapping.{swap-marks}
 
 -- MARKS OF A PART
-
-marked-suffix : (g : Grammar) (ws : Words) (h q : ℕ) → q ≡ 2 * h → drop q (marked g ws) ≡ marked g (drop q ws)
-unfolding marked
-marked-suffix g ws zero q e = let z : q ≡ 0 = omega arith in rw z
-marked-suffix g [] (suc h) q e = rw (drop-nil {A = ℕ} q)
-marked-suffix g (t ∷ []) (suc h) zero e = absurd (omega arith)
-marked-suffix g (t ∷ []) (suc h) (suc q) e = rw (drop-nil {A = ℕ} q)
-marked-suffix g (t ∷ v ∷ ws) (suc h) zero e = absurd (omega arith)
-marked-suffix g (t ∷ v ∷ ws) (suc h) (suc zero) e = absurd (omega arith)
-marked-suffix g (t ∷ v ∷ ws) (suc h) (suc (suc q)) e = marked-suffix g ws h q (omega arith)
 
 unmarked-take : (ws : Words) (h q : ℕ) → q ≡ 2 * h → unmarked (take q ws) ≡ take q (unmarked ws)
 unfolding unmarked
@@ -52,6 +42,16 @@ module _ (d : Words) (at : ℕ) (s : Words) (n : ℕ) (low : at ≤ length d) (h
       let z : at + n - at ≡ n = omega arith in
       ap (λ k. take k (drop at (paste d at s n))) (sym z) ∙ sym (drop-take (at + n) at (paste d at s n)) ∙ ap (drop at) (take-paste d at s n low high)
       ∙ drop-at (take at d) (take n s) at (length-take-le at d low)
+
+-- a stretch by its two parts
+span-join : (w : Words) (base place : ℕ) (l : Words) → base ≤ place → place - base ≤ length l → span w base place ≡ take (place - base) l → take (length l - (place - base)) (drop place w) ≡ drop (place - base) l
+    → take (length l) (drop base w) ≡ l
+span-join w base place l low inside front back =
+    let z : length l ≡ (place - base) + (length l - (place - base)) = omega arith in
+    let up : base + (place - base) ≡ place = omega arith in
+    ap (λ k. take k (drop base w)) z ∙ take-add (place - base) (length l - (place - base)) (drop base w)
+    ∙ ap₂ (λ a b. a ++ b) front (ap (take (length l - (place - base))) (drop-drop (place - base) base w ∙ ap (λ k. drop k w) up) ∙ back)
+    ∙ take-append-drop (place - base) l
 
 -- BOTH MOVES
 
@@ -129,6 +129,9 @@ module _ (g : Grammar) (w : Words) (base place end from n t : ℕ) (scope ws : W
   follows-long p e =
       omega (arith, ap length (after-drop g rest-words 1), length-drop (length (firstTree g rest-words)) rest-words, node-size, first-even g rest-words 1, rest-long)
 
+  scope-parts : take (place - base) scope ++ (firstTree g rest-words ++ after g rest-words 1) ≡ scope
+  scope-parts = ap (λ l. take (place - base) scope ++ l) (first-after g rest-words 1) ∙ take-append-drop (place - base) scope
+
   -- the words before the place stand as they did
   front-stands : (w₂ : Words) → take place w₂ ≡ take place w → span w₂ base place ≡ take (place - base) (marked g scope)
   front-stands w₂ front =
@@ -167,7 +170,7 @@ module _ (g : Grammar) (w : Words) (base place end from n t : ℕ) (scope ws : W
             ∙ ap (marked g) (sym (drop-at (take q scope) (ws ++ x) q lq));
       }
 
-  -- THE SAME MARK: the new tree is as large and nests as deep as the old one
+  -- THE NEW TREE
 
   front-even : Even (take (place - base) scope)
   front-even = even-of (take (place - base) scope) (omega (arith, length-take-le (place - base) scope (omega (arith, r .long)), r .even))
@@ -183,12 +186,53 @@ module _ (g : Grammar) (w : Words) (base place end from n t : ℕ) (scope ws : W
       let f = whole-first ws (r .new) in
       child-of g (r .type) [] ws (getD w from 0) types (rw f (omega (arith, new-small))) (r .new) (word-there w (marked g ws) from (from + n - from) (r .new-stands) (omega (arith, r .new-long, trees-even (r .new), tree-some ws (r .new))))
 
+  new-nests : nestingIn (getD w from 0) ≡ nesting g ws
+  new-nests = new-child .nested ∙ ap (nesting g) (whole-first ws (r .new))
+
+  -- .. nests as deep as the old one
+  resizable : (w₂ : Words) → take place w₂ ≡ take place w → nestingIn (getD w place 0) ≡ nestingIn (getD w from 0)
+      → Resizable g w₂ base place (sizeIn (getD w place 0)) (sizeIn (getD w from 0)) (take (place - base) scope) (firstTree g rest-words) ws (after g rest-words 1)
+  unfolding put
+  resizable w₂ front flat = record {
+    types = types;
+    long = length-take-le (place - base) scope (omega (arith, r .long));
+    half = r .half;
+    even = r .even;
+    root = t;
+    tree = rw scope-parts (r .tree);
+    few = rw scope-parts (r .few);
+    small = r .small;
+    type = there .0;
+    old = old-child .tree;
+    old-size = sym (old-child .counted);
+    type′ = r .type;
+    new = r .new;
+    new-size = sym (new-child .counted ∙ ap size (whole-first ws (r .new)));
+    flat = sym (old-child .nested) ∙ flat ∙ new-nests;
+    stands = rw scope-parts (front-stands w₂ front);
+  }
+
+  resized-stands : (p rest : ℕ) (w₂ w₃ : Words) → p ≡ place + 2 * sizeIn (getD w place 0) → p + rest ≡ end → take place w₂ ≡ take place w → take (n + rest) (drop place w₂) ≡ span w from (from + n) ++ span w p end
+      → nestingIn (getD w place 0) ≡ nestingIn (getD w from 0) → Resized w₂ w₃ base place (sizeIn (getD w place 0)) (sizeIn (getD w from 0))
+      → span w₃ base (base + length (put g scope (place - base) ws)) ≡ marked g (put g scope (place - base) ws)
+  unfolding put
+  resized-stands p rest w₂ w₃ e er front middle flat m =
+      let q = place - base in
+      let l = marked g (put g scope q ws) in
+      let u = unfinished p rest w₂ e er front middle in
+      let z : base + length (put g scope q ws) - base ≡ length l = omega (arith, marked-length g (put g scope q ws)) in
+      let k : length l - q ≡ place + (n + rest) - place = omega (arith, marked-length g (put g scope q ws), u .long) in
+      ap (λ j. take j (drop base w₃)) z
+      ∙ span-join w₃ base place l low (omega (arith, marked-length g (put g scope q ws), u .long)) (m .marks g (take q scope) (firstTree g rest-words) ws (after g rest-words 1) (resizable w₂ front flat))
+      (ap₂ take k (m .above) ∙ u .back ∙ sym (marked-suffix g (put g scope q ws) (r .half) q (r .even)))
+
+  -- .. and is as large: their first words are the same
   module _ (alike : getD w from 0 ≡ getD w place 0) where
     same-size : size ws ≡ size (firstTree g rest-words)
     same-size = sym (ap size (whole-first ws (r .new))) ∙ sym (new-child .counted) ∙ ap sizeIn alike ∙ old-child .counted
 
     same-nesting : nesting g ws ≡ nesting g (firstTree g rest-words)
-    same-nesting = sym (ap (nesting g) (whole-first ws (r .new))) ∙ sym (new-child .nested) ∙ ap nestingIn alike ∙ old-child .nested
+    same-nesting = sym new-nests ∙ ap nestingIn alike ∙ old-child .nested
 
     new-end : place + n ≡ place + 2 * sizeIn (getD w place 0)
     new-end = omega (arith, r .new-long, trees-even (r .new), same-size, node-size)
@@ -200,9 +244,8 @@ module _ (g : Grammar) (w : Words) (base place end from n t : ℕ) (scope ws : W
         let a = take q scope in
         let u = firstTree g rest-words in
         let x = after g rest-words 1 in
-        let whole : a ++ (u ++ x) ≡ scope = ap (λ l. a ++ l) (first-after g rest-words 1) ∙ take-append-drop q scope in
-        swap-marks g (there .0) (r .type) u ws x (old-child .tree) (r .new) (sym same-size) (sym same-nesting) a front-even
-        ∙ ap₂ (λ l b. l ++ b) (ap₂ (λ k l. take k (marked g l)) (length-take-le q scope (omega (arith, r .long))) whole) (marked-append (r .new) x)
+        swap-marks g (there .0) (r .type) u ws x (old-child .tree) (r .new) (sym same-nesting) (sym same-size) a front-even
+        ∙ ap₂ (λ l b. l ++ b) (ap₂ (λ k l. take k (marked g l)) (length-take-le q scope (omega (arith, r .long))) scope-parts) (marked-append (r .new) x)
 
     put-long : length (put g scope (place - base) ws) ≡ (place - base) + (n + (end - (place + n)))
     unfolding put
@@ -246,6 +289,19 @@ module _ (heads rows w : Words) (base place end from n : ℕ) (low : base ≤ pl
               ∙ take-at (marked g (put g scope (place - base) ws)) (drop (place + (n + rest)) w₂) (base + length (put g scope (place - base) ws) - base) (sym top),
         );
   }
+
+  pub put-resized : (p rest : ℕ) (w₂ w₃ : Words) (was will : ℕ) → p ≡ place + 2 * sizeIn (getD w place 0) → p ≤ end → rest ≡ end - p → w₂ ≡ moved w place p from n rest
+      → was ≡ sizeIn (getD w place 0) → will ≡ sizeIn (getD w from 0) → nestingIn (getD w place 0) ≡ nestingIn (getD w from 0) → Resized w₂ w₃ base place was will → InPlace heads rows w w₃ base place end from n
+  put-resized p rest w₂ w₃ was will e inside er e₂ ew ev flat m =
+      let front : take place w₂ ≡ take place w = ap (take place) e₂ ∙ moved-front w place p end from n rest (omega arith) (omega arith) high (omega arith) in
+      let middle : take (n + rest) (drop place w₂) ≡ span w from (from + n) ++ span w p end = ap (λ l. take (n + rest) (drop place l)) e₂ ∙ moved-middle w place p end from n rest (omega arith) (omega arith) high (omega arith) in
+      record {
+        long = m .long ∙ ap length e₂ ∙ moved-long w place p end from n rest (omega arith) (omega arith) high (omega arith);
+        in-place = λ g t scope ws tb r. (
+          m .below ∙ sym (take-take base place w₂ low) ∙ ap (take base) front ∙ take-take base place w low,
+          resized-stands g w base place end from n t scope ws (tb .rows-of .types) r low two (omega arith) p rest w₂ w₃ e (omega arith) front middle flat (rw (ew, ev) at m),
+        );
+      }
 
   -- the first words are the same: what follows the tree stays, and so does each mark before it
   pub put-same : (w₂ : Words) → getD w from 0 ≡ getD w place 0 → w₂ ≡ paste w place (drop from w) n → InPlace heads rows w w₂ base place end from n

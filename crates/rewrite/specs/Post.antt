@@ -9,7 +9,7 @@ use Rattle.grammar.specs.Grammar.{Grammar}
 use Rattle.grammar.specs.Kinds.{allowed, children}
 use Rattle.grammar.specs.Tables.{Heads, Tables}
 use Rattle.tree.specs.Limits.{mostNodes}
-use Rattle.tree.specs.Tree.{Trees, size, nodeNesting, firstTree}
+use Rattle.tree.specs.Tree.{Trees, size, nesting, nodeNesting, firstTree}
 use Rattle.words.specs.Views.{equalWords}
 use Rattle.grammar.specs.Limits.{mostTypes}
 use Rattle.rewrite.specs.Marked.{typeIn, markOf, marked, unmarked}
@@ -59,6 +59,33 @@ pub record AboveMarked (heads rows w w′ : Words) (base place top : ℕ) : Type
   pub long : length w′ ≡ length w
   pub marks : (g : Grammar) (t : ℕ) (ws : Words) → Tables g heads rows → Trees g (t ∷ []) ws → size ws ≤ mostNodes → Unfinished g w base place top ws → Kept g w base place ws
       → w′ ≡ take base w ++ (marked g ws ++ drop top w)
+
+-- marked, the words a stand from base to the place: a tree begins with them and goes on with the tree u, of `was` nodes, and the words x. The tree u′, of
+-- `will` nodes, nests as deep as u
+pub record Resizable (g : Grammar) (w : Words) (base place was will : ℕ) (a u u′ x : Words) : Type 0 where
+  pub types : length g ≤ mostTypes
+  pub long : length a ≡ place - base
+  pub half : ℕ
+  pub even : place - base ≡ 2 * half
+  pub root : ℕ
+  pub tree : Trees g (root ∷ []) (a ++ (u ++ x))
+  pub few : size (a ++ (u ++ x)) ≤ mostNodes
+  pub small : size (a ++ (u′ ++ x)) ≤ mostNodes
+  pub type : ℕ
+  pub old : Trees g (type ∷ []) u
+  pub old-size : size u ≡ was
+  pub type′ : ℕ
+  pub new : Trees g (type′ ∷ []) u′
+  pub new-size : size u′ ≡ will
+  pub flat : nesting g u ≡ nesting g u′
+  pub stands : span w base place ≡ take (place - base) (marked g (a ++ (u ++ x)))
+
+-- .. they are marked as they are before u′; nothing else is changed
+pub record Resized (w w′ : Words) (base place was will : ℕ) : Type 0 where
+  pub long : length w′ ≡ length w
+  pub below : take base w′ ≡ take base w
+  pub above : drop place w′ ≡ drop place w
+  pub marks : (g : Grammar) (a u u′ x : Words) → Resizable g w base place was will a u u′ x → span w′ base place ≡ take (place - base) (marked g (a ++ (u′ ++ x)))
 
 -- r says whether the tree at `start` and the first tree of the part are the same
 abbrev pub SameTree : Words → ℕ → Words → Bool → Type 0
