@@ -2,6 +2,9 @@ pub mod Marks
 pub mod Marking
 pub mod Spans
 pub mod Same
+pub mod Above
+pub mod Swapping
+pub mod Resizing
 pub mod Steps
 pub mod Matcher
 pub mod Clashing

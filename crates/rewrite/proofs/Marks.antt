@@ -74,6 +74,13 @@ unfolding marked markOf
 marked-append none b = refl
 marked-append (node {t} {v} {ts} {ws} fine q) b = rw (first-same (node {ts = ts} fine q) b, marked-append q b)
 
+-- the first mark
+pub first-mark : (g : Grammar) (ws : Words) → 2 ≤ length ws → getD (marked g ws) 0 0 ≡ mark (getD (firstTree g ws) 0 0) (size (firstTree g ws)) (nesting g (firstTree g ws))
+unfolding marked markOf first
+first-mark g [] h = absurd (omega arith)
+first-mark g (t ∷ []) h = absurd (omega arith)
+first-mark g (t ∷ v ∷ ws) h = refl
+
 -- the marks from a node on
 pub marked-drop : (g : Grammar) (ws : Words) (h p : ℕ) → p ≡ 2 * h → getD (marked g ws) p 0 ≡ getD (marked g (drop p ws)) 0 0
 unfolding marked
@@ -84,6 +91,16 @@ marked-drop g (t ∷ []) (suc h) (suc p) e = rw (drop-nil {A = ℕ} p)
 marked-drop g (t ∷ v ∷ ws) (suc h) zero e = absurd (omega arith)
 marked-drop g (t ∷ v ∷ ws) (suc h) (suc zero) e = absurd (omega arith)
 marked-drop g (t ∷ v ∷ ws) (suc h) (suc (suc p)) e = marked-drop g ws h p (omega arith)
+
+pub marked-suffix : (g : Grammar) (ws : Words) (h q : ℕ) → q ≡ 2 * h → drop q (marked g ws) ≡ marked g (drop q ws)
+unfolding marked
+marked-suffix g ws zero q e = let z : q ≡ 0 = omega arith in rw z
+marked-suffix g [] (suc h) q e = rw (drop-nil {A = ℕ} q)
+marked-suffix g (t ∷ []) (suc h) zero e = absurd (omega arith)
+marked-suffix g (t ∷ []) (suc h) (suc q) e = rw (drop-nil {A = ℕ} q)
+marked-suffix g (t ∷ v ∷ ws) (suc h) zero e = absurd (omega arith)
+marked-suffix g (t ∷ v ∷ ws) (suc h) (suc zero) e = absurd (omega arith)
+marked-suffix g (t ∷ v ∷ ws) (suc h) (suc (suc q)) e = marked-suffix g ws h q (omega arith)
 
 -- the trees one after the other
 pub first-more : (g : Grammar) (ws : Words) (m n k : ℕ) → k ≡ m + n → first g ws k ≡ first g ws m ++ first g (after g ws m) n

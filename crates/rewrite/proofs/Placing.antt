@@ -4,24 +4,23 @@ use mathlib.Core.Path.{_≡_, refl, sym, ap, _∙_}
 use mathlib.Core.List.{List, [], _∷_, _++_}
 use mathlib.Core.Bool.{Bool, true, false}
 use native.Mathlib.Omega.{arith}
-use lib.ListN.{length, getD, take, drop}
+use lib.ListN.{length, getD, take, drop, take-append-drop}
 use lib.Seq.{getD-drop, getD-take, length-take-le}
-use lib.Dec.{leb}
-use borrow.Author.Tests.{le-leb, lt-leb, leb-true, leb-false}
+use lib.Dec.{leb, ltb}
+use borrow.Author.Tests.{le-leb, lt-leb, leb-true, leb-false, lt-ltb, le-ltb, ltb-true, ltb-false}
 use Rattle.words.specs.Reader.{Words}
 use Rattle.grammar.specs.Grammar.{Grammar}
-use Rattle.grammar.specs.Tables.{Tables}
-use Rattle.tree.specs.Tree.{Trees, node, Tree, size, nestingFrom, nesting, nodeNesting, after, firstTree}
-use Rattle.tree.proofs.Trees.{tells, trees-even}
+use Rattle.grammar.specs.Tables.{Heads, Tables}
+use Rattle.tree.specs.Tree.{Trees, Tree, size, nestingFrom, nesting, nodeNesting, after, firstTree}
+use Rattle.tree.proofs.Trees.{tells, trees-even, first-after}
 use Rattle.tree.proofs.Places.{node-at, spliced, subtree-size, splice-trees, splice-size, splice-nesting, node-nested}
 use Rattle.meaning.specs.Meaning.{put}
 use Rattle.rewrite.specs.Marked.{sizeIn, nestingIn, marked}
 use Rattle.rewrite.specs.Post.{span, NestingOf, Ready, InPlace}
-use Rattle.rewrite.specs.Arena.{Standing, Replaced}
+use Rattle.rewrite.specs.Arena.{Standing, TooDeep, Replaced}
 use Rattle.rewrite.proofs.Marks.{marked-drop, tree-deeper}
-use Rattle.rewrite.proofs.Marking.{first-one}
-use Rattle.rewrite.proofs.Spans.{node-of, suffix-trees, suffix-size}
-use Rattle.rewrite.proofs.Same.{part-size}
+use Rattle.rewrite.proofs.Marking.{first-one, Child, child-of}
+use Rattle.rewrite.proofs.Spans.{suffix-some, suffix-size, first-size}
 use Rattle.rewrite.proofs.Closing.{nesting-there}
 
 -- a tree that stands at the nesting k nests no deeper than so much exactly if k and its own nesting are at most one more
@@ -80,19 +79,65 @@ module _ (g : Grammar) (t target i : ℕ) (scope ws : Words) (inside : i < size 
       ap (λ x. leb (nesting g x) most) put-is ∙ splice-nesting g scope a u v b (there .1) (there .2) tree ws new-there most h ∙ ap (λ n. leb (nestingFrom g ws (nodeNesting g scope (1 ∷ []) n ∷ [])) most) l
       ∙ leb-deeper ws new (nodeNesting g scope (1 ∷ []) (2 * i)) most k
 
-  -- the size that the node's mark says
-  size-there : (w : Words) (base n : ℕ) → length g ≤ 64 → size scope ≡ n → n ≤ 2048 → take (2 * n) (drop base w) ≡ marked g scope → sizeIn (getD w (base + 2 * i) 0) ≡ size (firstTree g (drop (2 * i) scope))
-  size-there w base n l s few e =
-      part-size (marked g (drop (2 * i) scope)) (drop (2 * i) scope) (getD w (base + 2 * i) 0) l (omega (arith, suffix-size scope i (2 * i) refl)) (rest-trees .1) refl here
+  -- what the node's mark says
+  child-there : (w : Words) (base n : ℕ) → length g ≤ 64 → size scope ≡ n → n ≤ 2048 → take (2 * n) (drop base w) ≡ marked g scope
+      → (c : ℕ) × (cs : List ℕ) × Child g c cs (drop (2 * i) scope) (getD w (base + 2 * i) 0)
+  child-there w base n l s few e =
+      let q = suffix-some scope tree i (2 * i) refl near in
+      (q .0, q .1, child-of g (q .0) (q .1) (drop (2 * i) scope) (getD w (base + 2 * i) 0) l (omega (arith, first-size g (drop (2 * i) scope) 1, suffix-size scope i (2 * i) refl)) (q .2) here)
     where
-      rest-trees : (us : List ℕ) × Trees g (u ∷ us) (drop (2 * i) scope)
-      rest-trees =
-          let q = suffix-trees scope tree i (2 * i) refl (omega (arith, near)) in
-          let x = node-of (q .0) u v b (rw (there .0) at (q .1)) in
-          (x .rest, rw (there .0) (node (x .fine) (x .below)))
-
       here : getD w (base + 2 * i) 0 ≡ getD (marked g (drop (2 * i) scope)) 0 0
       here = sym (getD-drop base w (2 * i) 0) ∙ sym (getD-take (2 * n) (drop base w) (2 * i) 0 (omega arith)) ∙ ap (λ k. getD k (2 * i) 0) e ∙ marked-drop g scope i (2 * i) refl
+
+-- the node's own tree in its place
+put-own : (g : Grammar) (scope : Words) (p : ℕ) → put g scope p (firstTree g (drop p scope)) ≡ scope
+unfolding put
+put-own g scope p = ap (λ l. take p scope ++ l) (first-after g (drop p scope) 1) ∙ take-append-drop p scope
+
+-- a tree that nests no deeper than the node's
+put-flat : (g : Grammar) (t target i : ℕ) (scope ws : Words) → i < size scope → Trees g (t ∷ []) scope → Trees g (target ∷ []) (firstTree g (drop (2 * i) scope)) → Trees g (target ∷ []) ws
+    → (most : ℕ) → nesting g scope ≤ most → nesting g ws ≤ nesting g (firstTree g (drop (2 * i) scope)) → nesting g (put g scope (2 * i) ws) ≤ most
+put-flat g t target i scope ws inside tree old new most flat less =
+    let own = firstTree g (drop (2 * i) scope) in
+    let level = nodeNesting g scope (1 ∷ []) (2 * i) in
+    let was : leb (level + nesting g own) (most + 1) ≡ true =
+    sym (put-nesting g t target i scope own inside tree old old most flat) ∙ ap (λ l. leb (nesting g l) most) (put-own g scope (2 * i)) ∙ le-leb (nesting g scope) most flat in
+    let fits = leb-true (level + nesting g own) (most + 1) was in
+    leb-true (nesting g (put g scope (2 * i) ws)) most (put-nesting g t target i scope ws inside tree old new most flat ∙ le-leb (level + nesting g ws) (most + 1) (omega arith))
+
+-- TOO DEEP
+
+ltb-as : (a b m n : ℕ) → leb a m ≡ leb b n → ltb m a ≡ ltb n b
+ltb-as a b m n e = go (leb b n) refl
+  where
+    go : (t : Bool) → leb b n ≡ t → ltb m a ≡ ltb n b
+    go true h = le-ltb m a (leb-true a m (e ∙ h)) ∙ sym (le-ltb n b (leb-true b n h))
+    go false h = lt-ltb m a (leb-false a m (e ∙ h)) ∙ sym (lt-ltb n b (leb-false b n h))
+
+module _ (heads w : Words) (base n i from deepest : ℕ) (inside : i < n) (ed : deepest ≡ nestingIn (getD w from 0)) where
+  -- the new tree nests as deep as its mark says
+  new-nests : (g : Grammar) (target m : ℕ) (ws : Words) → Heads g heads → Standing g w from m target ws → deepest ≡ nesting g ws
+  new-nests g target m ws hs x =
+      let few = x .tree .nodes in
+      ed ∙ nesting-there w ws from m (hs .types) (x .tree .typed) (x .nodes) (omega (arith, x .nodes)) (x .words)
+
+  -- no deeper than the old one
+  pub deep-not : (before : ℕ) → before ≡ nestingIn (getD w (base + 2 * i) 0) → deepest ≤ before → TooDeep heads w base n i from false
+  deep-not before eb less g t target m scope ws hs s x o =
+      let few = s .tree .nodes in
+      let in-scope : i < size scope = omega (arith, s .nodes) in
+      let old = child-there g t target i scope ws in-scope (s .tree .typed) (o .typed) (x .tree .typed) w base n (hs .types) (s .nodes) (omega (arith, s .nodes)) (s .words) in
+      sym (le-ltb 64 (nesting g (put g scope (2 * i) ws)) (put-flat g t target i scope ws in-scope (s .tree .typed) (o .typed) (x .tree .typed) 64 (s .tree .nested)
+      (omega (arith, new-nests g target m ws hs x, eb, old .2 .nested))))
+
+  -- by the node's nesting
+  pub deep-by : (above : ℕ) → NestingOf heads (span w base (base + 2 * n)) (base + 2 * i - base) above → TooDeep heads w base n i from (ltb 65 (above + deepest))
+  deep-by above nests g t target m scope ws hs s x o =
+      let z : base + 2 * n - base ≡ 2 * n = omega arith in
+      let y : base + 2 * i - base ≡ 2 * i = omega arith in
+      let e : above ≡ nodeNesting g scope (1 ∷ []) (2 * i) = rw y at (nests g t scope i hs (s .tree .typed) (s .tree .nodes) (rw z (s .words)) y) in
+      sym (ltb-as (nesting g (put g scope (2 * i) ws)) (above + deepest) 64 65 (put-nesting g t target i scope ws (omega (arith, s .nodes)) (s .tree .typed) (o .typed) (x .tree .typed) 64 (s .tree .nested)
+      ∙ rw (e, new-nests g target m ws hs x)))
 
 -- THE ANSWERS
 
@@ -105,20 +150,13 @@ module _ (heads rows w : Words) (base n i from m k : ℕ) (inside : i < n) (ek :
     old-is : k ≡ size (firstTree g (drop (2 * i) scope))
     old-is =
         let few = s .tree .nodes in
-        ek ∙ size-there g t target i scope ws in-scope (s .tree .typed) (o .typed) (x .tree .typed) w base n (tb .rows-of .types) (s .nodes) (omega (arith, s .nodes)) (s .words)
+        ek ∙ child-there g t target i scope ws in-scope (s .tree .typed) (o .typed) (x .tree .typed) w base n (tb .rows-of .types) (s .nodes) (omega (arith, s .nodes)) (s .words) .2 .counted
 
     old-fits : k ≤ n
     old-fits = omega (arith, old-is, s .nodes, old-small g t target i scope ws in-scope (s .tree .typed) (o .typed) (x .tree .typed))
 
     nodes-are : size (put g scope (2 * i) ws) ≡ n - k + m
     nodes-are = omega (arith, old-is, old-fits, s .nodes, x .nodes, put-size g t target i scope ws in-scope (s .tree .typed) (o .typed) (x .tree .typed))
-
-    -- the test of the nesting
-    deep-is : (above deepest : ℕ) → above ≡ nodeNesting g scope (1 ∷ []) (2 * i) → deepest ≡ nestingIn (getD w from 0) → leb (nesting g (put g scope (2 * i) ws)) 64 ≡ leb (above + deepest) 65
-    deep-is above deepest ea ed =
-        let few = x .tree .nodes in
-        let e = nesting-there w ws from m (tb .rows-of .types) (x .tree .typed) (x .nodes) (omega (arith, x .nodes)) (x .words) in
-        put-nesting g t target i scope ws in-scope (s .tree .typed) (o .typed) (x .tree .typed) 64 (s .tree .nested) ∙ rw (ea, ed, e)
 
   pub replaced-none : n < k → Replaced heads rows w w base n i from m (record { stop = 0; nodes = n })
   replaced-none h = record {
@@ -136,33 +174,26 @@ module _ (heads rows w : Words) (base n i from m k : ℕ) (inside : i < n) (ek :
     replaced = λ g t target scope ws tb s x o. (rw (nodes-are g t target scope ws tb s x o, lt-leb (n - k + m) 2048 h), refl);
   }
 
-  module _ (few : n - k + m ≤ 2048) (above deepest : ℕ) (nests : NestingOf heads (span w base (base + 2 * n)) (base + 2 * i - base) above) (ed : deepest ≡ nestingIn (getD w from 0)) where
-    -- the stop, by the test in code
-    stop-is : (g : Grammar) (t target : ℕ) (scope ws : Words) → Tables g heads rows → Standing g w base n t scope → Standing g w from m target ws → Tree g target (firstTree g (drop (2 * i) scope))
-        → leb (nesting g (put g scope (2 * i) ws)) 64 ≡ leb (above + deepest) 65
-    stop-is g t target scope ws tb s x o =
-        let z : base + 2 * n - base ≡ 2 * n = omega arith in
-        let y : base + 2 * i - base ≡ 2 * i = omega arith in
-        let e : above ≡ nodeNesting g scope (1 ∷ []) (2 * i) = rw y at (nests g t scope i (tb .heads-of) (s .tree .typed) (s .tree .nodes) (rw z (s .words)) y) in
-        deep-is g t target scope ws tb s x o above deepest e ed
-
-    pub replaced-deep : 65 < above + deepest → Replaced heads rows w w base n i from m (record { stop = 43; nodes = n - k + m })
-    replaced-deep h = record {
+  module _ (few : n - k + m ≤ 2048) (deep : Bool) (is : TooDeep heads w base n i from deep) where
+    pub replaced-deep : deep ≡ true → Replaced heads rows w w base n i from m (record { stop = 43; nodes = n - k + m })
+    replaced-deep e = record {
       long = refl;
       most = omega arith;
       few = λ z h. absurd (omega arith);
-      replaced = λ g t target scope ws tb s x o. (rw (nodes-are g t target scope ws tb s x o, le-leb (n - k + m) 2048 few, stop-is g t target scope ws tb s x o, lt-leb (above + deepest) 65 h), refl);
+      replaced = λ g t target scope ws tb s x o.
+          let over = ltb-true 64 (nesting g (put g scope (2 * i) ws)) (sym (is g t target m scope ws (tb .heads-of) s x o) ∙ e) in
+          (rw (nodes-are g t target scope ws tb s x o, le-leb (n - k + m) 2048 few, lt-leb (nesting g (put g scope (2 * i) ws)) 64 over), refl);
     }
 
-    pub replaced-done : above + deepest ≤ 65 → (w′ : Words) → InPlace heads rows w w′ base (base + 2 * i) (base + 2 * n) from (2 * m) → Replaced heads rows w w′ base n i from m (record { stop = 0; nodes = n - k + m })
-    replaced-done h w′ p = record {
+    pub replaced-done : deep ≡ false → (w′ : Words) → InPlace heads rows w w′ base (base + 2 * i) (base + 2 * n) from (2 * m) → Replaced heads rows w w′ base n i from m (record { stop = 0; nodes = n - k + m })
+    replaced-done e w′ p = record {
       long = p .long;
       most = omega arith;
       few = λ z h. few;
       replaced = λ g t target scope ws tb s x o.
-          let flat = stop-is g t target scope ws tb s x o ∙ le-leb (above + deepest) 65 h in (
-            rw (nodes-are g t target scope ws tb s x o, le-leb (n - k + m) 2048 few, flat),
-            placed g t target scope ws tb s x o (leb-true (nesting g (put g scope (2 * i) ws)) 64 flat),
+          let flat = ltb-false 64 (nesting g (put g scope (2 * i) ws)) (sym (is g t target m scope ws (tb .heads-of) s x o) ∙ e) in (
+            rw (nodes-are g t target scope ws tb s x o, le-leb (n - k + m) 2048 few, le-leb (nesting g (put g scope (2 * i) ws)) 64 flat),
+            placed g t target scope ws tb s x o flat,
           );
     }
       where

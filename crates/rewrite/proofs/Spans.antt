@@ -1,10 +1,10 @@
 -- Stretches of work memory, and the loop that marks the nodes of a tree from its last to its first. Assumes nothing.
 use Prim.Native.Nat.{ℕ, zero, suc, _+_, _-_, _*_, _<_, _≤_}
-use mathlib.Core.Path.{_≡_, refl, sym, ap, ap₂, _∙_}
+use mathlib.Core.Path.{_≡_, refl, sym, ap, ap₂, subst, _∙_}
 use mathlib.Core.List.{List, [], _∷_, _++_}
 use mathlib.Core.Bool.{true}
 use native.Mathlib.Omega.{arith}
-use native.Mathlib.Numerals.{add-one, add-two}
+use native.Mathlib.Numerals.{add-one}
 use lib.ListN.{length, getD, take, drop, set, length-set, length-take, length-drop, take-append-drop}
 use lib.Seq.{drop-drop, drop-nil, take-nil, take-take, drop-set-lt, take-set-le, getD-set-same, getD-set-other, getD-take, getD-drop}
 use Rattle.words.specs.Reader.{Words}
@@ -12,10 +12,10 @@ use Rattle.words.proofs.Stretches.{drop-pair}
 use Rattle.grammar.specs.Grammar.{Grammar}
 use Rattle.grammar.specs.Kinds.{allowed, children}
 use Rattle.grammar.specs.Tables.{Tables}
-use Rattle.tree.specs.Tree.{Trees, none, node, size, first, after, firstTree}
-use Rattle.tree.proofs.Trees.{tells, trees-even, first-after, first-even, size-append}
-use Rattle.rewrite.specs.Marked.{typeIn, markOf, marked, unmarked}
-use Rattle.rewrite.specs.Post.{span, MarkMade, Unfinished, TreeMarked}
+use Rattle.tree.specs.Tree.{Trees, node, size, first, after}
+use Rattle.tree.proofs.Trees.{tells, first-after, first-even, size-append}
+use Rattle.rewrite.specs.Marked.{typeIn, marked}
+use Rattle.rewrite.specs.Post.{span, MarkMade, NodeMarked, Unfinished, TreeMarked}
 use Rattle.rewrite.proofs.Marks.{unmarked-type, unmarked-value}
 
 -- STRETCHES
@@ -55,6 +55,18 @@ suffix-trees {ts = t ∷ ts} (w ∷ v ∷ ws) r (suc h) zero e l = absurd (omega
 suffix-trees {ts = t ∷ ts} (w ∷ v ∷ ws) r (suc h) (suc zero) e l = absurd (omega arith)
 suffix-trees {ts = t ∷ ts} (w ∷ v ∷ ws) r (suc h) (suc (suc q)) e l = suffix-trees ws (tells r .2) h q (omega arith) (omega arith)
 
+-- .. of which there are some
+pub suffix-some : {g : Grammar} {ts : List ℕ} (ws : Words) → Trees g ts ws → (h q : ℕ) → q ≡ 2 * h → q < length ws → (c : ℕ) × (cs : List ℕ) × Trees g (c ∷ cs) (drop q ws)
+suffix-some {g} ws r h q e l = go (suffix-trees ws r h q e (omega arith))
+  where
+    none-here : (x : Words) → Trees g [] x → length x ≡ 0
+    none-here [] t = refl
+    none-here (y ∷ x) t = absurd (tells t)
+
+    go : (us : List ℕ) × Trees g us (drop q ws) → (c : ℕ) × (cs : List ℕ) × Trees g (c ∷ cs) (drop q ws)
+    go ([], t) = absurd (omega (arith, none-here (drop q ws) t, length-drop q ws))
+    go ((c ∷ cs), t) = (c, cs, t)
+
 -- the node that a suffix begins with
 pub record NodeAt (g : Grammar) (t v : ℕ) (ws : Words) : Type 0 where
   pub rest : List ℕ
@@ -80,7 +92,12 @@ first-size g ws n = omega (arith, size-append (first g ws n) (after g ws n) (fir
 
 -- THE LOOP
 
-pub record MarkLoop (heads rows w₀ w : Words) (base place top p : ℕ) : Type 0 where
+-- so it is for every unfinished tree with its grammar's tables, and with what is given besides
+abbrev pub Each : (Grammar → Words → Type 0) → Words → Words → Words → ℕ → ℕ → ℕ → (Grammar → Words → Type 0) → Type 0
+Each Given heads rows w base place top P =
+    (g : Grammar) (t : ℕ) (ws : Words) → Tables g heads rows → Trees g (t ∷ []) ws → size ws ≤ 2048 → Unfinished g w base place top ws → Given g ws → P g ws
+
+pub record MarkLoop (Given : Grammar → Words → Type 0) (heads rows w₀ w : Words) (base place top p : ℕ) : Type 0 where
   pub low : base ≤ p
   pub high : p ≤ place
   pub half : ℕ
@@ -88,10 +105,10 @@ pub record MarkLoop (heads rows w₀ w : Words) (base place top p : ℕ) : Type 
   pub long : length w ≡ length w₀
   pub kept : take p w ≡ take p w₀
   pub above : drop top w ≡ drop top w₀
-  run : (g : Grammar) (t : ℕ) (ws : Words) → Tables g heads rows → Trees g (t ∷ []) ws → size ws ≤ 2048 → Unfinished g w₀ base place top ws → span w p top ≡ marked g (drop (p - base) ws)
+  run : Each Given heads rows w₀ base place top (λ g ws. span w p top ≡ marked g (drop (p - base) ws))
 
-pub mark-start : (heads rows w : Words) (base place top : ℕ) → base ≤ place → MarkLoop heads rows w w base place top place
-mark-start heads rows w base place top h = record {
+pub mark-start : (Given : Grammar → Words → Type 0) (heads rows w : Words) (base place top : ℕ) → base ≤ place → MarkLoop Given heads rows w w base place top place
+mark-start Given heads rows w base place top h = record {
   low = h;
   high = omega arith;
   half = 0;
@@ -99,19 +116,22 @@ mark-start heads rows w base place top h = record {
   long = refl;
   kept = refl;
   above = refl;
-  run = λ g t ws tb r s u. u .back;
+  run = λ g t ws tb r s u k. u .back;
 }
 
-same-below : (w w₀ : Words) (n i : ℕ) → i < n → take n w ≡ take n w₀ → getD w i 0 ≡ getD w₀ i 0
+pub same-below : (w w₀ : Words) (n i : ℕ) → i < n → take n w ≡ take n w₀ → getD w i 0 ≡ getD w₀ i 0
 same-below w w₀ n i h e = sym (getD-take n w i 0 h) ∙ ap (λ l. getD l i 0) e ∙ getD-take n w₀ i 0 h
 
-marked-pair : (g : Grammar) (t v m : ℕ) (x y : Words) → m ≡ markOf g t v x → y ≡ marked g x → m ∷ v ∷ y ≡ marked g (t ∷ v ∷ x)
+marked-pair : (g : Grammar) (t v m : ℕ) (x y : Words) → m ≡ getD (marked g (t ∷ v ∷ x)) 0 0 → y ≡ marked g x → m ∷ v ∷ y ≡ marked g (t ∷ v ∷ x)
 unfolding marked
 marked-pair g t v m x y em ey = rw (em, ey)
 
 -- a word of a stretch
-span-word : (w : Words) (base top i : ℕ) → i < top - base → getD (span w base top) i 0 ≡ getD w (base + i) 0
+pub span-word : (w : Words) (base top i : ℕ) → i < top - base → getD (span w base top) i 0 ≡ getD w (base + i) 0
 span-word w base top i h = getD-take (top - base) (drop base w) i 0 h ∙ getD-drop base w i 0
+
+pub node-marked : (heads rows w : Words) (p top t m : ℕ) → t ≡ typeIn (getD w p 0) → MarkMade heads rows t (getD w (p + 1) 0) (span w (p + 2) top) m → NodeMarked heads rows w (set w p m) p top
+node-marked heads rows w p top t m e made = record { word = m; made = subst (λ k. MarkMade heads rows k (getD w (p + 1) 0) (span w (p + 2) top) m) e made; stored = refl }
 
 -- the node at q of a tree that is not all marked
 module _ (g : Grammar) (w : Words) (base place top : ℕ) (ws : Words) (u : Unfinished g w base place top ws) (room : top ≤ length w) (q h : ℕ) (low : base ≤ q) (two : q + 2 ≤ place) (high : place ≤ top) (e : q - base ≡ 2 * h) where
@@ -134,52 +154,77 @@ module _ (g : Grammar) (w : Words) (base place top : ℕ) (ws : Words) (u : Unfi
       let up : q - base + 2 ≡ q + 2 - base = omega arith in
       drop-pair ws (q - base) (omega (arith, u .long)) ∙ ap₂ (λ a b. a ∷ b) node-type (ap₂ (λ a b. a ∷ b) node-value (ap (λ n. drop n ws) up))
 
-module _ (heads rows w₀ w : Words) (base place top p : ℕ) (i : MarkLoop heads rows w₀ w base place top p) (up : place ≤ top) (room : top ≤ length w₀) where
-  pub mark-more : 2 ≤ p - base → (q t m : ℕ) → q ≡ p - 2 → t ≡ typeIn (getD w q 0) → MarkMade heads rows t (getD w (q + 1) 0) (take (top - (q + 2)) (drop (q + 2) w)) m → MarkLoop heads rows w₀ (set w q m) base place top q
-  mark-more two q t m eq et made = record {
-    low = omega arith;
-    high = omega (arith, i .high);
-    half = i .half + 1;
-    even = omega (arith, i .even);
-    long = length-set w q m ∙ i .long;
-    kept = take-set-le q w q m (omega arith) ∙ sym (take-take q p w (omega arith)) ∙ ap (take q) (i .kept) ∙ take-take q p w₀ (omega arith);
-    above = drop-set-lt top w q m (omega (arith, i .high)) ∙ i .above;
-    run = λ g u ws tb r s f. marks g u ws tb r s f;
-  }
-    where
-      stored : span (set w q m) q top ≡ m ∷ getD w (q + 1) 0 ∷ span w (q + 2) top
-      stored =
-          let l : length (set w q m) ≡ length w₀ = length-set w q m ∙ i .long in
-          span-pair (set w q m) q top (omega (arith, i .high)) (omega arith)
-          ∙ ap₂ (λ a b. a ∷ b) (getD-set-same w q m 0 (omega (arith, i .high, i .long)))
-          (ap₂ (λ a b. a ∷ b) (getD-set-other w q (q + 1) m 0 (λ e. omega arith)) (ap (take (top - (q + 2))) (drop-set-lt (q + 2) w q m (omega arith))))
+module _ (Given : Grammar → Words → Type 0) (heads rows w₀ w : Words) (base place top p : ℕ) (i : MarkLoop Given heads rows w₀ w base place top p) (up : place ≤ top) (room : top ≤ length w₀) where
+  -- the node before p
+  module _ (two : 2 ≤ p - base) (q : ℕ) (eq : q ≡ p - 2) where
+    left : (g : Grammar) (ws : Words) → Unfinished g w₀ base place top ws → (h : ℕ) × (q - base ≡ 2 * h)
+    left g ws f = (f .half - (i .half + 1), omega (arith, f .even, i .even, i .high, i .low))
 
-      marks : (g : Grammar) (u : ℕ) (ws : Words) → Tables g heads rows → Trees g (u ∷ []) ws → size ws ≤ 2048 → Unfinished g w₀ base place top ws → span (set w q m) q top ≡ marked g (drop (q - base) ws)
-      marks g u ws tb r s f =
-          let next : q + 2 ≡ p = omega arith in
-          let even : q - base ≡ 2 * (f .half - (i .half + 1)) = omega (arith, f .even, i .even, i .high, i .low) in
-          let x = drop (q + 2 - base) ws in
-          let type-here : typeIn (getD w₀ q 0) ≡ t = ap typeIn (sym (same-below w w₀ p q (omega arith) (i .kept))) ∙ sym et in
-          let value-here : getD w₀ (q + 1) 0 ≡ getD w (q + 1) 0 = sym (same-below w w₀ p (q + 1) (omega arith) (i .kept)) in
-          let pair : drop (q - base) ws ≡ t ∷ getD w (q + 1) 0 ∷ x =
-          node-pair g w₀ base place top ws f room q (f .half - (i .half + 1)) (omega arith) (omega (arith, i .high)) up even ∙ ap₂ (λ a b. a ∷ b ∷ x) type-here value-here in
-          let done : span w (q + 2) top ≡ marked g x = rw next (i .run g u ws tb r s f) in
-          let suffix = suffix-trees ws r (f .half - (i .half + 1)) (q - base) even (omega (arith, f .long, i .high)) in
-          let n = node-of (suffix .0) t (getD w (q + 1) 0) x (rw pair at (suffix .1)) in
-          let a = first-size g (t ∷ getD w (q + 1) 0 ∷ x) 1 in
-          let b = suffix-size ws (f .half - (i .half + 1)) (q - base) even in
-          let c : size (drop (q - base) ws) ≡ size (t ∷ getD w (q + 1) 0 ∷ x) = ap size pair in
-          let em : m ≡ markOf g t (getD w (q + 1) 0) x = made g x (n .rest) tb done (n .below) (n .fine) (omega arith) in
-          stored ∙ marked-pair g t (getD w (q + 1) 0) m x (span w (q + 2) top) em done ∙ ap (marked g) (sym pair)
+    pair : (g : Grammar) (ws : Words) → Unfinished g w₀ base place top ws → drop (q - base) ws ≡ typeIn (getD w q 0) ∷ getD w (q + 1) 0 ∷ drop (q + 2 - base) ws
+    pair g ws f =
+        node-pair g w₀ base place top ws f room q (left g ws f .0) (omega arith) (omega (arith, i .high)) up (left g ws f .1)
+        ∙ ap₂ (λ a b. typeIn a ∷ b ∷ drop (q + 2 - base) ws) (sym (same-below w w₀ p q (omega arith) (i .kept))) (sym (same-below w w₀ p (q + 1) (omega arith) (i .kept)))
 
-  pub mark-end : p - base < 2 → TreeMarked heads rows w₀ w base place top
-  mark-end few = record { long = i .long; marks = λ g t ws tb r s f. whole g t ws tb r s f (omega (arith, f .even, i .even, i .high, i .low)) }
-    where
-      whole : (g : Grammar) (t : ℕ) (ws : Words) → Tables g heads rows → Trees g (t ∷ []) ws → size ws ≤ 2048 → Unfinished g w₀ base place top ws → p ≡ base → w ≡ take base w₀ ++ (marked g ws ++ drop top w₀)
-      whole g t ws tb r s f e =
-          let k : take base w ≡ take base w₀ = rw e at (i .kept) in
-          let z : base - base ≡ 0 = omega arith in
-          let m : span w base top ≡ marked g ws = rw (e, z) at (i .run g t ws tb r s f) in
-          let b : base + (top - base) ≡ top = omega (arith, i .low, i .high) in
-          let d : drop (top - base) (drop base w) ≡ drop top w₀ = drop-drop (top - base) base w ∙ ap (λ n. drop n w) b ∙ i .above in
-          sym (take-append-drop base w) ∙ ap₂ (λ a b. a ++ b) k (sym (take-append-drop (top - base) (drop base w)) ∙ ap₂ (λ a b. a ++ b) m d)
+    done : Each Given heads rows w₀ base place top (λ g ws. span w (q + 2) top ≡ marked g (drop (q + 2 - base) ws))
+    done g t ws tb r s f k = let next : q + 2 ≡ p = omega arith in rw next (i .run g t ws tb r s f k)
+
+    -- its mark is stored
+    pub mark-step : (m : ℕ) → Each Given heads rows w₀ base place top (λ g ws. m ≡ getD (marked g (drop (q - base) ws)) 0 0) → MarkLoop Given heads rows w₀ (set w q m) base place top q
+    mark-step m is = record {
+      low = omega arith;
+      high = omega (arith, i .high);
+      half = i .half + 1;
+      even = omega (arith, i .even);
+      long = length-set w q m ∙ i .long;
+      kept = take-set-le q w q m (omega arith) ∙ sym (take-take q p w (omega arith)) ∙ ap (take q) (i .kept) ∙ take-take q p w₀ (omega arith);
+      above = drop-set-lt top w q m (omega (arith, i .high)) ∙ i .above;
+      run = λ g t ws tb r s f k.
+          let e = pair g ws f in
+          stored
+          ∙ marked-pair g (typeIn (getD w q 0)) (getD w (q + 1) 0) m (drop (q + 2 - base) ws) (span w (q + 2) top) (is g t ws tb r s f k ∙ ap (λ l. getD (marked g l) 0 0) e) (done g t ws tb r s f k)
+          ∙ ap (marked g) (sym e);
+    }
+      where
+        stored : span (set w q m) q top ≡ m ∷ getD w (q + 1) 0 ∷ span w (q + 2) top
+        stored =
+            let l : length (set w q m) ≡ length w₀ = length-set w q m ∙ i .long in
+            span-pair (set w q m) q top (omega (arith, i .high)) (omega arith)
+            ∙ ap₂ (λ a b. a ∷ b) (getD-set-same w q m 0 (omega (arith, i .high, i .long)))
+            (ap₂ (λ a b. a ∷ b) (getD-set-other w q (q + 1) m 0 (λ e. omega arith)) (ap (take (top - (q + 2))) (drop-set-lt (q + 2) w q m (omega arith))))
+
+    -- it is marked
+    pub mark-more : (w′ : Words) → NodeMarked heads rows w w′ q top → MarkLoop Given heads rows w₀ w′ base place top q
+    unfolding marked
+    mark-more w′ n = rw (n .stored) (mark-step (n .word) made)
+      where
+        made : Each Given heads rows w₀ base place top (λ g ws. n .word ≡ getD (marked g (drop (q - base) ws)) 0 0)
+        made g u ws tb r s f k =
+            let t = typeIn (getD w q 0) in
+            let v = getD w (q + 1) 0 in
+            let x = drop (q + 2 - base) ws in
+            let e = pair g ws f in
+            let h = left g ws f in
+            let suffix = suffix-trees ws r (h .0) (q - base) (h .1) (omega (arith, f .long, i .high)) in
+            let there = node-of (suffix .0) t v x (rw e at (suffix .1)) in
+            let a = first-size g (t ∷ v ∷ x) 1 in
+            let b = suffix-size ws (h .0) (q - base) (h .1) in
+            let c : size (drop (q - base) ws) ≡ size (t ∷ v ∷ x) = ap size e in
+            n .made g x (there .rest) tb (done g u ws tb r s f k) (there .below) (there .fine) (omega arith) ∙ ap (λ l. getD (marked g l) 0 0) (sym e)
+
+  -- all before p are marked
+  pub mark-all : p - base < 2 → Each Given heads rows w₀ base place top (λ g ws. w ≡ take base w₀ ++ (marked g ws ++ drop top w₀))
+  mark-all few g t ws tb r s f k =
+      let e : p ≡ base = omega (arith, f .even, i .even, i .high, i .low) in
+      let front : take base w ≡ take base w₀ = rw e at (i .kept) in
+      let z : base - base ≡ 0 = omega arith in
+      let m : span w base top ≡ marked g ws = rw (e, z) at (i .run g t ws tb r s f k) in
+      let b : base + (top - base) ≡ top = omega (arith, i .low, i .high) in
+      let d : drop (top - base) (drop base w) ≡ drop top w₀ = drop-drop (top - base) base w ∙ ap (λ n. drop n w) b ∙ i .above in
+      sym (take-append-drop base w) ∙ ap₂ (λ a b. a ++ b) front (sym (take-append-drop (top - base) (drop base w)) ∙ ap₂ (λ a b. a ++ b) m d)
+
+-- where nothing is given besides
+abbrev pub Whatever : Grammar → Words → Type 0
+Whatever g ws = Unit {0}
+
+pub mark-end : (heads rows w₀ w : Words) (base place top p : ℕ) → MarkLoop Whatever heads rows w₀ w base place top p → place ≤ top → top ≤ length w₀ → p - base < 2 → TreeMarked heads rows w₀ w base place top
+mark-end heads rows w₀ w base place top p i up room few = record { long = i .long; marks = λ g t ws tb r s f. mark-all Whatever heads rows w₀ w base place top p i up room few g t ws tb r s f tt }

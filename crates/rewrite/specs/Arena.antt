@@ -1,13 +1,14 @@
 -- What the functions on the stack of trees promise. Assumes nothing: these are definitions.
 use Prim.Native.Nat.{ℕ, zero, suc, _+_, _*_, _<_, _≤_}
 use mathlib.Core.Path.{_≡_}
+use mathlib.Core.Bool.{Bool}
 use mathlib.Core.List.{List, [], _∷_}
 use lib.ListN.{length, getD, take, drop, set}
-use lib.Dec.{leb}
+use lib.Dec.{leb, ltb}
 use Rattle.words.specs.Reader.{Words, pick}
 use Rattle.grammar.specs.Grammar.{Grammar}
 use Rattle.grammar.specs.Limits.{mostTypes}
-use Rattle.grammar.specs.Tables.{Tables}
+use Rattle.grammar.specs.Tables.{Heads, Tables}
 use Rattle.tree.specs.Limits.{mostNodes, mostNesting}
 use Rattle.tree.specs.Tree.{Trees, Tree, size, nesting, firstTree}
 use Rattle.rules.specs.Rules.{Operation, applied, operation, arguments}
@@ -51,6 +52,11 @@ pub record Standing (g : Grammar) (w : Words) (base n t : ℕ) (ws : Words) : Ty
   pub tree : Tree g t ws
   pub nodes : size ws ≡ n
   pub words : take (2 * n) (drop base w) ≡ marked g ws
+
+-- r says whether the scope of n nodes at base would nest too deep with the tree at `from` in the place of its node i
+abbrev pub TooDeep : Words → Words → ℕ → ℕ → ℕ → ℕ → Bool → Type 0
+TooDeep heads w base n i from r = (g : Grammar) (t target m : ℕ) (scope ws : Words) → Heads g heads → Standing g w base n t scope → Standing g w from m target ws
+    → Tree g target (firstTree g (drop (2 * i) scope)) → r ≡ ltb mostNesting (nesting g (put g scope (2 * i) ws))
 
 -- after an attempt to put a tree in place: 0, and the scope stands as it is then; or a stop, and nothing is changed
 abbrev pub PlacedAs : Grammar → Words → Words → ℕ → ℕ → Words → ℕ → ℕ → Type 0

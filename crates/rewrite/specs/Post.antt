@@ -3,16 +3,16 @@ use Prim.Native.Nat.{ℕ, _+_, _-_, _*_, _≤_}
 use mathlib.Core.Path.{_≡_}
 use mathlib.Core.Bool.{Bool, true}
 use mathlib.Core.List.{List, [], _∷_, _++_}
-use lib.ListN.{length, take, drop}
+use lib.ListN.{length, getD, take, drop, set}
 use Rattle.words.specs.Reader.{Words}
 use Rattle.grammar.specs.Grammar.{Grammar}
 use Rattle.grammar.specs.Kinds.{allowed, children}
 use Rattle.grammar.specs.Tables.{Heads, Tables}
 use Rattle.tree.specs.Limits.{mostNodes}
-use Rattle.tree.specs.Tree.{Trees, size, nodeNesting, firstTree}
+use Rattle.tree.specs.Tree.{Trees, size, nesting, nodeNesting, firstTree}
 use Rattle.words.specs.Views.{equalWords}
 use Rattle.grammar.specs.Limits.{mostTypes}
-use Rattle.rewrite.specs.Marked.{markOf, marked, unmarked}
+use Rattle.rewrite.specs.Marked.{typeIn, markOf, marked, unmarked}
 use Rattle.rewrite.specs.Vars.{Stands}
 use Rattle.meaning.specs.Meaning.{put}
 
@@ -24,6 +24,12 @@ MarkMade heads rows t v below r = (g : Grammar) (ws : Words) (ts : List ℕ) →
 -- the words from base to top
 abbrev pub span : Words → ℕ → ℕ → Words
 span w base top = take (top - base) (drop base w)
+
+-- the node at p is marked, whose children's marked trees the words from there to top begin with; no other word is changed
+pub record NodeMarked (heads rows w w′ : Words) (p top : ℕ) : Type 0 where
+  pub word : ℕ
+  pub made : MarkMade heads rows (typeIn (getD w p 0)) (getD w (p + 1) 0) (span w (p + 2) top) word
+  pub stored : w′ ≡ set w p word
 
 -- a tree stands from base to top: its words before the place are marked wrongly or not at all, those from there on rightly
 pub record Unfinished (g : Grammar) (w : Words) (base place top : ℕ) (ws : Words) : Type 0 where
@@ -37,6 +43,49 @@ pub record Unfinished (g : Grammar) (w : Words) (base place top : ℕ) (ws : Wor
 pub record TreeMarked (heads rows w w′ : Words) (base place top : ℕ) : Type 0 where
   pub long : length w′ ≡ length w
   pub marks : (g : Grammar) (t : ℕ) (ws : Words) → Tables g heads rows → Trees g (t ∷ []) ws → size ws ≤ mostNodes → Unfinished g w base place top ws → w′ ≡ take base w ++ (marked g ws ++ drop top w)
+
+-- the words before the place stand as in another marked tree, the old one, which begins with the same words
+pub record Kept (g : Grammar) (w : Words) (base place : ℕ) (ws : Words) : Type 0 where
+  pub old : Words
+  pub type : ℕ
+  pub tree : Trees g (type ∷ []) old
+  pub few : size old ≤ mostNodes
+  pub long : place - base ≤ length old
+  pub same : take (place - base) old ≡ take (place - base) ws
+  pub stands : span w base place ≡ take (place - base) (marked g old)
+
+-- .. then marking the nodes above the place is enough
+pub record AboveMarked (heads rows w w′ : Words) (base place top : ℕ) : Type 0 where
+  pub long : length w′ ≡ length w
+  pub marks : (g : Grammar) (t : ℕ) (ws : Words) → Tables g heads rows → Trees g (t ∷ []) ws → size ws ≤ mostNodes → Unfinished g w base place top ws → Kept g w base place ws
+      → w′ ≡ take base w ++ (marked g ws ++ drop top w)
+
+-- marked, the words a stand from base to the place: a tree begins with them and goes on with the tree u, of `was` nodes, and the words x. The tree u′, of
+-- `will` nodes, nests as deep as u
+pub record Resizable (g : Grammar) (w : Words) (base place was will : ℕ) (a u u′ x : Words) : Type 0 where
+  pub types : length g ≤ mostTypes
+  pub long : length a ≡ place - base
+  pub half : ℕ
+  pub even : place - base ≡ 2 * half
+  pub root : ℕ
+  pub tree : Trees g (root ∷ []) (a ++ (u ++ x))
+  pub few : size (a ++ (u ++ x)) ≤ mostNodes
+  pub small : size (a ++ (u′ ++ x)) ≤ mostNodes
+  pub type : ℕ
+  pub old : Trees g (type ∷ []) u
+  pub old-size : size u ≡ was
+  pub type′ : ℕ
+  pub new : Trees g (type′ ∷ []) u′
+  pub new-size : size u′ ≡ will
+  pub flat : nesting g u ≡ nesting g u′
+  pub stands : span w base place ≡ take (place - base) (marked g (a ++ (u ++ x)))
+
+-- .. they are marked as they are before u′; nothing else is changed
+pub record Resized (w w′ : Words) (base place was will : ℕ) : Type 0 where
+  pub long : length w′ ≡ length w
+  pub below : take base w′ ≡ take base w
+  pub above : drop place w′ ≡ drop place w
+  pub marks : (g : Grammar) (a u u′ x : Words) → Resizable g w base place was will a u u′ x → span w′ base place ≡ take (place - base) (marked g (a ++ (u′ ++ x)))
 
 -- r says whether the tree at `start` and the first tree of the part are the same
 abbrev pub SameTree : Words → ℕ → Words → Bool → Type 0

@@ -10,7 +10,7 @@ ghost use mathlib.Core.List.{_∷_, _++_};
 ghost use Prim.Native.Nat.{ℕ, _+_, _*_, _<_, _≤_, _^_};
 ghost use lib.ListN.{length, getD, take, drop};
 ghost use Rattle.rewrite.specs.Vars.{Sound, startAt};
-ghost use Rattle.rewrite.specs.Arena.{NodesAt, overBy, Gathered, Closed, Replaced, Computed};
+ghost use Rattle.rewrite.specs.Arena.{NodesAt, overBy, Gathered, Closed, TooDeep, Replaced, Computed};
 
 const MOST_NODES: usize = 2048;
 
@@ -132,6 +132,22 @@ pub fn close(heads: &[u32; HEADS], rows: &[u8; ROWS], w: &mut [u32], top: usize,
     0
 }
 
+// Would the scope, n nodes from base on, nest too deep with the tree at `from` in the place of its node i? Not if that nests no deeper than the node's own
+// tree: only otherwise is the way down to the node walked.
+fn too_deep(heads: &[u32; HEADS], w: &[u32], base: usize, n: usize, i: usize, from: usize) -> bool
+    requires { ⌜ (i < n) × (n ≤ 6144) × (base + 2 * n ≤ length (now w)) ⌝ }
+    ensures { λ r. ⌜ TooDeep (now (heads .entry)) (now (w .entry)) base n i from r ⌝ }
+{
+    let place = base + 2 * i;
+    let end = base + 2 * n;
+    let deepest = crate::nesting_in(words::word(w, from));
+    if deepest <= crate::nesting_in(words::word(w, place)) {
+        return false;
+    }
+    let above = crate::nesting_at(heads, &w[base..end], place - base);
+    MOST_NESTING + 1 < above + deepest
+}
+
 // Puts the tree of m nodes at `from` in the place of node i of the scope, n nodes from base on, unless the scope had too many nodes or nested too deep then.
 pub fn replace_tree(
     heads: &[u32; HEADS],
@@ -156,10 +172,7 @@ pub fn replace_tree(
     if MOST_NODES < nodes {
         return Placed { stop: 42, nodes };
     }
-    let arena = &w[..];
-    let above = crate::nesting_at(heads, &arena[base..end], place - base);
-    let deepest = crate::nesting_in(words::word(w, from));
-    if MOST_NESTING + 1 < above + deepest {
+    if too_deep(heads, w, base, n, i, from) {
         return Placed { stop: 43, nodes };
     }
     crate::put_in_place(heads, rows, w, base, place, end, from, 2 * m);

@@ -6,13 +6,13 @@ use rules::limits::MARK_NEW;
 use rules::limits::MARK_VARIABLE;
 use rules::limits::MOST_VARIABLES;
 ghost use mathlib.Core.Path.{_≡_};
-ghost use Prim.Native.Nat.{ℕ, _+_, _-_, _*_, _<_, _≤_, _^_, max};
+ghost use Prim.Native.Nat.{ℕ, _+_, _-_, _*_, _%_, _<_, _≤_, _^_, max};
 ghost use mathlib.Core.Bool.{true, false};
 ghost use Rattle.words.specs.Reader.{pick, and};
 ghost use lib.Dec.{eqb};
 ghost use lib.ListN.{length};
 ghost use Rattle.rewrite.specs.Marked.{mark, typeIn, sizeIn, nestingIn};
-ghost use Rattle.rewrite.specs.Post.{MarkMade, TreeMarked, InPlace, NestingOf, Written, SameTree};
+ghost use Rattle.rewrite.specs.Post.{MarkMade, NodeMarked, TreeMarked, AboveMarked, Resized, InPlace, NestingOf, Written, SameTree};
 ghost use Rattle.rewrite.specs.Vars.{bound, startAt, Sound};
 ghost use Rattle.rewrite.specs.Matching.{NewTold, PairTold, failedBy, MatchAnswers, FirstAnswers};
 ghost use Rattle.rewrite.specs.declared.Verdict as Verdict;
@@ -111,6 +111,19 @@ fn mark_of(heads: &[u32; HEADS], rows: &[u8; ROWS], t: u32, v: u32, below: &[u32
     pack(t, size, deepest)
 }
 
+// Marks the node at p of a tree that ends by top: its children's trees are marked.
+fn mark_node(heads: &[u32; HEADS], rows: &[u8; ROWS], w: &mut [u32], p: usize, top: usize)
+    requires { ⌜ (p + 2 ≤ top) × (top ≤ length (now w)) ⌝ }
+    ensures { λ _. ⌜ NodeMarked (now (heads .entry)) (now (rows .entry)) (now (w .entry)) (now (w .exit)) p top ⌝ }
+{
+    let below = p + 2;
+    let t = type_in(w[p]);
+    let v = w[p + 1];
+    let arena = &w[..];
+    let m = mark_of(heads, rows, t, v, &arena[below..top]);
+    w[p] = m;
+}
+
 // Marks the nodes before the place in the tree that stands from base to top, the last first: a node's children are marked before it.
 pub fn mark_tree(
     heads: &[u32; HEADS],
@@ -126,17 +139,65 @@ pub fn mark_tree(
     let mut p = place;
     while 2 <= p - base {
         p = p - 2;
-        let below = p + 2;
-        let t = type_in(w[p]);
-        let v = w[p + 1];
-        let arena = &w[..];
-        let m = mark_of(heads, rows, t, v, &arena[below..top]);
-        w[p] = m;
+        mark_node(heads, rows, w, p, top);
+    }
+}
+
+// The same where another tree is put in the place: only the nodes above it are marked again, since a tree that ended by the place has not changed.
+fn mark_above(
+    heads: &[u32; HEADS],
+    rows: &[u8; ROWS],
+    w: &mut [u32],
+    base: usize,
+    place: usize,
+    top: usize,
+)
+    requires { ⌜ (base ≤ place) × (place ≤ top) × (top ≤ length (now w)) ⌝ }
+    ensures { λ _. ⌜ AboveMarked (now (heads .entry)) (now (rows .entry)) (now (w .entry)) (now (w .exit)) base place top ⌝ }
+{
+    let mut p = place;
+    while 2 <= p - base {
+        p = p - 2;
+        let end = p + 2 * size_in(w[p]);
+        if place < end {
+            mark_node(heads, rows, w, p, top);
+        }
+    }
+}
+
+// The mark of a tree in which one of `was` nodes gives way to one of `will` nodes that nests as deep.
+fn resized(w: u32, was: usize, will: usize) -> u32
+    requires { ⌜ (was ≤ 4096) × (will ≤ 4096) ⌝ }
+    ensures { λ r. ⌜ r ≡ (w + (4294967296 + 64 * will - 64 * was)) % 4294967296 ⌝ }
+{
+    let more = 4294967296 + 64 * will - 64 * was;
+    ((words::wide(w) + more) % 4294967296) as u32
+}
+
+// Marks the nodes above the place where the tree put there nests as deep as the old one, so that only sizes change: from the root down, trees that end by
+// the place are stepped over.
+fn resize_above(w: &mut [u32], base: usize, place: usize, was: usize, will: usize)
+    requires { ⌜ (base ≤ place) × (place ≤ length (now w)) × (was ≤ 4096) × (will ≤ 4096) ⌝ }
+    ensures { λ _. ⌜ Resized (now (w .entry)) (now (w .exit)) base place was will ⌝ }
+{
+    let mut p = base;
+    while p < place {
+        let n = size_in(w[p]);
+        let end = p + 2 * n;
+        if n == 0 {
+            return;
+        }
+        if end <= place {
+            p = end;
+        } else {
+            w[p] = resized(w[p], was, will);
+            p = p + 2;
+        }
     }
 }
 
 // Puts the tree of n words that stands at `from` in the place of the tree that stands there, in the scope from base to end: what follows goes behind
-// the new tree, then both move down.
+// the new tree, then both move down. If their first words are the same, the trees are equally large and deep: then nothing else changes.
 pub fn put_in_place(
     heads: &[u32; HEADS],
     rows: &[u8; ROWS],
@@ -150,13 +211,23 @@ pub fn put_in_place(
     requires { ⌜ (base ≤ place) × (place < end) × (end ≤ from) × (from + n + (end - place) ≤ length (now w)) ⌝ }
     ensures { λ _. ⌜ InPlace (now (heads .entry)) (now (rows .entry)) (now (w .entry)) (now (w .exit)) base place end from n ⌝ }
 {
-    let after = place + 2 * size_in(w[place]);
-    if after <= end {
-        let rest = end - after;
-        words::copy_up(w, after, from + n, rest);
-        words::move_down(w, from, place, n + rest);
-        let top = place + (n + rest);
-        mark_tree(heads, rows, w, base, place, top);
+    let old = w[place];
+    let new = w[from];
+    if old == new {
+        words::move_down(w, from, place, n);
+        return;
+    }
+    let after = place + 2 * size_in(old);
+    if end < after {
+        return;
+    }
+    let rest = end - after;
+    words::copy_up(w, after, from + n, rest);
+    words::move_down(w, from, place, n + rest);
+    if nesting_in(old) == nesting_in(new) {
+        resize_above(w, base, place, size_in(old), size_in(new));
+    } else {
+        mark_above(heads, rows, w, base, place, place + (n + rest));
     }
 }
 
