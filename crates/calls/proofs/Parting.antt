@@ -169,14 +169,6 @@ condition-is book (conditionAt negated p) c h e = let z : record { negated = neg
 
 -- THE STEP
 
-abbrev nextIn : PartRead → ℕ
-nextIn (Found f) = f .next
-nextIn (NoPart n p) = 0
-
-abbrev partIn : Part → PartRead → Part
-partIn d (Found f) = f .part
-partIn d (NoPart n p) = d
-
 -- the same answer is that of an equal computation
 takes-as : (w w′ : Words) (frame : Frame) (left : ℕ) (r : Taken) (A B : Grammar → Rules.Rules → Type 0) (f h : Grammar → Rules.Rules → Bindings → Comp (Option Bindings))
     → ((g : Grammar) (rules : Rules.Rules) → B g rules → A g rules × ((b : Bindings) → h g rules b left ≡ f g rules b left)) → Takes w w′ frame left r A f → Takes w w′ frame left r B h
@@ -191,59 +183,35 @@ takes-as w w′ frame left r A B f h same t = record {
 }
 
 module _ (heads rows : Words) (types : ℕ) (book starts w : Words) (at : ℕ) (frame : Frame) (deep left : ℕ) where
-  pub step-none : Room w frame → {n p : ℕ} → NoPart n p ≡ Views.partRead (partAt types book at)
-      → Steps heads rows types book starts w w at frame deep left (record { verdict = Differs; frame = frame; left = left; next = at })
-  step-none room {n} {p} e = go (partAt types book at) refl
-    where
-      go : (r : Read PartAt) → partAt types book at ≡ r → Steps heads rows types book starts w w at frame deep left (record { verdict = Differs; frame = frame; left = left; next = at })
-      go (value q next) y = let z : NoPart n p ≡ Found (record { part = partAs q; next = next }) = e ∙ ap Views.partRead y in let k : _≡_ {A = ℕ} 0 1 = cc in absurd (omega arith)
-      go (refused m o) y = record {
-        next-is = λ q next z. let k : _≡_ {A = ℕ} 0 1 = cc in absurd (omega arith);
-        takes = record {
-          grown = grown-same room;
-          less = omega arith;
-          long = refl;
-          meant = λ g rules b with held sure. absurd (sure (ap (λ x. partRead deep book x g rules b left) y));
-        };
-      }
-
-  module _ (w′ : Words) (r : Taken) (f : FoundPart) (e : Found f ≡ Views.partRead (partAt types book at)) where
-    found-at : (q : PartAt) × (partAt types book at ≡ value q (f .next)) × (partAs q ≡ f .part)
-    found-at = go (partAt types book at) refl
+  -- f is what is read there, if a part is
+  module _ (w′ : Words) (r : Taken) (f : FoundPart) (is : (types : ℕ) (q : PartAt) (next : ℕ) → partAt types book at ≡ value q next → f ≡ record { part = partAs q; next = next }) where
+    -- the step of a part p, if that is what stands there
+    step-by : (A : Grammar → Rules.Rules → Type 0) (p : Rules.Part) → r .next ≡ f .next → ((g : Grammar) (rules : Rules.Rules) → Setting heads rows types book starts g rules → A g rules)
+        → ((q : PartAt) → pairsAt book (pairsOf q) ≡ stretch book (pairsOf q) → partAs q ≡ f .part → partOf book q ≡ p) → Takes w w′ frame left r A (partOn deep p)
+        → Steps heads rows types book starts w w′ at frame deep left r
+    step-by A p n give same t = record { next-is = λ q next z. n ∙ ap (λ x. x .next) (is types q next z); takes = go (partAt types book at) refl }
       where
-        go : (x : Read PartAt) → partAt types book at ≡ x → (q : PartAt) × (partAt types book at ≡ value q (f .next)) × (partAs q ≡ f .part)
+        go : (x : Read PartAt) → partAt types book at ≡ x → Takes w w′ frame left r (λ g rules. Setting heads rows types book starts g rules) (partRead deep book (partAt types book at))
         go (value q next) y =
-            let z : Found f ≡ Found (record { part = partAs q; next = next }) = e ∙ ap Views.partRead y in
-            let a : f .next ≡ next = ap nextIn z in
-            (q, y ∙ ap (value q) (sym a), sym (ap (partIn (f .part)) z))
-        go (refused n p) y = let z : Found f ≡ NoPart n p = e ∙ ap Views.partRead y in let k : _≡_ {A = ℕ} 0 1 = cc in absurd (omega arith)
-
-    -- the step of a part p, whatever stands there
-    step-by : (A : Grammar → Rules.Rules → Type 0) (p : Rules.Part) → r .next ≡ f .next
-        → ((g : Grammar) (rules : Rules.Rules) → Setting heads rows types book starts g rules → A g rules)
-        → (pairsAt book (pairsOf (found-at .0)) ≡ stretch book (pairsOf (found-at .0)) → partOf book (found-at .0) ≡ p)
-        → Takes w w′ frame left r A (partOn deep p) → Steps heads rows types book starts w w′ at frame deep left r
-    step-by A p n give same t = record {
-      next-is = λ q next z. let k : value (found-at .0) (f .next) ≡ value q next = sym (found-at .1) ∙ z in let j : f .next ≡ next = cc in n ∙ j;
-      takes = takes-as w w′ frame left r A (λ g rules. Setting heads rows types book starts g rules) (partOn deep p) (partRead deep book (partAt types book at))
-          (λ g rules with.
-          let here = told-here book (found-at .0) (f .next) (part-tells types book (with .few) at (found-at .0) (f .next) (found-at .1)) in
-          (give g rules with, λ b. ap (λ x. partRead deep book x g rules b left) (found-at .1) ∙ ap (λ x. partOn deep x g rules b left) (same here))) t;
-    }
+            takes-as w w′ frame left r A (λ g rules. Setting heads rows types book starts g rules) (partOn deep p) (partRead deep book (partAt types book at))
+            (λ g rules with.
+            let here = told-here book q next (part-tells types book (with .few) at q next y) in
+            (give g rules with, λ b. ap (λ x. partRead deep book x g rules b left) y ∙ ap (λ x. partOn deep x g rules b left) (same q here (sym (ap (λ x. x .part) (is types q next y)))))) t
+        go (refused m o) y = record { grown = t .grown; less = t .less; long = t .long; meant = λ g rules b with held sure. absurd (sure (ap (λ x. partRead deep book x g rules b left) y)) }
 
     pub step-deconstruct : (d : Deconstruct) → f .part ≡ Part.Deconstruct d → Deconstructs book w d (f .next) frame left r → w′ ≡ w → Steps heads rows types book starts w w′ at frame deep left r
     step-deconstruct d k x ew =
         step-by (λ g rules. length g ≤ mostTypes) (deconstructIn book (d .searches) (d .searched) (d .variable) (d .pattern)) (x .next-is)
-        (λ g rules with. with .tables .heads-of .types) (λ h. deconstruct-is book (found-at .0) d h (found-at .2 ∙ k)) (rw ew (x .takes deep))
+        (λ g rules with. with .tables .heads-of .types) (λ q h e. deconstruct-is book q d h (e ∙ k)) (rw ew (x .takes deep))
 
     pub step-construct : (c : Construct) → f .part ≡ Part.Construct c → Constructs heads rows types book starts w w′ (c .replacement) (f .next) frame deep left r
         → Steps heads rows types book starts w w′ at frame deep left r
     step-construct c k x =
         step-by (λ g rules. Setting heads rows types book starts g rules) (Rules.construct (c .built) (pieces (pairsAt book (c .replacement)))) (x .next-is) (λ g rules with. with)
-        (λ h. construct-is book (found-at .0) c h (found-at .2 ∙ k)) (x .takes (c .built))
+        (λ q h e. construct-is book q c h (e ∙ k)) (x .takes (c .built))
 
     pub step-condition : (c : Condition) → f .part ≡ Part.Condition c → Conditions heads rows types book starts w w′ (c .negated) (c .chain) (f .next) frame deep left r
         → Steps heads rows types book starts w w′ at frame deep left r
     step-condition c k x =
         step-by (λ g rules. Setting heads rows types book starts g rules) (Rules.condition (c .negated) (getD (pairsAt book (c .chain)) 1 0) (conditionOf (pairsAt book (c .chain)))) (x .next-is)
-        (λ g rules with. with) (λ h. condition-is book (found-at .0) c h (found-at .2 ∙ k)) (x .takes)
+        (λ g rules with. with) (λ q h e. condition-is book q c h (e ∙ k)) (x .takes)

@@ -15,7 +15,6 @@ use rules::Condition;
 use rules::Construct;
 use rules::Deconstruct;
 use rules::Part;
-use rules::PartRead;
 use rules::Plan;
 use rules::Strategy;
 use rules::limits::MARK_CHAIN;
@@ -340,43 +339,38 @@ fn step(
     requires { ⌜ Room (now w) frame × (1 ≤ types) ⌝ }
     ensures { λ r. ⌜ Steps (now (heads .entry)) (now (rows .entry)) types (now (book .entry)) (now (starts .entry)) (now (w .entry)) (now (w .exit)) at frame deep left r ⌝ }
 {
-    let r = rules::read_part(types, book, at);
-    match r {
-        PartRead::NoPart(_, _) => taking(Verdict::Differs, frame, left, at),
-        PartRead::Found(f) => {
-            let part = f.part;
-            let next = f.next;
-            match part {
-                Part::Deconstruct(d) => deconstruct(book, w, d, next, frame, left),
-                Part::Construct(c) => construct(
-                    heads,
-                    rows,
-                    types,
-                    book,
-                    starts,
-                    w,
-                    c.replacement,
-                    next,
-                    frame,
-                    deep,
-                    left,
-                ),
-                Part::Condition(c) => {
-                    condition(
-                        heads,
-                        rows,
-                        types,
-                        book,
-                        starts,
-                        w,
-                        c,
-                        next,
-                        frame,
-                        deep,
-                        left,
-                    )
-                }
-            }
+    let f = rules::part_of(book, at);
+    let part = f.part;
+    let next = f.next;
+    match part {
+        Part::Deconstruct(d) => deconstruct(book, w, d, next, frame, left),
+        Part::Construct(c) => construct(
+            heads,
+            rows,
+            types,
+            book,
+            starts,
+            w,
+            c.replacement,
+            next,
+            frame,
+            deep,
+            left,
+        ),
+        Part::Condition(c) => {
+            condition(
+                heads,
+                rows,
+                types,
+                book,
+                starts,
+                w,
+                c,
+                next,
+                frame,
+                deep,
+                left,
+            )
         }
     }
 }

@@ -1,22 +1,23 @@
 -- What the layout's readers read, where they refuse nothing: types as a grammar has them, pairs that end where the next field begins. Assumes nothing.
 use Prim.Native.Nat.{ℕ, zero, suc, _+_, _-_, _*_, _≤_, _<_}
-use mathlib.Core.Path.{_≡_, sym, ap, _∙_, subst, subst₂}
+use mathlib.Core.Path.{_≡_, refl, sym, ap, ap₂, _∙_, subst, subst₂}
 use mathlib.Core.List.{List, []}
 use mathlib.Core.Bool.{Bool, true, false}
 use mathlib.Core.Option.{Option, none, some}
 use native.Mathlib.Omega.{arith}
 use lib.ListN.{length, getD, drop, take, length-drop, length-take}
 use lib.Dec.{leb, eqb}
-use borrow.Author.Tests.{leb-true}
+use borrow.Author.Tests.{leb-true, le-leb, lt-leb, eqb-true, ne-eqb}
 use Rattle.words.specs.Reader.{Words, pick, value, refused, Reader, _>>=_, return, word, many}
-use Rattle.words.proofs.Laws.{then-value, pick-value, in-value, many-suc, many-length}
+use Rattle.words.proofs.Laws.{then-value, word-value, pick-value, in-value, many-suc, many-length}
 use Rattle.grammar.specs.Limits.{mostTypes}
 use Rattle.grammar.proofs.Bounded.{Low}
 use Rattle.tree.proofs.Trees.{Even, even-of}
 use Rattle.rules.specs.Limits.{mostParameters, mostPairs, mostVariables}
 use Rattle.rules.specs.Rules.{Piece, Part, Rule, shapes}
 use Rattle.rules.specs.Layout.{Head, PartAt, deconstructAt, constructAt, conditionAt, bit, onlyIf, strategyOf, stretch, field, pairs, variableAt, deconstructFields, conditionFields, partOf, reach, replacement, typeField, searchFields, constructFields, partAt, part, parameters, headFields, head, parts, rule}
-use Rattle.rules.specs.Views.{pairsAt}
+use Rattle.rules.specs.Views.{pairsAt, pairsEnd, partAs}
+use Rattle.rules.specs.declared.FoundPart.{FoundPart}
 use Rattle.rules.proofs.Tested.{no-true}
 
 -- PAIRS
@@ -112,12 +113,163 @@ module _ (types : ℕ) (ws : Words) (few : types ≤ mostTypes) where
       other : Tells ws (λ n. refused 21 at)
       other at′ q′ next′ e = let z : _≡_ {A = ℕ} 0 1 = cc in absurd (omega arith)
 
+-- A PART'S POSITIONS
+
+-- pairs that are read end where it is said that they do
+pub record Ends (ws : Words) (p next : ℕ) : Type 0 where
+  pub some-pairs : p + 3 ≤ next
+  pub inside : next ≤ length ws
+  pub end-is : pairsEnd ws p ≡ next
+
+pairs-ends : (ws : Words) (at : ℕ) {p next : ℕ} → pairs ws at ≡ value p next → (p ≡ at) × Ends ws at next
+unfolding pairs field pairsEnd
+pairs-ends ws at {p} {next} e =
+    let x = pairs-extent ws at e in
+    let a = then-value (field ws 1 mostPairs at) (λ k q. pick (leb (q + 2 * k) (length ws)) (value at (q + 2 * k)) (refused 20 (length ws))) e in
+    let c = in-value 20 21 ws 1 mostPairs at (a .2) in
+    (x .0, record { some-pairs = omega (arith, x .1, c .0, c .2); inside = x .3; end-is = rw (le-leb (at + 1 + 2 * getD ws at 0) (length ws) (omega (arith, x .1, x .3))) (sym (x .1)) })
+
+-- where the fields of a part stand whose map is m
+pub data Fields (ws : Words) (at m : ℕ) (q : PartAt) (next : ℕ) : Type 0 where
+  apart : m ≡ 1 → q ≡ deconstructAt none (at + 1) (at + 2) → Ends ws (at + 2) next → Fields ws at m q next
+  searched : m ≡ 3 → q ≡ deconstructAt (some (getD ws (at + 1) 0)) (at + 2) (at + 3) → Ends ws (at + 3) next → Fields ws at m q next
+  built : m ≡ 4 → q ≡ constructAt (getD ws (at + 1) 0) (at + 2) → Ends ws (at + 2) next → Fields ws at m q next
+  tested : m ≡ 8 → q ≡ conditionAt false (at + 1) → Ends ws (at + 1) next → Fields ws at m q next
+  untested : m ≡ 24 → q ≡ conditionAt true (at + 1) → Ends ws (at + 1) next → Fields ws at m q next
+
+-- pairs and what is made of them
+made-fields : (ws : Words) (f : ℕ → PartAt) (at : ℕ) (q : PartAt) (next : ℕ) → _>>=_ (pairs ws) (λ p. return (f p)) at ≡ value q next → (q ≡ f at) × Ends ws at next
+made-fields ws f at q next e =
+    let a = then-value (pairs ws at) (λ p. return (f p)) e in
+    let b = pairs-ends ws at (a .2) in
+    let y : q ≡ f (a .0) = cc (a .3) in
+    let z : a .1 ≡ next = cc (a .3) in
+    (y ∙ ap f (b .0), subst (Ends ws at) z (b .1))
+
+apart-fields : (ws : Words) (s : Option ℕ) (at : ℕ) (q : PartAt) (next : ℕ) → deconstructFields ws s at ≡ value q next → (q ≡ deconstructAt s at (at + 1)) × Ends ws (at + 1) next
+unfolding deconstructFields variableAt
+apart-fields ws s at q next e =
+    let a = then-value (variableAt ws at) (λ x. _>>=_ (pairs ws) (λ p. return (deconstructAt s x p))) e in
+    let b = then-value (word 20 ws at) (λ v. return at) (a .2) in
+    let w = word-value 20 ws at (b .2) in
+    let x : a .0 ≡ at = cc (b .3) in
+    let y : a .1 ≡ b .1 = cc (b .3) in
+    let m = made-fields ws (deconstructAt s (a .0)) (a .1) q next (a .3) in
+    let z : a .1 ≡ at + 1 = y ∙ w .2 in
+    (m .0 ∙ ap (λ k. deconstructAt s k (a .1)) x ∙ ap (deconstructAt s at) z, subst (λ k. Ends ws k next) z (m .1))
+
+type-fields : (types : ℕ) (ws : Words) (f : ℕ → Reader PartAt) (at : ℕ) (q : PartAt) (next : ℕ) → _>>=_ (typeField types ws) f at ≡ value q next → f (getD ws at 0) (at + 1) ≡ value q next
+unfolding typeField field
+type-fields types ws f at q next e =
+    let a = then-value (typeField types ws at) f e in
+    let c = in-value 20 21 ws 0 (types - 1) at (a .2) in
+    sym (ap₂ f (c .0) (c .1)) ∙ a .3
+
+-- the fields that a part's map announces
+abbrev byMap : ℕ → Words → ℕ → ℕ → Reader PartAt
+byMap types ws at m = pick (eqb m 1) (deconstructFields ws none) (pick (eqb m 3) (searchFields types ws) (pick (eqb m 4) (constructFields types ws) (pick (eqb m 8) (conditionFields ws false) (pick (eqb m 24) (conditionFields ws true) (λ n. refused 21 at)))))
+
+-- a part that is read has its fields there, and at least four words
+pub part-fields : (types : ℕ) (ws : Words) (at : ℕ) (q : PartAt) (next : ℕ) → partAt types ws at ≡ value q next → Fields ws at (getD ws at 0) q next × (at + 4 ≤ length ws)
+unfolding partAt searchFields constructFields conditionFields
+part-fields types ws at q next e =
+    let a = then-value (word 20 ws at) (byMap types ws at) e in
+    let w = word-value 20 ws at (a .2) in
+    let f = fields (a .0) (sym (ap (byMap types ws at (a .0)) (w .2)) ∙ a .3) in
+    (subst (λ m. Fields ws at m q next) (w .1) f, long f)
+  where
+    two : at + 1 + 1 ≡ at + 2
+    two = omega arith
+
+    three : at + 2 + 1 ≡ at + 3
+    three = omega arith
+
+    four : at + 1 + 1 + 1 ≡ at + 3
+    four = omega arith
+
+    fields : (m : ℕ) → byMap types ws at m (at + 1) ≡ value q next → Fields ws at m q next
+    fields m h = go (eqb m 1) (eqb m 3) (eqb m 4) (eqb m 8) (eqb m 24) (λ p. p) (λ p. p) (λ p. p) (λ p. p) (λ p. p) h
+      where
+        go : (b c d f k : Bool) → (b ≡ true → eqb m 1 ≡ true) → (c ≡ true → eqb m 3 ≡ true) → (d ≡ true → eqb m 4 ≡ true) → (f ≡ true → eqb m 8 ≡ true) → (k ≡ true → eqb m 24 ≡ true)
+            → pick b (deconstructFields ws none) (pick c (searchFields types ws) (pick d (constructFields types ws) (pick f (conditionFields ws false) (pick k (conditionFields ws true) (λ n. refused 21 at))))) (at + 1) ≡ value q next → Fields ws at m q next
+        go true c d f k b₁ c₁ d₁ f₁ k₁ e = let x = apart-fields ws none (at + 1) q next e in apart (eqb-true m 1 (b₁ refl)) (x .0 ∙ ap (deconstructAt none (at + 1)) two) (subst (λ j. Ends ws j next) two (x .1))
+        go false true d f k b₁ c₁ d₁ f₁ k₁ e =
+            let x = apart-fields ws (some (getD ws (at + 1) 0)) (at + 1 + 1) q next (type-fields types ws (λ s. deconstructFields ws (some s)) (at + 1) q next e) in
+            searched (eqb-true m 3 (c₁ refl)) (x .0 ∙ ap (λ j. deconstructAt (some (getD ws (at + 1) 0)) j (j + 1)) two ∙ ap (deconstructAt (some (getD ws (at + 1) 0)) (at + 2)) three) (subst (λ j. Ends ws j next) four (x .1))
+        go false false true f k b₁ c₁ d₁ f₁ k₁ e =
+            let x = made-fields ws (constructAt (getD ws (at + 1) 0)) (at + 1 + 1) q next (type-fields types ws (λ s. _>>=_ (pairs ws) (λ p. return (constructAt s p))) (at + 1) q next e) in
+            built (eqb-true m 4 (d₁ refl)) (x .0 ∙ ap (constructAt (getD ws (at + 1) 0)) two) (subst (λ j. Ends ws j next) two (x .1))
+        go false false false true k b₁ c₁ d₁ f₁ k₁ e = let x = made-fields ws (conditionAt false) (at + 1) q next e in tested (eqb-true m 8 (f₁ refl)) (x .0) (x .1)
+        go false false false false true b₁ c₁ d₁ f₁ k₁ e = let x = made-fields ws (conditionAt true) (at + 1) q next e in untested (eqb-true m 24 (k₁ refl)) (x .0) (x .1)
+        go false false false false false b₁ c₁ d₁ f₁ k₁ e = let z : _≡_ {A = ℕ} 0 1 = cc in absurd (omega arith)
+
+    long : {m : ℕ} → Fields ws at m q next → at + 4 ≤ length ws
+    long (apart m e x) = omega (arith, x .some-pairs, x .inside)
+    long (searched m e x) = omega (arith, x .some-pairs, x .inside)
+    long (built m e x) = omega (arith, x .some-pairs, x .inside)
+    long (tested m e x) = omega (arith, x .some-pairs, x .inside)
+    long (untested m e x) = omega (arith, x .some-pairs, x .inside)
+
 pub part-value : (types : ℕ) (ws : Words) (at : ℕ) {p : Part} {next : ℕ} → part types ws at ≡ value p next → (q : PartAt) × (partAt types ws at ≡ value q next) × (partOf ws q ≡ p)
 unfolding part
 part-value types ws at {p} {next} e =
     let a = then-value (partAt types ws at) (λ q. return (partOf ws q)) e in
     let z : a .1 ≡ next = cc (a .3) in
     (a .0, a .2 ∙ ap (value (a .0)) z, cc (a .3))
+
+-- WHAT IS FOUND BY A MAP
+
+-- a part by its map, where its pairs end
+abbrev pub foundBy : Words → ℕ → ℕ → FoundPart
+foundBy ws at m =
+    pick (eqb m 1) (record { part = partAs (deconstructAt none (at + 1) (at + 2)); next = pairsEnd ws (at + 2) })
+    (pick (eqb m 3) (record { part = partAs (deconstructAt (some (getD ws (at + 1) 0)) (at + 2) (at + 3)); next = pairsEnd ws (at + 3) })
+    (pick (eqb m 4) (record { part = partAs (constructAt (getD ws (at + 1) 0) (at + 2)); next = pairsEnd ws (at + 2) })
+    (pick (eqb m 8) (record { part = partAs (conditionAt false (at + 1)); next = pairsEnd ws (at + 1) }) (record { part = partAs (conditionAt true (at + 1)); next = pairsEnd ws (at + 1) }))))
+
+found-fields : (ws : Words) (at m : ℕ) (q : PartAt) (next : ℕ) → Fields ws at m q next → foundBy ws at m ≡ record { part = partAs q; next = next }
+found-fields ws at m q next (apart e f x) = rw (e, f, x .end-is)
+found-fields ws at m q next (searched e f x) = rw (e, f, x .end-is)
+found-fields ws at m q next (built e f x) = rw (e, f, x .end-is)
+found-fields ws at m q next (tested e f x) = rw (e, f, x .end-is)
+found-fields ws at m q next (untested e f x) = rw (e, f, x .end-is)
+
+-- what is found there is the part that is read
+pub found-read : (types : ℕ) (ws : Words) (at : ℕ) (q : PartAt) (next : ℕ) → partAt types ws at ≡ value q next → {r : FoundPart} → r ≡ foundBy ws at (getD ws at 0) → r ≡ record { part = partAs q; next = next }
+found-read types ws at q next e f = f ∙ found-fields ws at (getD ws at 0) q next (part-fields types ws at q next e .0)
+
+pub found-short : (types : ℕ) (ws : Words) (at : ℕ) (q : PartAt) (next : ℕ) → partAt types ws at ≡ value q next → length ws < at + 4 → {A : Type 0} → A
+found-short types ws at q next e h = absurd (omega (arith, part-fields types ws at q next e .1))
+
+module _ (ws : Words) (at m : ℕ) where
+  pub found-apart : m ≡ 1 → (p : ℕ) → p ≡ at + 2 → record { part = partAs (deconstructAt none (at + 1) p); next = pairsEnd ws p } ≡ foundBy ws at m
+  found-apart e p z = rw (e, z)
+
+  pub found-searched : m ≡ 3 → (p : ℕ) → p ≡ at + 3 → record { part = partAs (deconstructAt (some (getD ws (at + 1) 0)) (at + 2) p); next = pairsEnd ws p } ≡ foundBy ws at m
+  found-searched e p z = rw (e, z)
+
+  pub found-built : m ≡ 4 → record { part = partAs (constructAt (getD ws (at + 1) 0) (at + 2)); next = pairsEnd ws (at + 2) } ≡ foundBy ws at m
+  found-built e = rw e
+
+  pub found-tested : m ≡ 8 → record { part = partAs (conditionAt false (at + 1)); next = pairsEnd ws (at + 1) } ≡ foundBy ws at m
+  found-tested e = rw e
+
+  pub found-untested : (m ≡ 1 → ⊥) → (m ≡ 3 → ⊥) → (m ≡ 4 → ⊥) → (m ≡ 8 → ⊥) → record { part = partAs (conditionAt true (at + 1)); next = pairsEnd ws (at + 1) } ≡ foundBy ws at m
+  found-untested a b c d = rw (ne-eqb m 1 a, ne-eqb m 3 b, ne-eqb m 4 c, ne-eqb m 8 d)
+
+-- where pairs end, as it is tested
+module _ (ws : Words) (p : ℕ) where
+  pub end-past : length ws ≤ p → p ≡ pairsEnd ws p
+  unfolding pairsEnd
+  end-past h = rw (lt-leb (p + 1 + 2 * getD ws p 0) (length ws) (omega arith))
+
+  pub end-over : (k : ℕ) → k ≡ getD ws p 0 → length ws - p ≤ 2 * k → p ≡ pairsEnd ws p
+  unfolding pairsEnd
+  end-over k e h = rw (lt-leb (p + 1 + 2 * getD ws p 0) (length ws) (omega arith))
+
+  pub end-there : (k : ℕ) → k ≡ getD ws p 0 → 2 * k < length ws - p → p + 1 + 2 * k ≡ pairsEnd ws p
+  unfolding pairsEnd
+  end-there k e h = rw (← e, le-leb (p + 1 + 2 * k) (length ws) (omega arith))
 
 -- A RULE'S HEAD
 

@@ -1,10 +1,11 @@
 -- What the code hands back of a reading: the paper's numbers and positions for each case of its enums. Assumes nothing: these are definitions.
-use Prim.Native.Nat.{ℕ, _-_, _≤_}
+use Prim.Native.Nat.{ℕ, _+_, _-_, _*_, _≤_}
 use mathlib.Core.Path.{_≡_}
 use mathlib.Core.List.{List, []}
 use mathlib.Core.Bool.{Bool, true, false}
 use mathlib.Core.Option.{Option, none, some}
-use lib.ListN.{length}
+use lib.ListN.{length, getD}
+use lib.Dec.{leb}
 use Rattle.words.specs.Reader.{Words, pick, Read, value, refused, Reader, many, accepted}
 use Rattle.words.specs.declared.Got.{Got}
 use Rattle.words.specs.declared.Got.the-variants.{Word, Bad}
@@ -60,6 +61,10 @@ partRead (refused n p) = NoPart n p
 -- the pairs whose count stands at p; none, if they are not there
 unfoldable pub pairsAt : Words → ℕ → Words
 pairsAt ws p = pick (accepted (Layout.pairs ws p)) (Layout.stretch ws p) []
+
+-- the position after the pairs whose count stands at p; p, if they are not there
+unfoldable pub pairsEnd : Words → ℕ → ℕ
+pairsEnd ws p = pick (leb (p + 1 + 2 * getD ws p 0) (length ws)) (p + 1 + 2 * getD ws p 0) p
 
 -- how many parts the map announces
 abbrev pub partCount : Words → ℕ → Reader ℕ

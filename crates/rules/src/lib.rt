@@ -7,14 +7,15 @@ use words::Check;
 use words::Got;
 ghost use mathlib.Core.Path.{_≡_};
 ghost use mathlib.Core.Bool.{false};
-ghost use Prim.Native.Nat.{ℕ, _≤_};
+ghost use Prim.Native.Nat.{ℕ, _+_, _<_, _≤_};
 ghost use lib.ListN.{length};
 ghost use Rattle.words.specs.Reader as Reading;
 ghost use Rattle.words.specs.Reader.{value};
 ghost use Rattle.words.specs.Views.{answer, got};
 ghost use Rattle.rules.specs.Layout as Layout;
 ghost use Rattle.rules.specs.Rules.{Rule};
-ghost use Rattle.rules.specs.Views.{partRead, searchedType, headRead, counted, strategyAs, pairsAt, partCount, Planned};
+ghost use Rattle.rules.specs.declared.Part.the-variants as Variant;
+ghost use Rattle.rules.specs.Views.{partAs, partRead, searchedType, headRead, counted, strategyAs, pairsAt, pairsEnd, partCount, Planned};
 ghost use Rattle.rules.specs.Whole.{afterWord, afterCheck, countOf, mapFits, startOf, goesOn, bothPass, rulesFrom};
 
 pub mod limits;
@@ -598,6 +599,83 @@ pub fn pairs_of(ws: &[u32], p: usize) -> &[u32]
         Check::Refused(_, _) => &ws[..0],
         Check::Passed(next) => &ws[p + 1..next],
     }
+}
+
+// The position after the pairs whose count stands at p; p, if they are not there.
+fn pairs_end(ws: &[u32], p: usize) -> usize
+    ensures { λ r. ⌜ r ≡ pairsEnd (now (ws .entry)) p ⌝ }
+{
+    if ws.len() <= p {
+        return p;
+    }
+    let n = 2 * words::wide(words::word(ws, p));
+    if ws.len() - p <= n {
+        return p;
+    }
+    p + 1 + n
+}
+
+// A part that takes a variable apart, whose number stands at a position.
+fn deconstruct_at(ws: &[u32], searches: bool, searched: u32, variable: usize) -> FoundPart
+    requires { ⌜ variable < length (now ws) ⌝ }
+    ensures { λ r. ⌜ r ≡ record { part = Variant.Deconstruct (record { searches = searches; searched = searched; variable = variable; pattern = variable + 1 }); next = pairsEnd (now (ws .entry)) (variable + 1) } ⌝ }
+{
+    let pattern = variable + 1;
+    let next = pairs_end(ws, pattern);
+    let d = Deconstruct {
+        searches,
+        searched,
+        variable,
+        pattern,
+    };
+    let part = Part::Deconstruct(d);
+    FoundPart { part, next }
+}
+
+// A part that builds, the count of whose replacement stands at a position.
+fn construct_at(ws: &[u32], built: u32, replacement: usize) -> FoundPart
+    ensures { λ r. ⌜ r ≡ record { part = Variant.Construct (record { built = built; replacement = replacement }); next = pairsEnd (now (ws .entry)) replacement } ⌝ }
+{
+    let next = pairs_end(ws, replacement);
+    let c = Construct { built, replacement };
+    let part = Part::Construct(c);
+    FoundPart { part, next }
+}
+
+// A part that tests, the count of whose pairs stands at a position.
+fn condition_at(ws: &[u32], negated: bool, chain: usize) -> FoundPart
+    ensures { λ r. ⌜ r ≡ record { part = Variant.Condition (record { negated = negated; chain = chain }); next = pairsEnd (now (ws .entry)) chain } ⌝ }
+{
+    let next = pairs_end(ws, chain);
+    let c = Condition { negated, chain };
+    let part = Part::Condition(c);
+    FoundPart { part, next }
+}
+
+// The part whose map stands at a position of a book that has passed: nothing is tested again.
+pub fn part_of(ws: &[u32], at: usize) -> FoundPart
+    ensures { λ r. ⌜ ((types : ℕ) (q : Layout.PartAt) (next : ℕ) → Layout.partAt types (now (ws .entry)) at ≡ value q next → r ≡ record { part = partAs q; next = next }) ⌝ }
+{
+    if ws.len() < 4 {
+        return condition_at(ws, false, at);
+    }
+    if ws.len() - 4 < at {
+        return condition_at(ws, false, at);
+    }
+    let m = ws[at];
+    if m == 1 {
+        return deconstruct_at(ws, false, 0, at + 1);
+    }
+    if m == 3 {
+        return deconstruct_at(ws, true, ws[at + 1], at + 2);
+    }
+    if m == 4 {
+        return construct_at(ws, ws[at + 1], at + 2);
+    }
+    if m == 8 {
+        return condition_at(ws, false, at + 1);
+    }
+    condition_at(ws, true, at + 1)
 }
 
 // How many parts the map announces, and where the first stands.

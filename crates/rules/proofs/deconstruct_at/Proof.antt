@@ -1,0 +1,24 @@
+use Prim.Native.Nat.{_+_}
+use mathlib.Core.Path.{ap}
+use Rattle.rules.specs.declared.Part.the-variants.{Deconstruct, Construct, Condition}
+use borrow.Author.Needs.{needs}
+use Rattle.rules.proofs.deconstruct_at.Statement.{statement}
+use Rattle.rules.proofs.deconstruct_at.Tie as tie
+use Rattle.rules.proofs.deconstruct_at.Reads as reads
+use Rattle.rules.proofs.deconstruct_at.Lts as lts
+use Rattle.rules.proofs.pairs_end.Reads as pairs-end-reads
+
+-- src/lib.rt:623:19
+add-pattern : tie.Need-add-pattern
+add-pattern c = search needs
+
+-- src/lib.rt:624:9
+pairs-end-requires : tie.Need-pairs-end-requires
+pairs-end-requires c κs = search needs
+
+-- src/lib.rt:619:1
+returns : tie.Need-returns
+returns c = ap (λ n. record { part = Deconstruct (record { searches = c .before .before .args .searches; searched = c .before .before .args .searched; variable = c .before .before .args .variable; pattern = c .before .before .args .variable + 1 }); next = n }) (c .pairs-end .ensures)
+
+pub deconstruct-at-spec : {M : Type 1} → statement M
+deconstruct-at-spec = tie.close (tie.spec add-pattern pairs-end-requires returns)
