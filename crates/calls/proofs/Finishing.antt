@@ -5,7 +5,7 @@ use mathlib.Core.List.{[], _∷_, _++_}
 use mathlib.Core.Bool.{Bool, true, false}
 use mathlib.Core.Option.{Option, some}
 use native.Mathlib.Omega.{arith}
-use lib.ListN.{length, take, drop, length-set}
+use lib.ListN.{length, take, drop, length-set, set}
 use lib.Dec.{leb, ltb}
 use borrow.Author.Tests.{leb-true, ltb-true}
 use Rattle.words.specs.Reader.{Words, pick}
@@ -24,10 +24,10 @@ use Rattle.rewrite.specs.Vars.{startsOf, bound, Sound}
 use Rattle.rewrite.specs.Matching.{bindings}
 use Rattle.rewrite.specs.declared.Vars.{Vars}
 use Rattle.rewrite.specs.declared.Verdict.the-variants.{Matches, Stops}
-use Rattle.rewrite.proofs.Matcher.{env-length, env-more, starts-length, starts-more, sound-more, total-more}
+use Rattle.rewrite.proofs.Matcher.{env-length, env-more, starts-length, starts-more, total-more}
 use Rattle.rewrite.specs.Arena.{Closed, Standing}
 use Rattle.rules.specs.Views.{pairsAt}
-use Rattle.calls.specs.Engine.{Room, Grown, Held, Named, Setting, Sure, Says, TakenAs, Constructs, Fills, Finishes, partOn}
+use Rattle.calls.specs.Engine.{Room, Grown, Held, Setting, Sure, Says, TakenAs, Constructs, Fills, Finishes, partOn}
 use Rattle.rewrite.specs.declared.arena.Frame.{Frame}
 use Rattle.calls.specs.declared.Built.{Built}
 use Rattle.calls.specs.declared.Taken.{Taken}
@@ -111,17 +111,20 @@ module _ (heads rows : Words) (types : ℕ) (book starts w w′ : Words) (at : �
 
 -- A NEW VARIABLE
 
+-- the variables, and one more for the tree on top
+pub record Named (frame : Frame) (r : Vars) : Type 0 where
+  sound : Sound r
+  is : frame .vars .n < 16 → r ≡ bound (frame .vars) (frame .top)
+
 -- what is open stays so
 module _ (frame : Frame) (n : ℕ) (few : frame .live + n ≤ mostLive) (low : frame .top ≤ 2 * frame .live) where
   more-open : (vars : Vars) → Named frame vars → Grown frame (record { vars = vars; live = frame .live + n; top = frame .top + 2 * n })
   more-open vars v = record { sound = v .sound; few = few; low = omega arith; more = omega arith; higher = omega arith }
 
--- no room for one more
-pub named-none : (frame : Frame) → Sound (frame .vars) → 16 ≤ frame .vars .n → Named frame (frame .vars)
-named-none frame s h = record { sound = s; is = λ k. absurd (omega arith) }
-
-pub named-bound : (frame : Frame) → Sound (frame .vars) → frame .vars .n < 16 → (vars : Vars) → vars ≡ bound (frame .vars) (frame .top) → Named frame vars
-named-bound frame s h vars e = record { sound = rw e (sound-more (frame .vars) (frame .top) s h); is = λ k. e }
+-- the place of one more, if there is room
+pub named-place : (frame : Frame) → Sound (frame .vars) → (i k : ℕ) → (i < 16) × (frame .vars .n < 16 → i ≡ frame .vars .n) → (k ≤ 16) × (frame .vars .n < 16 → k ≡ frame .vars .n + 1)
+    → Named frame (record { n = k; starts = set (frame .vars .starts) i (frame .top) })
+named-place frame s i k x y = record { sound = record { room = length-set (frame .vars .starts) i (frame .top) ∙ s .room; few = y .0 }; is = λ h. rw (x .1 h, y .1 h) }
 
 -- the tree on top as a variable
 held-more : {g : Grammar} {w w′ : Words} {frame : Frame} {b : Bindings} {u n : ℕ} {t : Words} → Sound (frame .vars) → frame .vars .n < 16 → Held g w frame b → take (frame .top) w′ ≡ take (frame .top) w

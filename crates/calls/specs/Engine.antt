@@ -27,7 +27,7 @@ use Rattle.meaning.specs.Meaning as M
 use Rattle.meaning.specs.Meaning.{Env, Bindings, live, total, variable, variables, liveWithin, nodesWithin, Ending, done, stopped, cannotGoOn, Found, calls}
 use Rattle.rewrite.specs.Marked.{unmarked}
 use Rattle.rewrite.specs.Arena.{Standing}
-use Rattle.rewrite.specs.Vars.{EnvAt, startsOf, bound, Sound}
+use Rattle.rewrite.specs.Vars.{EnvAt, startsOf, Sound}
 use Rattle.rewrite.specs.Matching.{bindings}
 use Rattle.rewrite.specs.declared.Vars.{Vars}
 use Rattle.rewrite.specs.declared.Verdict.{Verdict}
@@ -90,11 +90,6 @@ pub record Grown (before after : Frame) : Type 0 where
 pub record Held (g : Grammar) (w : Words) (frame : Frame) (b : Bindings) : Type 0 where
   pub stands : EnvAt g (take (frame .top) w) (startsOf (frame .vars)) (b .env)
   pub counted : frame .live ≡ b .besides + total (b .env)
-
--- the variables, and one more for the tree on top
-pub record Named (frame : Frame) (r : Vars) : Type 0 where
-  pub sound : Sound r
-  pub is : frame .vars .n < 16 → r ≡ bound (frame .vars) (frame .top)
 
 -- what the engine works with: a grammar's tables, and the places of a book's rules
 pub record Setting (heads rows : Words) (types : ℕ) (book starts : Words) (g : Grammar) (rules : Rules.Rules) : Type 0 where

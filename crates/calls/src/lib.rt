@@ -24,7 +24,7 @@ ghost use mathlib.Core.Path.{_≡_};
 ghost use Prim.Native.Nat.{ℕ, _+_, _*_, _<_, _≤_, _^_};
 ghost use lib.ListN.{length, getD};
 ghost use Rattle.rewrite.specs.Vars.{Sound};
-ghost use Rattle.calls.specs.Engine.{triedOf, againOf, countOf, turnedBy, Room, Named, Deconstructs, Constructs, Conditions, Steps, Seeks, CallMatches, Succeeds, AnySucceeds, Applies, Chains, FillsChain, Fills, Finishes, Replaces, Calls};
+ghost use Rattle.calls.specs.Engine.{triedOf, againOf, countOf, turnedBy, Room, Deconstructs, Constructs, Conditions, Steps, Seeks, CallMatches, Succeeds, AnySucceeds, Applies, Chains, FillsChain, Fills, Finishes, Replaces, Calls};
 
 const STARTS: usize = 64;
 
@@ -226,17 +226,18 @@ fn deconstruct(
     match_taken(m, top, left, next)
 }
 
-// The variables, and one more for the tree that is built on top.
-fn named(frame: Frame) -> Vars
-    requires { ⌜ Sound (frame .vars) × (frame .top < 2 ^ 32) ⌝ }
-    ensures { λ r. ⌜ Named frame r ⌝ }
+// Where the place of one more variable is kept: after n others, if there is room.
+fn slot(n: usize) -> usize
+    ensures { λ r. ⌜ (r < 16) × (n < 16 → r ≡ n) ⌝ }
 {
-    let vars = frame.vars;
-    let k = vars.n;
-    if 16 <= k {
-        return vars;
-    }
-    rewrite::bind(vars, frame.top as u32)
+    if n < 16 { n } else { 15 }
+}
+
+// How many variables there are with one more: 16 at most.
+fn counted(n: usize) -> usize
+    ensures { λ r. ⌜ (r ≤ 16) × (n < 16 → r ≡ n + 1) ⌝ }
+{
+    if n < 16 { n + 1 } else { 16 }
 }
 
 // What is open when the tree of n nodes on top is a variable.
@@ -270,13 +271,22 @@ fn construct(
     requires { ⌜ Room (now w) frame × (1 ≤ types) ⌝ }
     ensures { λ r. ⌜ Constructs (now (heads .entry)) (now (rows .entry)) types (now (book .entry)) (now (starts .entry)) (now (w .entry)) (now (w .exit)) at next frame deep left r ⌝ }
 {
-    let vars = named(frame);
+    let vars = frame.vars;
+    let n = vars.n;
+    // Stored before the tree is built: the copies after it would have to wait for the store.
+    let mut places = vars.starts;
+    let i = slot(n);
+    places[i] = frame.top as u32;
     let b = finish(heads, rows, types, book, starts, w, at, frame, deep, left);
     let stop = b.stop;
     if stop != 0 {
         return taking(Verdict::Stops(stop), frame, b.left, next);
     }
-    let more = constructed(frame, vars, b.nodes);
+    let bound = Vars {
+        n: counted(n),
+        starts: places,
+    };
+    let more = constructed(frame, bound, b.nodes);
     taking(Verdict::Matches, more, b.left, next)
 }
 

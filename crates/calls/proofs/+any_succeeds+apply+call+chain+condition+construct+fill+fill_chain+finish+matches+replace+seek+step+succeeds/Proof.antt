@@ -50,7 +50,7 @@ use Rattle.calls.proofs.+any_succeeds+apply+call+chain+condition+constr
 use Rattle.calls.proofs.+any_succeeds+apply+call+chain+condition+construct+fill+fill_chain+finish+matches+replace+seek+step+succeeds.Proof.Call.{call-claims, call-Inv-loop, call-μ-loop, call-plan-of-requires, call-again-requires, call-loop-holds, call-add-live, call-calling-requires, call-same-length, call-returns, call-mul-t29, call-add-t30, call-seek-requires, call-enum-told, call-calling-requires-2, call-same-length-2, call-returns-2, call-enum-known-found, call-calling-requires-3, call-same-length-3, call-returns-3, call-enum-known-found-2, call-replace-requires, call-calling-requires-4, call-same-length-4, call-returns-4, call-add-count, call-calling-requires-5, call-same-length-5, call-returns-5, call-loop-less, call-loop-again}
 use Rattle.calls.proofs.+any_succeeds+apply+call+chain+condition+construct+fill+fill_chain+finish+matches+replace+seek+step+succeeds.Proof.Chain.{chain-claims, chain-Inv-loop, chain-μ-loop, chain-chain-count-requires, chain-add-at, chain-loop-holds, chain-apply-requires, chain-same-length, chain-returns, chain-add-at-2, chain-add-word, chain-word-requires, chain-wide-requires, chain-mul-at, chain-add-at-3, chain-sub-k, chain-loop-less, chain-loop-again, chain-building-requires, chain-same-length-2, chain-returns-2}
 use Rattle.calls.proofs.+any_succeeds+apply+call+chain+condition+construct+fill+fill_chain+finish+matches+replace+seek+step+succeeds.Proof.Condition.{condition-claims, condition-pairs-of-requires, condition-word-requires, condition-start-of-requires, condition-nodes-at-requires, condition-add-if1, condition-taking-requires, condition-same-length, condition-returns, condition-any-succeeds-requires, condition-turned-requires, condition-taking-requires-2, condition-same-length-2, condition-returns-2}
-use Rattle.calls.proofs.+any_succeeds+apply+call+chain+condition+construct+fill+fill_chain+finish+matches+replace+seek+step+succeeds.Proof.Construct.{construct-claims, construct-named-requires, construct-finish-requires, construct-taking-requires, construct-same-length, construct-returns, construct-constructed-requires, construct-taking-requires-2, construct-same-length-2, construct-returns-2}
+use Rattle.calls.proofs.+any_succeeds+apply+call+chain+condition+construct+fill+fill_chain+finish+matches+replace+seek+step+succeeds.Proof.Construct.{construct-claims, construct-slot-requires, construct-cast-places, construct-mul-places, construct-array-write-places, construct-finish-requires, construct-taking-requires, construct-same-length, construct-returns, construct-counted-requires, construct-constructed-requires, construct-taking-requires-2, construct-same-length-2, construct-returns-2}
 use Rattle.calls.proofs.+any_succeeds+apply+call+chain+condition+construct+fill+fill_chain+finish+matches+replace+seek+step+succeeds.Proof.Fill.{fill-claims, fill-Inv-loop, fill-μ-loop, fill-pairs-of-requires, fill-loop-holds, fill-add-loop, fill-mul-t, fill-shared-slice-read-t, fill-add-v, fill-mul-v, fill-shared-slice-read-v, fill-fill-chain-requires, fill-same-length, fill-returns, fill-loop-less, fill-loop-again, fill-start-of-requires, fill-nodes-at-requires, fill-add-over, fill-add-over-2, fill-add-over-3, fill-over-requires, fill-building-requires, fill-same-length-2, fill-returns-2, fill-mul-push-tree, fill-add-push-tree, fill-push-tree-requires, fill-add-n, fill-add-i, fill-loop-less-2, fill-loop-again-2, fill-add-over-4, fill-add-over-5, fill-add-over-6, fill-over-requires-2, fill-building-requires-2, fill-same-length-3, fill-returns-3, fill-mul-push-node, fill-add-push-node, fill-push-node-requires, fill-add-n-2, fill-add-i-2, fill-loop-less-3, fill-loop-again-3, fill-building-requires-3, fill-same-length-4, fill-returns-4}
 use Rattle.calls.proofs.+any_succeeds+apply+call+chain+condition+construct+fill+fill_chain+finish+matches+replace+seek+step+succeeds.Proof.FillChain.{fill-chain-claims, fill-chain-mul-base, fill-chain-add-base, fill-chain-add-word, fill-chain-word-requires, fill-chain-start-of-requires, fill-chain-nodes-at-requires, fill-chain-add-besides, fill-chain-add-if1, fill-chain-building-requires, fill-chain-same-length, fill-chain-returns, fill-chain-push-tree-requires, fill-chain-add-chain, fill-chain-chain-requires, fill-chain-same-length-2, fill-chain-returns-2, fill-chain-add-nodes, fill-chain-over-requires, fill-chain-building-requires-2, fill-chain-same-length-3, fill-chain-returns-3}
 use Rattle.calls.proofs.+any_succeeds+apply+call+chain+condition+construct+fill+fill_chain+finish+matches+replace+seek+step+succeeds.Proof.Finish.{finish-claims, finish-fill-requires, finish-same-length, finish-returns, finish-close-requires, finish-building-requires, finish-same-length-2, finish-returns-2}
@@ -82,7 +82,7 @@ pub +any-succeeds+apply+call+chain+condition+construct+fill+fill-chain+finish+ma
     (λ t. call-lts.spec (call-claims t) (call-at t) call.Post call-Inv-loop call-μ-loop (call-plan-of-requires t) (call-again-requires t) (call-loop-holds t) (call-add-live t) (call-calling-requires t) (call-same-length t) (call-returns t) (call-mul-t29 t) (call-add-t30 t) (call-seek-requires t) (call-enum-told t) (call-calling-requires-2 t) (call-same-length-2 t) (call-returns-2 t) (call-enum-known-found t) (call-calling-requires-3 t) (call-same-length-3 t) (call-returns-3 t) (call-enum-known-found-2 t) (call-replace-requires t) (call-calling-requires-4 t) (call-same-length-4 t) (call-returns-4 t) (call-add-count t) (call-calling-requires-5 t) (call-same-length-5 t) (call-returns-5 t) (call-loop-less t) (call-loop-again t))
     (λ t. chain-lts.spec (chain-claims t) (chain-at t) chain.Post chain-Inv-loop chain-μ-loop (chain-chain-count-requires t) (chain-add-at t) (chain-loop-holds t) (chain-apply-requires t) (chain-same-length t) (chain-returns t) (chain-add-at-2 t) (chain-add-word t) (chain-word-requires t) (chain-wide-requires t) (chain-mul-at t) (chain-add-at-3 t) (chain-sub-k t) (chain-loop-less t) (chain-loop-again t) (chain-building-requires t) (chain-same-length-2 t) (chain-returns-2 t))
     (λ t. condition-lts.spec (condition-claims t) (condition-at t) condition.Post (condition-pairs-of-requires t) (condition-word-requires t) (condition-start-of-requires t) (condition-nodes-at-requires t) (condition-add-if1 t) (condition-taking-requires t) (condition-same-length t) (condition-returns t) (condition-any-succeeds-requires t) (condition-turned-requires t) (condition-taking-requires-2 t) (condition-same-length-2 t) (condition-returns-2 t))
-    (λ t. construct-lts.spec (construct-claims t) (construct-at t) construct.Post (construct-named-requires t) (construct-finish-requires t) (construct-taking-requires t) (construct-same-length t) (construct-returns t) (construct-constructed-requires t) (construct-taking-requires-2 t) (construct-same-length-2 t) (construct-returns-2 t))
+    (λ t. construct-lts.spec (construct-claims t) (construct-at t) construct.Post (construct-slot-requires t) (construct-cast-places t) (construct-mul-places t) (construct-array-write-places t) (construct-finish-requires t) (construct-taking-requires t) (construct-same-length t) (construct-returns t) (construct-counted-requires t) (construct-constructed-requires t) (construct-taking-requires-2 t) (construct-same-length-2 t) (construct-returns-2 t))
     (λ t. fill-lts.spec (fill-claims t) (fill-at t) fill.Post fill-Inv-loop fill-μ-loop (fill-pairs-of-requires t) (fill-loop-holds t) (fill-add-loop t) (fill-mul-t t) (fill-shared-slice-read-t t) (fill-add-v t) (fill-mul-v t) (fill-shared-slice-read-v t) (fill-fill-chain-requires t) (fill-same-length t) (fill-returns t) (fill-loop-less t) (fill-loop-again t) (fill-start-of-requires t) (fill-nodes-at-requires t) (fill-add-over t) (fill-add-over-2 t) (fill-add-over-3 t) (fill-over-requires t) (fill-building-requires t) (fill-same-length-2 t) (fill-returns-2 t) (fill-mul-push-tree t) (fill-add-push-tree t) (fill-push-tree-requires t) (fill-add-n t) (fill-add-i t) (fill-loop-less-2 t) (fill-loop-again-2 t) (fill-add-over-4 t) (fill-add-over-5 t) (fill-add-over-6 t) (fill-over-requires-2 t) (fill-building-requires-2 t) (fill-same-length-3 t) (fill-returns-3 t) (fill-mul-push-node t) (fill-add-push-node t) (fill-push-node-requires t) (fill-add-n-2 t) (fill-add-i-2 t) (fill-loop-less-3 t) (fill-loop-again-3 t) (fill-building-requires-3 t) (fill-same-length-4 t) (fill-returns-4 t))
     (λ t. fill-chain-lts.spec (fill-chain-claims t) (fill-chain-at t) fill-chain.Post (fill-chain-mul-base t) (fill-chain-add-base t) (fill-chain-add-word t) (fill-chain-word-requires t) (fill-chain-start-of-requires t) (fill-chain-nodes-at-requires t) (fill-chain-add-besides t) (fill-chain-add-if1 t) (fill-chain-building-requires t) (fill-chain-same-length t) (fill-chain-returns t) (fill-chain-push-tree-requires t) (fill-chain-add-chain t) (fill-chain-chain-requires t) (fill-chain-same-length-2 t) (fill-chain-returns-2 t) (fill-chain-add-nodes t) (fill-chain-over-requires t) (fill-chain-building-requires-2 t) (fill-chain-same-length-3 t) (fill-chain-returns-3 t))
     (λ t. finish-lts.spec (finish-claims t) (finish-at t) finish.Post (finish-fill-requires t) (finish-same-length t) (finish-returns t) (finish-close-requires t) (finish-building-requires t) (finish-same-length-2 t) (finish-returns-2 t))
