@@ -15,7 +15,8 @@ use Rattle.words.proofs.Laws.{many-suc, many-none}
 use Rattle.grammar.specs.Grammar.{Grammar}
 use Rattle.grammar.specs.Limits.{mostTypes}
 use Rattle.grammar.specs.Kinds.{children}
-use Rattle.tree.proofs.Rest.{Rest, tree-rest, rest-node}
+use Rattle.tree.specs.Rest.{Rest}
+use Rattle.tree.proofs.Rest.{tree-rest, rest-node}
 use Rattle.rules.specs.Rules as Rules
 use Rattle.rules.specs.Rules.{Rule, rootOnly, firstMatch, exhaustive, searches, shapes, pieces}
 use Rattle.rules.specs.Layout as Layout

@@ -17,18 +17,17 @@ use rules::Deconstruct;
 use rules::Part;
 use rules::Plan;
 use rules::Strategy;
+use rules::limits::FIRST_OPERATION;
 use rules::limits::MARK_CHAIN;
 use rules::limits::MARK_VARIABLE;
 use rules::limits::MOST_APPLICATIONS;
+use rules::limits::MOST_VARIABLES;
+use rules::limits::STARTS;
 ghost use mathlib.Core.Path.{_≡_};
 ghost use Prim.Native.Nat.{ℕ, _+_, _*_, _<_, _≤_, _^_};
 ghost use lib.ListN.{length, getD};
 ghost use Rattle.rewrite.specs.Vars.{Sound};
 ghost use Rattle.calls.specs.Engine.{triedOf, againOf, countOf, turnedBy, Room, Deconstructs, Constructs, Conditions, Steps, Seeks, CallMatches, Succeeds, AnySucceeds, Applies, Chains, FillsChain, Fills, Finishes, Replaces, Calls};
-
-const STARTS: usize = 64;
-
-const FIRST_OPERATION: u32 = 1000;
 
 // What a part's step found, what is open then, the attempts left, and where the next part stands.
 pub struct Taken {
@@ -230,14 +229,22 @@ fn deconstruct(
 fn slot(n: usize) -> usize
     ensures { λ r. ⌜ (r < 16) × (n < 16 → r ≡ n) ⌝ }
 {
-    if n < 16 { n } else { 15 }
+    if n < MOST_VARIABLES {
+        n
+    } else {
+        MOST_VARIABLES - 1
+    }
 }
 
 // How many variables there are with one more: 16 at most.
 fn counted(n: usize) -> usize
     ensures { λ r. ⌜ (r ≤ 16) × (n < 16 → r ≡ n + 1) ⌝ }
 {
-    if n < 16 { n + 1 } else { 16 }
+    if n < MOST_VARIABLES {
+        n + 1
+    } else {
+        MOST_VARIABLES
+    }
 }
 
 // What is open when the tree of n nodes on top is a variable.

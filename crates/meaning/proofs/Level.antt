@@ -26,7 +26,8 @@ use Rattle.meaning.specs.Operations.{rounded, truncated, inRange, diviso
 use Rattle.meaning.specs.Meaning as M
 use Rattle.meaning.specs.Meaning.{Env, Bindings, live, valueOf, valuesOf, withValue, isNumberToken, areNumberTokens, fits, Found, put, Ending, done, stopped, cannotGoOn, Called, resultAs, resultOf, opened, afterRound, Calls, apply, applyChain, fill, finish, succeeds, anySucceeds, part, parts, attempt, seek, replace, begin, start, callMatches, turn, callWith, call, variables}
 use Rattle.meaning.specs.Sound.{WellEnded, Sound}
-use Rattle.tree.proofs.Rest.{Rest, tree-rest, rest-node, onward}
+use Rattle.tree.specs.Rest.{Rest}
+use Rattle.tree.proofs.Rest.{tree-rest, rest-node, onward}
 use Rattle.meaning.proofs.Safe.{Safe, goes, stops, returns, safe-map, andThen, Any, stopUnless-safe, surely-safe, check-safe, present-safe, choose-safe, Maybe, whether-safe, spend-safe}
 use Rattle.meaning.proofs.Matching.{OfTypes, ofTypes-length, areTreesOf-true, live-safe, nodes-safe, nesting-safe, variable-safe, variables-safe, numbers-safe, isNumberToken-true, Binds, bind-safe, pattern-grows, match-safe, matchFirst-safe}
 

@@ -21,7 +21,8 @@ use Rattle.rules.specs.Rules.{Shape}
 use Rattle.rules.specs.WellTyped.{Types, Has, Arguments, noArgument, anArgument, Pattern, patternEnd, aNode, aNew, aSame, Numbers, noNumber, aNumber}
 use Rattle.meaning.specs.Limits.{mostLive}
 use Rattle.meaning.specs.Meaning.{Env, Bindings, live, nodesWithin, nestingWithin, liveWithin, variable, variables, sameTree, bind, match, matchFirst, isNumberToken, areNumberTokens, areTreesOf}
-use Rattle.tree.proofs.Rest.{Rest, rest-node, onward}
+use Rattle.tree.specs.Rest.{Rest}
+use Rattle.tree.proofs.Rest.{rest-node, onward}
 use Rattle.meaning.proofs.Safe.{Safe, returns, andThen, Any, stopUnless-safe, surely-safe, check-safe, present-safe, choose-safe, Maybe, whether-safe, safe-map}
 
 -- a tree for each type, in order

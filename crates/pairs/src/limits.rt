@@ -1,20 +1,6 @@
-// The operations by number, the sizes of what typing keeps, and how the stack of dues is written, each named once.
+// The sizes of what typing keeps, and how the stack of dues is written, each named once.
 
 pub const MOST_NESTING: u32 = 64;
-
-// The table of where the rules stand: one entry for each that a book may have.
-pub const STARTS: usize = 64;
-
-// The operations that a replacement applies, those among them without an argument, and those that a condition applies.
-pub const FIRST_OPERATION: u32 = 1000;
-
-pub const FIRST_BARE: u32 = 1004;
-
-pub const LAST_OPERATION: u32 = 1005;
-
-pub const FIRST_TEST: u32 = 1008;
-
-pub const LAST_TEST: u32 = 1009;
 
 // The words of the stack, two a due: 128 pairs never need more.
 pub const STACK: usize = 2048;

@@ -19,7 +19,8 @@ use Rattle.tree.proofs.Trees.{trees-even}
 use Rattle.rules.specs.Rules.{Shape, shapes}
 use Rattle.meaning.specs.Computation.{Result, ok, stop, stuck, Comp, thenOf, choose, whether}
 use Rattle.meaning.specs.Meaning.{Env, Bindings, match, matchFirst}
-use Rattle.tree.proofs.Rest.{Rest, rest-node}
+use Rattle.tree.specs.Rest.{Rest}
+use Rattle.tree.proofs.Rest.{rest-node}
 use Rattle.rewrite.specs.declared.Vars.{Vars}
 use Rattle.rewrite.specs.declared.Verdict.{Verdict}
 use Rattle.rewrite.specs.declared.Verdict.the-variants.{Matches, Differs, Stops}

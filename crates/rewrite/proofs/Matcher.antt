@@ -21,7 +21,8 @@ use Rattle.tree.proofs.Trees.{split, first-after, tells, trees-even, first-even
 use Rattle.rules.specs.Rules.{Shape, node, new, same, shapes}
 use Rattle.meaning.specs.Computation.{Result, ok, stop, stuck}
 use Rattle.meaning.specs.Meaning.{Env, Bindings, total, live, match}
-use Rattle.tree.proofs.Rest.{Rest, rest-node, onward}
+use Rattle.tree.specs.Rest.{Rest}
+use Rattle.tree.proofs.Rest.{rest-node, onward}
 use Rattle.rewrite.specs.declared.Vars.{Vars}
 use Rattle.rewrite.specs.declared.Verdict.{Verdict}
 use Rattle.rewrite.specs.declared.Verdict.the-variants.{Matches, Differs, Stops}

@@ -8,7 +8,8 @@ use Rattle.words.specs.Reader.{Words}
 use Rattle.grammar.specs.Grammar.{Grammar}
 use Rattle.grammar.specs.Kinds.{children}
 use Rattle.tree.specs.Tree.{Trees, size, levels, nestingFrom, nesting, first}
-use Rattle.tree.proofs.Trees.{Even, no-odd, even-tail, size-append, trees-even, first-none, first-append, after-append, nesting-append, Positive, more-positive}
+use Rattle.tree.specs.Rest.{Positive}
+use Rattle.tree.proofs.Trees.{Even, no-odd, even-tail, size-append, trees-even, first-none, first-append, after-append, nesting-append, more-positive}
 use Rattle.rewrite.specs.Marked.{mark, markOf, marked}
 use Rattle.rewrite.proofs.Marks.{first-more, tree-deeper}
 

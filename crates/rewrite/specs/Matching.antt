@@ -14,7 +14,7 @@ use Rattle.rules.specs.Rules.{Shape, shapes}
 use Rattle.meaning.specs.Limits.{mostLive}
 use Rattle.meaning.specs.Computation.{Result, ok, stop, stuck, Comp}
 use Rattle.meaning.specs.Meaning.{Env, Bindings, total, match, matchFirst}
-use Rattle.tree.proofs.Rest.{Rest}
+use Rattle.tree.specs.Rest.{Rest}
 use Rattle.rewrite.specs.Marked.{marked, typeIn, sizeIn}
 use Rattle.rewrite.specs.Vars.{EnvAt, startsOf, Sound}
 use Rattle.rewrite.specs.Post.{SameTree}

@@ -5,16 +5,14 @@ use crate::operations::Number;
 use grammar::limits::HEADS;
 use grammar::limits::ROWS;
 use rules::limits::MOST_VARIABLES;
+use tree::limits::MOST_NESTING;
+use tree::limits::MOST_NODES;
 ghost use mathlib.Core.Path.{_≡_};
 ghost use mathlib.Core.List.{_∷_, _++_};
 ghost use Prim.Native.Nat.{ℕ, _+_, _*_, _<_, _≤_, _^_};
 ghost use lib.ListN.{length, getD, take, drop};
 ghost use Rattle.rewrite.specs.Vars.{Sound, startAt};
 ghost use Rattle.rewrite.specs.Arena.{NodesAt, overBy, Gathered, Closed, TooDeep, Replaced, Computed};
-
-const MOST_NODES: usize = 2048;
-
-const MOST_NESTING: usize = 64;
 
 // The variables of an open call, how many nodes are live, and where free work memory begins.
 pub struct Frame {
@@ -92,7 +90,7 @@ pub fn gather(w: &[u32], pairs: &[u32], at: usize, n: u32, vars: Vars) -> Args
 {
     let bound = vars.n;
     let places = vars.starts;
-    let mut starts = [0u32; 16];
+    let mut starts = [0u32; MOST_VARIABLES];
     let mut total: usize = 0;
     let count = words::wide(n);
     let mut i: usize = 0;

@@ -26,7 +26,7 @@ pub const MOST_LIVE: usize = 6144;
 // The variables of an open call: where their trees stand, the first n of 16.
 pub struct Vars {
     pub n: usize,
-    pub starts: [u32; 16],
+    pub starts: [u32; MOST_VARIABLES],
 }
 
 pub enum Verdict {
@@ -322,12 +322,12 @@ fn place(x: u32) -> usize
 }
 
 // Where the variable's tree stands, of n that are bound; 2^32 - 1, where none can stand, if it is not bound.
-pub fn start_in(starts: &[u32; 16], n: usize, x: u32) -> usize
+pub fn start_in(starts: &[u32; MOST_VARIABLES], n: usize, x: u32) -> usize
     ensures { λ r. ⌜ (r ≡ startAt (record { n = n; starts = now (starts .entry) }) x) × (r < 2 ^ 32) ⌝ }
 {
     let i = words::wide(x);
     if i < n {
-        if i < 16 {
+        if i < MOST_VARIABLES {
             return place(starts[i]);
         }
     }
@@ -418,29 +418,29 @@ pub fn match_pattern(
     part: &[u32],
     at: usize,
     vars: Vars,
-    live: usize,
+    held: usize,
 ) -> Matched
-    requires { ⌜ (length (now pairs) ≤ 256) × (at < 2 ^ 20) × Sound vars × (live ≤ 6144) ⌝ }
-    ensures { λ r. ⌜ MatchAnswers (now (pairs .entry)) (now (arena .entry)) (now (part .entry)) at vars live r ⌝ }
+    requires { ⌜ (length (now pairs) ≤ 256) × (at < 2 ^ 20) × Sound vars × (held ≤ 6144) ⌝ }
+    ensures { λ r. ⌜ MatchAnswers (now (pairs .entry)) (now (arena .entry)) (now (part .entry)) at vars held r ⌝ }
 {
     let mut starts = vars.starts;
     let mut n = vars.n;
-    let mut total = live;
+    let mut live = held;
     let mut i: usize = 0;
     let mut p: usize = 0;
     while 2 <= pairs.len() - i {
         let t = pairs[i];
         let v = pairs[i + 1];
         let start = start_in(&starts, n, v);
-        let passed = pair_words(t, v, arena, start, part, p, n, total);
+        let passed = pair_words(t, v, arena, start, part, p, n, live);
         if passed < 2 {
             let env = Vars { n, starts };
-            return failed(passed, env, total);
+            return failed(passed, env, live);
         }
         if t == MARK_NEW {
             starts[n] = (at + p) as u32;
             n = n + 1;
-            total = total + passed / 2;
+            live = live + passed / 2;
             p = p + passed;
             i = i + 2;
         } else {
@@ -453,7 +453,7 @@ pub fn match_pattern(
     Matched {
         verdict,
         vars,
-        live: total,
+        live,
     }
 }
 

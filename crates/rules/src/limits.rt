@@ -1,9 +1,12 @@
-// The limits of a rule book, and the numbers that mark its pairs, each named once.
+// The limits of a rule book, the numbers that mark its pairs, and those of the operations, each named once.
 
 // Words of a rule book.
 pub const MOST_WORDS: usize = 16384;
 
 pub const MOST_RULES: u32 = 64;
+
+// The table of where the rules stand: one entry for each that a book may have.
+pub const STARTS: usize = 64;
 
 pub const MOST_PARAMETERS: u32 = 4;
 
@@ -25,3 +28,14 @@ pub const MARK_NEW: u32 = 64;
 pub const MARK_VARIABLE: u32 = 65;
 
 pub const MARK_CHAIN: u32 = 66;
+
+// The operations that a replacement applies, those among them without an argument, and those that a condition applies.
+pub const FIRST_OPERATION: u32 = 1000;
+
+pub const FIRST_BARE: u32 = 1004;
+
+pub const LAST_OPERATION: u32 = 1005;
+
+pub const FIRST_TEST: u32 = 1008;
+
+pub const LAST_TEST: u32 = 1009;

@@ -14,7 +14,8 @@ use Rattle.grammar.specs.Grammar.{Grammar}
 use Rattle.grammar.specs.Kinds.{allowed, children}
 use Rattle.tree.specs.Limits.{mostNodes, mostNesting}
 use Rattle.tree.specs.Tree.{Trees, node, Tree, size, levels, nestingFrom, nesting, nodeNesting, after, firstTree}
-use Rattle.tree.proofs.Trees.{Even, no-odd, even-tail, even-of, size-append, trees-even, tells, trees-append, first-after, first-even, split, more-length, nesting-rise, nesting-append, Positive, more-positive}
+use Rattle.tree.specs.Rest.{Positive}
+use Rattle.tree.proofs.Trees.{Even, no-odd, even-tail, even-of, size-append, trees-even, tells, trees-append, first-after, first-even, split, more-length, nesting-rise, nesting-append, more-positive}
 
 -- WHAT IS DUE AT A PLACE, after the words a: trees of the types `us` at the nestings `ls`. Whatever trees of these types follow a, the whole is trees.
 record Place (g : Grammar) (ts ks : List ℕ) (a b : Words) : Type 0 where

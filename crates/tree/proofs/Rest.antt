@@ -1,4 +1,4 @@
--- What is left of a tree from one of its nodes on: trees of the types that are due, within the tree's limits. Assumes nothing.
+-- Laws of what is left of a tree from one of its nodes on. Assumes nothing.
 use Prim.Native.Nat.{ℕ, suc, _+_, _≤_, max}
 use mathlib.Core.Path.{_≡_, refl}
 use mathlib.Core.List.{List, [], _∷_, _++_}
@@ -9,16 +9,8 @@ use Rattle.grammar.specs.Grammar.{Grammar}
 use Rattle.grammar.specs.Kinds.{children}
 use Rattle.tree.specs.Limits.{mostNodes, mostNesting}
 use Rattle.tree.specs.Tree.{Trees, Tree, size, levels, nestingFrom, nesting, first, after, firstTree}
-use Rattle.tree.proofs.Trees.{tells, first-after, first-even, size-append, split, more-length, nesting-rise, nesting-append, Positive, more-positive}
-
--- trees of the types, each at some nesting
-pub record Rest (g : Grammar) (ts : List ℕ) (ws : Words) : Type 0 where
-  pub typed : Trees g ts ws
-  pub ks : List ℕ
-  pub each : length ks ≡ length ts
-  pub positive : Positive ks
-  pub nested : nestingFrom g ws ks ≤ mostNesting
-  pub nodes : size ws ≤ mostNodes
+use Rattle.tree.specs.Rest.{Positive, Rest}
+use Rattle.tree.proofs.Trees.{tells, first-after, first-even, size-append, split, more-length, nesting-rise, nesting-append, more-positive}
 
 -- a tree is such a rest
 pub tree-rest : {g : Grammar} {t : ℕ} {ws : Words} → Tree g t ws → Rest g (t ∷ []) ws

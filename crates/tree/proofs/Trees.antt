@@ -13,6 +13,7 @@ use Rattle.grammar.specs.Grammar.{Kind, token, opt, sequence, forms, Grammar}
 use Rattle.grammar.specs.Kinds.{kindOf, allowed, childrenOf, children}
 use Rattle.tree.specs.Limits.{mostNodes, mostNesting}
 use Rattle.tree.specs.Tree.{Trees, none, node, size, levelsOf, levels, nestingFrom, nesting, Tree, areTrees, isTree, first, after, typeOf}
+use Rattle.tree.specs.Rest.{Positive}
 
 -- TWO WORDS A NODE
 
@@ -245,11 +246,6 @@ nesting-append {g} (node {t} {v} {ts} {ws} fine q) b (l ∷ ls) ks h =
     let e : nestingFrom g (ws ++ b) (levels g t v l ++ (ls ++ ks)) ≡ max (nestingFrom g ws (levels g t v l ++ ls)) (nestingFrom g b ks) =
     rw append-assoc at (nesting-append q b (levels g t v l ++ ls) ks (more-length g t v l ls ts (omega arith))) in
     omega arith
-
--- each nesting is at least 1
-abbrev pub Positive : List ℕ → Type 0
-Positive [] = Unit {0}
-Positive (k ∷ ks) = (1 ≤ k) × Positive ks
 
 positive-append : (xs ys : List ℕ) → Positive xs → Positive ys → Positive (xs ++ ys)
 positive-append [] ys p q = q

@@ -1,5 +1,6 @@
 pub mod Limits
 pub mod Tree
+pub mod Rest
 pub mod Forest
 pub mod Dues
 pub mod Reading

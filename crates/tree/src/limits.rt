@@ -3,4 +3,6 @@
 // Words of a tree, two a node.
 pub const MOST_WORDS: usize = 4096;
 
+pub const MOST_NODES: usize = 2048;
+
 pub const MOST_NESTING: usize = 64;

@@ -4,15 +4,12 @@ use borrow.Author.Needs.{needs}
 use Rattle.calls.proofs.chain_count.Statement.{statement}
 use Rattle.calls.proofs.chain_count.Tie as tie
 
--- src/lib.rt:154:9
 word-requires : tie.Need-word-requires
 word-requires c κs = search needs
 
--- src/lib.rt:151:1
 returns : tie.Need-returns
 returns c = let a = c .before .before .before .args in (count-over (a .pairs .now) (a .at) (c .before .word .result) (c .before .word .ensures) (c .if1 .taken), omega arith)
 
--- src/lib.rt:151:1
 returns-2 : tie.Need-returns-2
 returns-2 c = let a = c .before .before .before .args in (count-is (a .pairs .now) (a .at) (c .before .word .result) (c .before .word .ensures) (c .if1 .left), c .if1 .left)
 

@@ -2,15 +2,12 @@ use borrow.Author.Needs.{needs}
 use Rattle.calls.proofs.match_taken.Statement.{statement}
 use Rattle.calls.proofs.match_taken.Tie as tie
 
--- src/lib.rt:187:9
 after-match-requires : tie.Need-after-match-requires
 after-match-requires c κs = search needs
 
--- src/lib.rt:188:5
 taking-requires : tie.Need-taking-requires
 taking-requires c κs = search needs
 
--- src/lib.rt:183:1
 returns : tie.Need-returns
 returns c = rw (c .taking .ensures, c .before .after-match .ensures)
 

@@ -5,23 +5,18 @@ use borrow.Author.Needs.{needs}
 use Rattle.calls.proofs.rule_at.Statement.{statement}
 use Rattle.calls.proofs.rule_at.Tie as tie
 
--- src/lib.rt:146:9
 wide-requires : tie.Need-wide-requires
 wide-requires c κs = search needs
 
--- src/lib.rt:147:21
 mul-result : tie.Need-mul-result
 mul-result c = search needs
 
--- src/lib.rt:147:21
 element-copy-out-result : tie.Need-element-copy-out-result
 element-copy-out-result c = search needs
 
--- src/lib.rt:143:1
 returns : tie.Need-returns
 returns c = λ h. ap (λ i. getD (c .before .before .before .args .starts .now) i 0) (c .before .before .wide .ensures)
 
--- src/lib.rt:143:1
 returns-2 : tie.Need-returns-2
 returns-2 c = λ h. absurd (omega arith)
 

@@ -4,31 +4,24 @@ use borrow.Author.Needs.{needs}
 use Rattle.calls.proofs.tried.Statement.{statement}
 use Rattle.calls.proofs.tried.Tie as tie
 
--- src/lib.rt:120:16
 enum-told : tie.Need-enum-told
 enum-told c = search needs
 
--- src/lib.rt:126:33
 enum-told-2 : tie.Need-enum-told-2
 enum-told-2 c = search needs
 
--- src/lib.rt:127:33
 enum-told-3 : tie.Need-enum-told-3
 enum-told-3 c = search needs
 
--- src/lib.rt:115:1
 returns : tie.Need-returns
 returns c = rw (c .before .enum-told .given .1) (tried-some (c .before .before .before .args .n) (c .if1 .taken))
 
--- src/lib.rt:115:1
 returns-2 : tie.Need-returns-2
 returns-2 c = rw (c .before .enum-told .given .1) (tried-none (c .before .before .before .args .n) (λ h. omega (arith, h, c .if1 .left)))
 
--- src/lib.rt:115:1
 returns-3 : tie.Need-returns-3
 returns-3 c = search needs
 
--- src/lib.rt:115:1
 returns-4 : tie.Need-returns-4
 returns-4 c = search needs
 

@@ -4,35 +4,27 @@ use borrow.Author.Needs.{needs}
 use Rattle.calls.proofs.turned.Statement.{statement}
 use Rattle.calls.proofs.turned.Tie as tie
 
--- src/lib.rt:163:24
 enum-known-verdict : tie.Need-enum-known-verdict
 enum-known-verdict c = search needs
 
--- src/lib.rt:165:16
 enum-told : tie.Need-enum-told
 enum-told c = search needs
 
--- src/lib.rt:172:16
 enum-told-2 : tie.Need-enum-told-2
 enum-told-2 c = search needs
 
--- src/lib.rt:159:1
 returns : tie.Need-returns
 returns c = ap (turnedBy (c .before .before .before .args .negated)) (sym (c .before .verdict .given .1))
 
--- src/lib.rt:159:1
 returns-2 : tie.Need-returns-2
 returns-2 c = search needs
 
--- src/lib.rt:159:1
 returns-3 : tie.Need-returns-3
 returns-3 c = search needs
 
--- src/lib.rt:159:1
 returns-4 : tie.Need-returns-4
 returns-4 c = search needs
 
--- src/lib.rt:159:1
 returns-5 : tie.Need-returns-5
 returns-5 c = search needs
 

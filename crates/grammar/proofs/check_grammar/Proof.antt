@@ -6,15 +6,12 @@ use Rattle.grammar.proofs.check_grammar.Reads as reads
 use Rattle.grammar.proofs.check_grammar.Lts as lts
 use Rattle.grammar.proofs.read_grammar.Reads as read-grammar-reads
 
--- src/lib.rt:319:9
 returns : tie.Need-returns
 returns c = check-long (c .before .before .args .ws .now) (c .if1 .taken)
 
--- src/lib.rt:321:5
 read-grammar-requires : tie.Need-read-grammar-requires
 read-grammar-requires c κs = search needs
 
--- src/lib.rt:315:1
 returns-2 : tie.Need-returns-2
 returns-2 c = check-short (c .before .before .before .args .ws .now) _ (c .before .if1 .left) (c .read-grammar .ensures)
 

@@ -5,19 +5,15 @@ use Rattle.grammar.proofs.closed.Tie as tie
 use Rattle.grammar.proofs.closed.Reads as reads
 use Rattle.grammar.proofs.closed.Lts as lts
 
--- src/lib.rt:169:18
 enum-known-g : tie.Need-enum-known-g
 enum-known-g c = search needs
 
--- src/lib.rt:170:19
 enum-known-g-2 : tie.Need-enum-known-g-2
 enum-known-g-2 c = search needs
 
--- src/lib.rt:165:1
 returns : tie.Need-returns
 returns c = closed-bad _ (c .before .g .given .1)
 
--- src/lib.rt:165:1
 returns-2 : tie.Need-returns-2
 returns-2 c = closed-word _ (c .before .g2 .given .1)
 

@@ -18,43 +18,33 @@ Inv-loop ws known n k start left₀ at₀ acc₀ left at acc = seenElements know
 abbrev μ-loop : tie.MeasureT-loop
 μ-loop ws known n k start left₀ at₀ acc₀ left at acc = left
 
--- src/lib.rt:114:5
 loop-holds : tie.Need-loop-holds Inv-loop μ-loop
 loop-holds c = refl
 
--- src/lib.rt:115:13
 element-requires : tie.Need-element-requires Inv-loop μ-loop
 element-requires c κs = search needs
 
--- src/lib.rt:117:25
 enum-known-s : tie.Need-enum-known-s Inv-loop μ-loop
 enum-known-s c = search needs
 
--- src/lib.rt:118:17
 returns : tie.Need-returns Inv-loop μ-loop
 returns c = elements-fault (c .before .before .before .before .before .before .before .before .args .ws .now) (c .before .before .before .before .before .before .before .before .args .known .now) (c .before .before .before .before .before .before .before .before .args .n) (c .before .before .before .before .before .loop .left) (c .before .before .before .before .before .loop .at) (c .before .before .before .before .before .loop .acc) _ (c .before .before .before .before .before .loop .inv) (c .before .before .before .before .loop-test .taken) _ (c .before .before .before .element .ensures) (c .before .s .given .1)
 
--- src/lib.rt:120:25
 enum-known-s-2 : tie.Need-enum-known-s-2 Inv-loop μ-loop
 enum-known-s-2 c = search needs
 
--- src/lib.rt:122:17
 both-requires : tie.Need-both-requires Inv-loop μ-loop
 both-requires c κs = search needs
 
--- src/lib.rt:123:24
 sub-left : tie.Need-sub-left Inv-loop μ-loop
 sub-left c = search needs
 
--- src/lib.rt:114:5
 loop-less : tie.Need-loop-less Inv-loop μ-loop
 loop-less c = search needs
 
--- src/lib.rt:114:5
 loop-again : tie.Need-loop-again Inv-loop μ-loop
 loop-again c = elements-more (c .before .before .before .before .before .before .before .before .before .args .ws .now) (c .before .before .before .before .before .before .before .before .before .args .known .now) (c .before .before .before .before .before .before .before .before .before .args .n) (c .before .before .before .before .before .before .loop .left) (c .before .before .before .before .before .before .loop .at) (c .before .before .before .before .before .before .loop .acc) _ (c .before .before .before .before .before .before .loop .inv) (c .before .before .before .before .before .loop-test .taken) _ (c .before .before .before .before .element .ensures) (c .before .before .s2 .given .1) (c .both .ensures)
 
--- src/lib.rt:107:1
 returns-2 : tie.Need-returns-2 Inv-loop μ-loop
 returns-2 c = elements-end (c .before .before .before .before .args .ws .now) (c .before .before .before .before .args .known .now) (c .before .before .before .before .args .n) (c .before .loop .left) (c .before .loop .at) (c .before .loop .acc) _ (c .before .loop .inv) (c .loop-test .left)
 

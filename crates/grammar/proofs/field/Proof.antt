@@ -7,11 +7,9 @@ use Rattle.grammar.proofs.field.Reads as reads
 use Rattle.grammar.proofs.field.Lts as lts
 use Rattle.words.proofs.read_in.Reads as read-in-reads
 
--- src/lib.rt:46:5
 read-in-requires : tie.Need-read-in-requires
 read-in-requires c κs = search needs
 
--- src/lib.rt:43:1
 returns : tie.Need-returns
 unfolding field
 returns c = c .read-in .ensures

@@ -20,43 +20,33 @@ Inv-loop ws n start known₀ i₀ known i = (i ≤ n) × (known ≡ flagsAfter i
 abbrev μ-loop : tie.MeasureT-loop
 μ-loop ws n start known₀ i₀ known i = n - i
 
--- src/lib.rt:265:5
 loop-holds : tie.Need-loop-holds Inv-loop μ-loop
 loop-holds c = (omega arith, flags-none _, refl)
 
--- src/lib.rt:266:20
 round-requires : tie.Need-round-requires Inv-loop μ-loop
 round-requires c κs = search needs
 
--- src/lib.rt:267:34
 slice-aggregate-same-flags : tie.Need-slice-aggregate-same-flags Inv-loop μ-loop
 slice-aggregate-same-flags c = search needs
 
--- src/lib.rt:267:42
 slice-aggregate-same-flags-2 : tie.Need-slice-aggregate-same-flags-2 Inv-loop μ-loop
 slice-aggregate-same-flags-2 c = search needs
 
--- src/lib.rt:267:13
 same-flags-requires : tie.Need-same-flags-requires Inv-loop μ-loop
 same-flags-requires c κs = search needs
 
--- src/lib.rt:269:13
 returns : tie.Need-returns Inv-loop μ-loop
 returns c = flags-settled (c .before .before .before .before .before .before .loop .i) (c .before .before .before .before .before .before .before .before .args .n) (many (c .before .before .before .before .before .before .before .before .args .n) (kind (c .before .before .before .before .before .before .before .before .args .ws .now) (c .before .before .before .before .before .before .before .before .args .n)) (c .before .before .before .before .before .before .before .before .args .start)) _ _ (c .before .before .before .before .before .before .loop .inv .0) (c .before .before .before .before .before .before .loop .inv .1) (c .before .before .before .before .round .ensures) (c .before .same-flags .ensures (c .if1 .taken))
 
--- src/lib.rt:272:13
 add-i : tie.Need-add-i Inv-loop μ-loop
 add-i c = search needs
 
--- src/lib.rt:265:5
 loop-less : tie.Need-loop-less Inv-loop μ-loop
 loop-less c = search needs
 
--- src/lib.rt:265:5
 loop-again : tie.Need-loop-again Inv-loop μ-loop
 loop-again c = (omega (arith, c .before .before .before .before .before .loop-test .taken), flags-next (c .before .before .before .before .before .before .loop .i) (many (c .before .before .before .before .before .before .before .before .args .n) (kind (c .before .before .before .before .before .before .before .before .args .ws .now) (c .before .before .before .before .before .before .before .before .args .n)) (c .before .before .before .before .before .before .before .before .args .start)) _ _ (c .before .before .before .before .before .before .loop .inv .1) (c .before .before .before .before .round .ensures), omega (arith, c .before .before .before .before .round .ok))
 
--- src/lib.rt:259:1
 returns-2 : tie.Need-returns-2 Inv-loop μ-loop
 returns-2 c = c .before .loop .inv .1 ∙ ap (λ j. flagsAfter j (many (c .before .before .before .args .n) (kind (c .before .before .before .args .ws .now) (c .before .before .before .args .n)) (c .before .before .before .args .start))) (omega (arith, c .before .loop .inv .0, c .loop-test .left))
 

@@ -20,47 +20,36 @@ Inv-loop ws known n start i₀ at₀ i at = (i ≤ n) × (answer (finiteRecords 
 abbrev μ-loop : tie.MeasureT-loop
 μ-loop ws known n start i₀ at₀ i at = n - i
 
--- src/lib.rt:280:5
 loop-holds : tie.Need-loop-holds Inv-loop μ-loop
 loop-holds c = (omega arith, refl)
 
--- src/lib.rt:281:13
 flag-requires : tie.Need-flag-requires Inv-loop μ-loop
 flag-requires c κs = search needs
 
--- src/lib.rt:283:13
 returns : tie.Need-returns Inv-loop μ-loop
 returns c = records-false (c .before .before .before .before .before .before .args .ws .now) (c .before .before .before .before .before .before .args .known .now) (c .before .before .before .before .before .before .args .n) (c .before .before .before .loop .i) (c .before .before .before .loop .at) (omega (arith, c .before .before .before .before .before .before .pre)) _ (c .before .before .before .loop .inv .1) (c .before .before .loop-test .taken) _ (c .before .flag .ensures) (not-true _ (c .if1 .taken))
 
--- src/lib.rt:285:13
 kind-requires : tie.Need-kind-requires Inv-loop μ-loop
 kind-requires c κs = search needs
 
--- src/lib.rt:287:25
 enum-known-s : tie.Need-enum-known-s Inv-loop μ-loop
 enum-known-s c = search needs
 
--- src/lib.rt:288:17
 returns-2 : tie.Need-returns-2 Inv-loop μ-loop
 returns-2 c = records-fault (c .before .before .before .before .before .before .before .before .before .before .args .ws .now) (c .before .before .before .before .before .before .before .before .before .before .args .known .now) (c .before .before .before .before .before .before .before .before .before .before .args .n) (c .before .before .before .before .before .before .before .loop .i) (c .before .before .before .before .before .before .before .loop .at) (omega (arith, c .before .before .before .before .before .before .before .before .before .before .pre)) _ (c .before .before .before .before .before .before .before .loop .inv .1) (c .before .before .before .before .before .before .loop-test .taken) _ (c .before .before .before .before .before .flag .ensures) (not-false _ (c .before .before .before .before .if1 .left)) _ (c .before .before .before .kind .ensures) (c .before .s .given .1)
 
--- src/lib.rt:290:25
 enum-known-s-2 : tie.Need-enum-known-s-2 Inv-loop μ-loop
 enum-known-s-2 c = search needs
 
--- src/lib.rt:292:21
 add-i : tie.Need-add-i Inv-loop μ-loop
 add-i c = search needs
 
--- src/lib.rt:280:5
 loop-less : tie.Need-loop-less Inv-loop μ-loop
 loop-less c = search needs
 
--- src/lib.rt:280:5
 loop-again : tie.Need-loop-again Inv-loop μ-loop
 loop-again c = (omega (arith, c .before .before .before .before .before .before .loop-test .taken), records-more (c .before .before .before .before .before .before .before .before .before .before .args .ws .now) (c .before .before .before .before .before .before .before .before .before .before .args .known .now) (c .before .before .before .before .before .before .before .before .before .before .args .n) (c .before .before .before .before .before .before .before .loop .i) (c .before .before .before .before .before .before .before .loop .at) (omega (arith, c .before .before .before .before .before .before .before .before .before .before .pre)) _ (c .before .before .before .before .before .before .before .loop .inv .1) (c .before .before .before .before .before .before .loop-test .taken) _ (c .before .before .before .before .before .flag .ensures) (not-false _ (c .before .before .before .before .if1 .left)) _ (c .before .before .before .kind .ensures) (c .before .s2 .given .1))
 
--- src/lib.rt:274:1
 returns-3 : tie.Need-returns-3 Inv-loop μ-loop
 returns-3 c = records-end (c .before .before .before .before .args .ws .now) (c .before .before .before .before .args .known .now) (c .before .before .before .before .args .n) (c .before .loop .i) (c .before .loop .at) (omega (arith, c .before .before .before .before .pre)) _ (c .before .loop .inv .1) (c .loop-test .left)
 

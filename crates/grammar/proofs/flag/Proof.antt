@@ -6,19 +6,15 @@ use Rattle.grammar.proofs.flag.Tie as tie
 use Rattle.grammar.proofs.flag.Reads as reads
 use Rattle.grammar.proofs.flag.Lts as lts
 
--- src/lib.rt:80:9
 wide-requires : tie.Need-wide-requires
 wide-requires c κs = search needs
 
--- src/lib.rt:81:26
 shared-slice-read-result : tie.Need-shared-slice-read-result
 shared-slice-read-result c = search needs
 
--- src/lib.rt:77:1
 returns : tie.Need-returns
 returns c = cc
 
--- src/lib.rt:77:1
 returns-2 : tie.Need-returns-2
 returns-2 c = flag-out (c .before .before .before .args .known .now) (c .before .before .before .args .i) (omega (arith, c .before .wide .ensures, c .if1 .left))
 

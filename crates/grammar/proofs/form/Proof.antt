@@ -7,27 +7,21 @@ use Rattle.grammar.proofs.form.Lts as lts
 use Rattle.grammar.proofs.elements.Reads as elements-reads
 use Rattle.grammar.proofs.field.Reads as field-reads
 
--- src/lib.rt:134:9
 field-requires : tie.Need-field-requires
 field-requires c κs = search needs
 
--- src/lib.rt:136:18
 enum-known-g : tie.Need-enum-known-g
 enum-known-g c = search needs
 
--- src/lib.rt:137:19
 enum-known-g-2 : tie.Need-enum-known-g-2
 enum-known-g-2 c = search needs
 
--- src/lib.rt:137:31
 elements-requires : tie.Need-elements-requires
 elements-requires c κs = search needs
 
--- src/lib.rt:130:1
 returns : tie.Need-returns
 returns c = form-bad (c .before .before .before .before .before .before .args .ws .now) (c .before .before .before .before .before .before .args .known .now) (c .before .before .before .before .before .before .args .n) (c .before .before .before .before .before .before .args .at) _ (c .before .before .before .field .ensures) (c .before .g .given .1)
 
--- src/lib.rt:130:1
 returns-2 : tie.Need-returns-2
 returns-2 c = form-there (c .before .before .before .before .before .before .before .args .ws .now) (c .before .before .before .before .before .before .before .args .known .now) (c .before .before .before .before .before .before .before .args .n) (c .before .before .before .before .before .before .before .args .at) _ (c .before .before .before .before .field .ensures) (c .before .before .g2 .given .1) _ (c .elements .ensures)
 

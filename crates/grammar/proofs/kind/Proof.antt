@@ -8,91 +8,69 @@ use Rattle.grammar.proofs.closed.Reads as closed-reads
 use Rattle.grammar.proofs.field.Reads as field-reads
 use Rattle.grammar.proofs.forms.Reads as forms-reads
 
--- src/lib.rt:179:9
 read-word-requires : tie.Need-read-word-requires
 read-word-requires c κs = search needs
 
--- src/lib.rt:181:18
 enum-known-m : tie.Need-enum-known-m
 enum-known-m c = search needs
 
--- src/lib.rt:182:19
 enum-known-m-2 : tie.Need-enum-known-m-2
 enum-known-m-2 c = search needs
 
--- src/lib.rt:184:21
 field-requires : tie.Need-field-requires
 field-requires c κs = search needs
 
--- src/lib.rt:185:17
 closed-requires : tie.Need-closed-requires
 closed-requires c κs = search needs
 
--- src/lib.rt:185:17
 returns : tie.Need-returns
 returns c = kind-token (c .before .before .before .before .before .before .before .before .before .args .ws .now) (c .before .before .before .before .before .before .before .before .before .args .known .now) (c .before .before .before .before .before .before .before .before .before .args .n) (c .before .before .before .before .before .before .before .before .before .args .at) _ (c .before .before .before .before .before .before .read-word .ensures) (c .before .before .before .before .m2 .given .1) (c .before .before .if1 .taken) _ (c .before .field .ensures) _ (c .closed .ensures)
 
--- src/lib.rt:188:38
 sub-field : tie.Need-sub-field
 sub-field c = search needs
 
--- src/lib.rt:188:21
 field-requires-2 : tie.Need-field-requires-2
 field-requires-2 c κs = search needs
 
--- src/lib.rt:189:17
 closed-requires-2 : tie.Need-closed-requires-2
 closed-requires-2 c κs = search needs
 
--- src/lib.rt:189:17
 returns-2 : tie.Need-returns-2
 returns-2 c = kind-opt (c .before .before .before .before .before .before .before .before .before .before .args .ws .now) (c .before .before .before .before .before .before .before .before .before .before .args .known .now) (c .before .before .before .before .before .before .before .before .before .before .args .n) (c .before .before .before .before .before .before .before .before .before .before .args .at) _ (c .before .before .before .before .before .before .before .read-word .ensures) (c .before .before .before .before .before .m2 .given .1) (c .before .before .if2 .taken) _ (c .before .field2 .ensures) _ (c .closed2 .ensures)
 
--- src/lib.rt:192:38
 sub-field-2 : tie.Need-sub-field-2
 sub-field-2 c = search needs
 
--- src/lib.rt:192:21
 field-requires-3 : tie.Need-field-requires-3
 field-requires-3 c κs = search needs
 
--- src/lib.rt:193:17
 closed-requires-3 : tie.Need-closed-requires-3
 closed-requires-3 c κs = search needs
 
--- src/lib.rt:193:17
 returns-3 : tie.Need-returns-3
 returns-3 c = kind-sequence (c .before .before .before .before .before .before .before .before .before .before .before .args .ws .now) (c .before .before .before .before .before .before .before .before .before .before .before .args .known .now) (c .before .before .before .before .before .before .before .before .before .before .before .args .n) (c .before .before .before .before .before .before .before .before .before .before .before .args .at) _ (c .before .before .before .before .before .before .before .before .read-word .ensures) (c .before .before .before .before .before .before .m2 .given .1) (c .before .before .if3 .taken) _ (c .before .field3 .ensures) _ (c .closed3 .ensures)
 
--- src/lib.rt:196:21
 field-requires-4 : tie.Need-field-requires-4
 field-requires-4 c κs = search needs
 
--- src/lib.rt:198:30
 enum-known-g : tie.Need-enum-known-g
 enum-known-g c = search needs
 
--- src/lib.rt:199:25
 returns-4 : tie.Need-returns-4
 returns-4 c = kind-forms-bad (c .before .before .before .before .before .before .before .before .before .before .before .before .before .before .args .ws .now) (c .before .before .before .before .before .before .before .before .before .before .before .before .before .before .args .known .now) (c .before .before .before .before .before .before .before .before .before .before .before .before .before .before .args .n) (c .before .before .before .before .before .before .before .before .before .before .before .before .before .before .args .at) _ (c .before .before .before .before .before .before .before .before .before .before .before .read-word .ensures) (c .before .before .before .before .before .before .before .before .before .m2 .given .1) (c .before .before .before .before .if4 .taken) _ (c .before .before .before .field4 .ensures) (c .before .g .given .1)
 
--- src/lib.rt:201:31
 enum-known-g-2 : tie.Need-enum-known-g-2
 enum-known-g-2 c = search needs
 
--- src/lib.rt:202:25
 forms-requires : tie.Need-forms-requires
 forms-requires c κs = search needs
 
--- src/lib.rt:202:25
 returns-5 : tie.Need-returns-5
 returns-5 c = kind-forms (c .before .before .before .before .before .before .before .before .before .before .before .before .before .before .before .args .ws .now) (c .before .before .before .before .before .before .before .before .before .before .before .before .before .before .before .args .known .now) (c .before .before .before .before .before .before .before .before .before .before .before .before .before .before .before .args .n) (c .before .before .before .before .before .before .before .before .before .before .before .before .before .before .before .args .at) _ (c .before .before .before .before .before .before .before .before .before .before .before .before .read-word .ensures) (c .before .before .before .before .before .before .before .before .before .before .m2 .given .1) (c .before .before .before .before .before .if4 .taken) _ (c .before .before .before .before .field4 .ensures) (c .before .before .g2 .given .1) _ (c .forms .ensures)
 
--- src/lib.rt:175:1
 returns-6 : tie.Need-returns-6
 returns-6 c = kind-bad (c .before .before .before .before .before .before .args .ws .now) (c .before .before .before .before .before .before .args .known .now) (c .before .before .before .before .before .before .args .n) (c .before .before .before .before .before .before .args .at) _ (c .before .before .before .read-word .ensures) (c .before .m .given .1)
 
--- src/lib.rt:175:1
 returns-7 : tie.Need-returns-7
 returns-7 c = kind-none (c .before .before .before .before .before .before .before .before .before .before .args .ws .now) (c .before .before .before .before .before .before .before .before .before .before .args .known .now) (c .before .before .before .before .before .before .before .before .before .before .args .n) (c .before .before .before .before .before .before .before .before .before .before .args .at) _ (c .before .before .before .before .before .before .before .read-word .ensures) (c .before .before .before .before .before .m2 .given .1) (c .before .before .before .if1 .left) (c .before .before .if2 .left) (c .before .if3 .left) (c .if4 .left)
 

@@ -17,39 +17,30 @@ Inv-loop ws known n k start left₀ at₀ left at = answer (many k (kind ws n) s
 abbrev μ-loop : tie.MeasureT-loop
 μ-loop ws known n k start left₀ at₀ left at = left
 
--- src/lib.rt:218:5
 loop-holds : tie.Need-loop-holds Inv-loop μ-loop
 loop-holds c = refl
 
--- src/lib.rt:219:13
 kind-requires : tie.Need-kind-requires Inv-loop μ-loop
 kind-requires c κs = search needs
 
--- src/lib.rt:221:25
 enum-known-s : tie.Need-enum-known-s Inv-loop μ-loop
 enum-known-s c = search needs
 
--- src/lib.rt:222:17
 returns : tie.Need-returns Inv-loop μ-loop
 returns c = kinds-fault (c .before .before .before .before .before .before .before .before .args .ws .now) (c .before .before .before .before .before .before .before .before .args .known .now) (c .before .before .before .before .before .before .before .before .args .n) (c .before .before .before .before .before .loop .left) (c .before .before .before .before .before .loop .at) _ (c .before .before .before .before .before .loop .inv) (c .before .before .before .before .loop-test .taken) _ (c .before .before .before .kind .ensures) (c .before .s .given .1)
 
--- src/lib.rt:224:25
 enum-known-s-2 : tie.Need-enum-known-s-2 Inv-loop μ-loop
 enum-known-s-2 c = search needs
 
--- src/lib.rt:226:24
 sub-left : tie.Need-sub-left Inv-loop μ-loop
 sub-left c = search needs
 
--- src/lib.rt:218:5
 loop-less : tie.Need-loop-less Inv-loop μ-loop
 loop-less c = search needs
 
--- src/lib.rt:218:5
 loop-again : tie.Need-loop-again Inv-loop μ-loop
 loop-again c = kinds-more (c .before .before .before .before .before .before .before .before .args .ws .now) (c .before .before .before .before .before .before .before .before .args .known .now) (c .before .before .before .before .before .before .before .before .args .n) (c .before .before .before .before .before .loop .left) (c .before .before .before .before .before .loop .at) _ (c .before .before .before .before .before .loop .inv) (c .before .before .before .before .loop-test .taken) _ (c .before .before .before .kind .ensures) (c .before .s2 .given .1)
 
--- src/lib.rt:212:1
 returns-2 : tie.Need-returns-2 Inv-loop μ-loop
 returns-2 c = loop-end (kind (c .before .before .before .before .args .ws .now) (c .before .before .before .before .args .n)) (c .before .loop .left) (c .before .loop .at) _ (c .before .loop .inv) (c .loop-test .left)
 

@@ -10,59 +10,45 @@ use Rattle.grammar.proofs.finite.Reads as finite-reads
 use Rattle.grammar.proofs.finite_records.Reads as finite-records-reads
 use Rattle.grammar.proofs.kinds.Reads as kinds-reads
 
--- src/lib.rt:304:9
 field-requires : tie.Need-field-requires
 field-requires c κs = search needs
 
--- src/lib.rt:306:18
 enum-known-g : tie.Need-enum-known-g
 enum-known-g c = search needs
 
--- src/lib.rt:307:19
 enum-known-g-2 : tie.Need-enum-known-g-2
 enum-known-g-2 c = search needs
 
--- src/lib.rt:309:31
 slice-aggregate-kinds : tie.Need-slice-aggregate-kinds
 slice-aggregate-kinds c = search needs
 
--- src/lib.rt:309:17
 kinds-requires : tie.Need-kinds-requires
 kinds-requires c κs = let n = count-next (c .before .before .before .before .before .before .args .ws .now) _ (c .before .before .before .before .field .ensures) (c .before .before .g2 .given .1) in (n .1, n .2)
 
--- src/lib.rt:311:32
 enum-known-c : tie.Need-enum-known-c
 enum-known-c c = search needs
 
--- src/lib.rt:312:31
 enum-known-c-2 : tie.Need-enum-known-c-2
 enum-known-c-2 c = search needs
 
--- src/lib.rt:314:25
 returns : tie.Need-returns
 returns c = check-over (c .before .before .before .before .before .before .before .before .before .before .before .args .ws .now) _ (c .before .before .before .before .before .before .before .before .before .field .ensures) (c .before .before .before .before .before .before .before .g2 .given .1) _ (c .before .before .before .before .kinds .ensures) (c .before .before .c2 .given .1) (c .if1 .taken)
 
--- src/lib.rt:316:33
 finite-requires : tie.Need-finite-requires
 finite-requires c κs = let n = count-next (c .before .before .before .before .before .before .before .before .before .before .before .args .ws .now) _ (c .before .before .before .before .before .before .before .before .before .field .ensures) (c .before .before .before .before .before .before .before .g2 .given .1) in (n .1, n .2)
 
--- src/lib.rt:317:40
 slice-aggregate-finite-records : tie.Need-slice-aggregate-finite-records
 slice-aggregate-finite-records c = search needs
 
--- src/lib.rt:317:21
 finite-records-requires : tie.Need-finite-records-requires
 finite-records-requires c κs = let n = count-next (c .before .before .before .before .before .before .before .before .before .before .before .before .before .args .ws .now) _ (c .before .before .before .before .before .before .before .before .before .before .before .field .ensures) (c .before .before .before .before .before .before .before .before .before .g2 .given .1) in (n .1, n .2, omega (arith, c .before .finite .ok))
 
--- src/lib.rt:301:1
 returns-2 : tie.Need-returns-2
 returns-2 c = check-bad (c .before .before .before .before .before .args .ws .now) _ (c .before .before .before .field .ensures) (c .before .g .given .1)
 
--- src/lib.rt:301:1
 returns-3 : tie.Need-returns-3
 returns-3 c = check-fault (c .before .before .before .before .before .before .before .before .before .before .args .ws .now) _ (c .before .before .before .before .before .before .before .before .field .ensures) (c .before .before .before .before .before .before .g2 .given .1) _ (c .before .before .before .kinds .ensures) (c .before .c .given .1)
 
--- src/lib.rt:301:1
 returns-4 : tie.Need-returns-4
 returns-4 c = check-finite (c .before .before .before .before .before .before .before .before .before .before .before .before .before .before .args .ws .now) _ (c .before .before .before .before .before .before .before .before .before .before .before .before .field .ensures) (c .before .before .before .before .before .before .before .before .before .before .g2 .given .1) _ (c .before .before .before .before .before .before .before .kinds .ensures) (c .before .before .before .before .before .c2 .given .1) (c .before .before .before .if1 .left) _ (c .before .before .finite .ensures) _ (c .finite-records .ensures)
 

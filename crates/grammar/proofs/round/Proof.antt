@@ -20,51 +20,39 @@ Inv-loop ws n start known flags₀ left₀ t₀ at₀ flags left t at = (t + lef
 abbrev μ-loop : tie.MeasureT-loop
 μ-loop ws n start known flags₀ left₀ t₀ at₀ flags left t at = left
 
--- src/lib.rt:242:5
 loop-holds : tie.Need-loop-holds Inv-loop μ-loop
 loop-holds c = (omega arith, refl)
 
--- src/lib.rt:243:26
 slice-aggregate-kind : tie.Need-slice-aggregate-kind Inv-loop μ-loop
 slice-aggregate-kind c = search needs
 
--- src/lib.rt:243:13
 kind-requires : tie.Need-kind-requires Inv-loop μ-loop
 kind-requires c κs = search needs
 
--- src/lib.rt:245:25
 enum-known-s : tie.Need-enum-known-s Inv-loop μ-loop
 enum-known-s c = search needs
 
--- src/lib.rt:246:17
 returns : tie.Need-returns Inv-loop μ-loop
 returns c = round-fault (c .before .before .before .before .before .before .before .before .args .ws .now) (c .before .before .before .before .before .before .before .before .args .t2) (c .before .before .before .before .before .before .before .before .args .n) (c .before .before .before .before .before .before .loop .left) (c .before .before .before .before .before .before .loop .at) (c .before .before .before .before .before .before .loop .flags) (c .before .before .before .before .before .before .loop .t) _ (c .before .before .before .before .before .before .loop .inv .1) (c .before .before .before .before .before .loop-test .taken) _ (c .before .before .before .kind .ensures) (c .before .s .given .1)
 
--- src/lib.rt:248:25
 enum-known-s-2 : tie.Need-enum-known-s-2 Inv-loop μ-loop
 enum-known-s-2 c = search needs
 
--- src/lib.rt:249:17
 array-write-flags : tie.Need-array-write-flags Inv-loop μ-loop
 array-write-flags c = search needs
 
--- src/lib.rt:250:21
 add-t : tie.Need-add-t Inv-loop μ-loop
 add-t c = search needs
 
--- src/lib.rt:252:24
 sub-left : tie.Need-sub-left Inv-loop μ-loop
 sub-left c = search needs
 
--- src/lib.rt:242:5
 loop-less : tie.Need-loop-less Inv-loop μ-loop
 loop-less c = search needs
 
--- src/lib.rt:242:5
 loop-again : tie.Need-loop-again Inv-loop μ-loop
 loop-again c = (omega (arith, c .before .before .before .before .before .before .loop .inv .0, c .before .before .before .before .before .loop-test .taken), round-more (c .before .before .before .before .before .before .before .before .args .ws .now) (c .before .before .before .before .before .before .before .before .args .t2) (c .before .before .before .before .before .before .before .before .args .n) (c .before .before .before .before .before .before .loop .left) (c .before .before .before .before .before .before .loop .at) (c .before .before .before .before .before .before .loop .flags) (c .before .before .before .before .before .before .loop .t) _ (c .before .before .before .before .before .before .loop .inv .1) (c .before .before .before .before .before .loop-test .taken) _ (c .before .before .before .kind .ensures) (c .before .s2 .given .1))
 
--- src/lib.rt:234:1
 returns-2 : tie.Need-returns-2 Inv-loop μ-loop
 returns-2 c = round-end (c .before .before .before .args .ws .now) (c .before .before .before .args .t2) (c .before .before .before .args .n) (c .before .loop .left) (c .before .loop .at) (c .before .loop .flags) (c .before .loop .t) _ (c .before .loop .inv .1) (c .loop-test .left)
 

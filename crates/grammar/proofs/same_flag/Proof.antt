@@ -5,11 +5,9 @@ use Rattle.grammar.proofs.same_flag.Tie as tie
 use Rattle.grammar.proofs.same_flag.Reads as reads
 use Rattle.grammar.proofs.same_flag.Lts as lts
 
--- src/lib.rt:233:1
 returns : tie.Need-returns
 returns c = λ e. c .if1 .taken ∙ sym e
 
--- src/lib.rt:233:1
 returns-2 : tie.Need-returns-2
 returns-2 c = λ e. c .if1 .left ∙ sym (not-true _ e)
 

@@ -19,43 +19,33 @@ Inv-loop a b n i₀ i = (i ≤ n) × (take i a ≡ take i b)
 abbrev μ-loop : tie.MeasureT-loop
 μ-loop a b n i₀ i = n - i
 
--- src/lib.rt:245:9
 returns : tie.Need-returns Inv-loop μ-loop
 returns c = λ e. let z : _≡_ {A = ℕ} 0 1 = cc in absurd (omega arith)
 
--- src/lib.rt:248:5
 loop-holds : tie.Need-loop-holds Inv-loop μ-loop
 loop-holds c = (omega arith, refl)
 
--- src/lib.rt:249:27
 shared-slice-read-same-flag : tie.Need-shared-slice-read-same-flag Inv-loop μ-loop
 shared-slice-read-same-flag c = search needs
 
--- src/lib.rt:249:33
 shared-slice-read-same-flag-2 : tie.Need-shared-slice-read-same-flag-2 Inv-loop μ-loop
 shared-slice-read-same-flag-2 c = search needs
 
--- src/lib.rt:249:13
 same-flag-requires : tie.Need-same-flag-requires Inv-loop μ-loop
 same-flag-requires c κs = search needs
 
--- src/lib.rt:251:13
 returns-2 : tie.Need-returns-2 Inv-loop μ-loop
 returns-2 c = λ e. let z : _≡_ {A = ℕ} 0 1 = cc in absurd (omega arith)
 
--- src/lib.rt:253:13
 add-i : tie.Need-add-i Inv-loop μ-loop
 add-i c = search needs
 
--- src/lib.rt:248:5
 loop-less : tie.Need-loop-less Inv-loop μ-loop
 loop-less c = search needs
 
--- src/lib.rt:248:5
 loop-again : tie.Need-loop-again Inv-loop μ-loop
 loop-again c = (omega arith, same-more (c .before .before .before .before .before .before .before .before .before .args .a .now) (c .before .before .before .before .before .before .before .before .before .args .b .now) (c .before .before .before .before .before .loop .i) (omega arith) (omega (arith, c .before .before .before .before .before .before .if1 .left)) (c .before .before .before .before .before .loop .inv .1) (c .before .same-flag .ensures (not-false _ (c .if2 .left))))
 
--- src/lib.rt:240:1
 returns-3 : tie.Need-returns-3 Inv-loop μ-loop
 returns-3 c = λ e. same-whole (c .before .before .before .before .before .args .a .now) (c .before .before .before .before .before .args .b .now) (c .before .loop .i) (c .before .before .if1 .left) (omega (arith, c .loop-test .left)) (c .before .loop .inv .1)
 

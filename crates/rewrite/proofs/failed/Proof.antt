@@ -7,15 +7,12 @@ use Rattle.rewrite.proofs.failed.Reads as reads
 use Rattle.rewrite.proofs.failed.Lts as lts
 use Rattle.rewrite.proofs.differs.Reads as differs-reads
 
--- src/lib.rt:334:9
 differs-requires : tie.Need-differs-requires
 differs-requires c κs = search needs
 
--- src/lib.rt:334:9
 returns : tie.Need-returns
 returns c = c .differs .ensures ∙ failed-zero (c .before .before .args .passed) _ (c .before .before .args .live) (c .before .if1 .taken)
 
--- src/lib.rt:330:1
 returns-2 : tie.Need-returns-2
 returns-2 c = failed-other (c .before .args .passed) _ (c .before .args .live) (c .if1 .left)
 

@@ -6,15 +6,12 @@ use Rattle.rewrite.proofs.level.Tie as tie
 use Rattle.rewrite.proofs.level.Reads as reads
 use Rattle.rewrite.proofs.level.Lts as lts
 
--- src/lib.rt:45:13
 returns : tie.Need-returns
 returns c = (level-rest (c .before .before .args .sequence) (c .before .before .args .i) (c .before .if1 .taken) (c .if2 .taken), omega arith)
 
--- src/lib.rt:40:1
 returns-2 : tie.Need-returns-2
 returns-2 c = (level-other (c .before .before .args .sequence) (c .before .before .args .i) (c .before .if1 .taken) (c .if2 .left), omega arith)
 
--- src/lib.rt:40:1
 returns-3 : tie.Need-returns-3
 returns-3 c = (level-plain (c .before .args .sequence) (c .before .args .i) (c .if1 .left), omega arith)
 

@@ -18,63 +18,48 @@ Inv-loop heads rows w₀ base place top p₀ w p = AboveLoop heads rows w₀ w b
 abbrev μ-loop : tie.MeasureT-loop
 μ-loop heads rows w₀ base place top p₀ w p = p - base
 
--- src/lib.rt:158:5
 loop-holds : tie.Need-loop-holds Inv-loop μ-loop
 loop-holds c = mark-start (λ g ws. Kept g (c .before .args .w .now) (c .before .args .base) (c .before .args .place) ws) (c .before .args .heads .now) (c .before .args .rows .now) (c .before .args .w .now) (c .before .args .base) (c .before .args .place) (c .before .args .top) (c .before .pre .0)
 
--- src/lib.rt:158:16
 sub-loop : tie.Need-sub-loop Inv-loop μ-loop
 sub-loop c = omega (arith, c .loop .inv .low)
 
--- src/lib.rt:159:13
 sub-p : tie.Need-sub-p Inv-loop μ-loop
 sub-p c = search needs
 
--- src/lib.rt:160:35
 mul-size-in : tie.Need-mul-size-in Inv-loop μ-loop
 mul-size-in c = search needs
 
--- src/lib.rt:160:35
 slice-read-size-in : tie.Need-slice-read-size-in Inv-loop μ-loop
 slice-read-size-in c = omega (arith, c .before .before .loop .inv .high, c .before .before .loop .inv .long, c .before .before .before .before .pre .1, c .before .before .before .before .pre .2, c .before .loop-test .taken)
 
--- src/lib.rt:160:27
 size-in-requires : tie.Need-size-in-requires Inv-loop μ-loop
 size-in-requires c κs = search needs
 
--- src/lib.rt:160:23
 mul-end : tie.Need-mul-end Inv-loop μ-loop
 mul-end c = search needs
 
--- src/lib.rt:160:19
 add-end : tie.Need-add-end Inv-loop μ-loop
 add-end c = search needs
 
--- src/lib.rt:162:13
 mark-node-requires : tie.Need-mark-node-requires Inv-loop μ-loop
 mark-node-requires c κs = (omega (arith, c .before .before .before .before .before .loop .inv .high, c .before .before .before .before .before .before .before .pre .1, c .before .before .before .before .loop-test .taken), omega (arith, c .before .before .before .before .before .loop .inv .long, c .before .before .before .before .before .before .before .pre .2))
 
--- src/lib.rt:158:5
 loop-less : tie.Need-loop-less Inv-loop μ-loop
 loop-less c = search needs
 
--- src/lib.rt:158:5
 loop-again : tie.Need-loop-again Inv-loop μ-loop
 loop-again c = mark-more (λ g ws. Kept g (c .before .before .before .before .before .before .before .before .before .before .args .w .now) (c .before .before .before .before .before .before .before .before .before .before .args .base) (c .before .before .before .before .before .before .before .before .before .before .args .place) ws) (c .before .before .before .before .before .before .before .before .before .before .args .heads .now) (c .before .before .before .before .before .before .before .before .before .before .args .rows .now) (c .before .before .before .before .before .before .before .before .before .before .args .w .now) (c .before .before .before .before .before .before .before .before .loop .w) (c .before .before .before .before .before .before .before .before .before .before .args .base) (c .before .before .before .before .before .before .before .before .before .before .args .place) (c .before .before .before .before .before .before .before .before .before .before .args .top) (c .before .before .before .before .before .before .before .before .loop .p) (c .before .before .before .before .before .before .before .before .loop .inv) (c .before .before .before .before .before .before .before .before .before .before .pre .1) (c .before .before .before .before .before .before .before .before .before .before .pre .2) (c .before .before .before .before .before .before .before .loop-test .taken) _ refl _ (c .before .before .mark-node .ensures)
 
--- src/lib.rt:158:5
 loop-less-2 : tie.Need-loop-less-2 Inv-loop μ-loop
 loop-less-2 c = search needs
 
--- src/lib.rt:158:5
 loop-again-2 : tie.Need-loop-again-2 Inv-loop μ-loop
 loop-again-2 c = above-skip (c .before .before .before .before .before .before .args .heads .now) (c .before .before .before .before .before .before .args .rows .now) (c .before .before .before .before .before .before .args .w .now) (c .before .before .before .before .loop .w) (c .before .before .before .before .before .before .args .base) (c .before .before .before .before .before .before .args .place) (c .before .before .before .before .before .before .args .top) (c .before .before .before .before .loop .p) (c .before .before .before .before .loop .inv) (c .before .before .before .before .before .before .pre .1) (c .before .before .before .before .before .before .pre .2) (c .before .before .before .loop-test .taken) _ refl (omega (arith, c .if1 .left, c .before .size-in .ensures .0))
 
--- src/lib.rt:146:1
 same-length : tie.Need-same-length Inv-loop μ-loop
 same-length c = c .before .loop .inv .long
 
--- src/lib.rt:146:1
 returns : tie.Need-returns Inv-loop μ-loop
 returns c = above-end (c .before .before .before .args .heads .now) (c .before .before .before .args .rows .now) (c .before .before .before .args .w .now) (c .before .loop .w) (c .before .before .before .args .base) (c .before .before .before .args .place) (c .before .before .before .args .top) (c .before .loop .p) (c .before .loop .inv) (c .before .before .before .pre .1) (c .before .before .before .pre .2) (c .loop-test .left)
 

@@ -7,67 +7,51 @@ use Rattle.rewrite.proofs.mark_node.Lts as lts
 use Rattle.rewrite.proofs.mark_of.Reads as mark-of-reads
 use Rattle.rewrite.proofs.type_in.Reads as type-in-reads
 
--- src/lib.rt:118:17
 add-below : tie.Need-add-below
 add-below c = search needs
 
--- src/lib.rt:119:21
 mul-type-in : tie.Need-mul-type-in
 mul-type-in c = search needs
 
--- src/lib.rt:119:21
 slice-read-type-in : tie.Need-slice-read-type-in
 slice-read-type-in c = search needs
 
--- src/lib.rt:119:9
 type-in-requires : tie.Need-type-in-requires
 type-in-requires c κs = search needs
 
--- src/lib.rt:120:15
 add-v : tie.Need-add-v
 add-v c = search needs
 
--- src/lib.rt:120:13
 mul-v : tie.Need-mul-v
 mul-v c = search needs
 
--- src/lib.rt:120:13
 slice-read-v : tie.Need-slice-read-v
 slice-read-v c = search needs
 
--- src/lib.rt:122:40
 mul-mark-of : tie.Need-mul-mark-of
 mul-mark-of c = search needs
 
--- src/lib.rt:122:40
 sub-mark-of : tie.Need-sub-mark-of
 sub-mark-of c = search needs
 
--- src/lib.rt:122:40
 part-mark-of-start : tie.Need-part-mark-of-start
 part-mark-of-start c = search needs
 
--- src/lib.rt:122:40
 part-mark-of-end : tie.Need-part-mark-of-end
 part-mark-of-end c = search needs
 
--- src/lib.rt:122:9
 mark-of-requires : tie.Need-mark-of-requires
 mark-of-requires c κs = search needs
 
--- src/lib.rt:123:5
 mul-w : tie.Need-mul-w
 mul-w c = search needs
 
--- src/lib.rt:123:5
 slice-write-w : tie.Need-slice-write-w
 slice-write-w c = search needs
 
--- src/lib.rt:114:1
 same-length : tie.Need-same-length
 same-length c = search needs
 
--- src/lib.rt:114:1
 returns : tie.Need-returns
 returns c = node-marked (c .before .before .before .before .before .before .before .args .heads .now) (c .before .before .before .before .before .before .before .args .rows .now) (c .before .before .before .before .before .before .before .args .w .now) (c .before .before .before .before .before .before .before .args .p) (c .before .before .before .before .before .before .before .args .top) (c .before .before .before .before .type-in .result) (c .mark-of .result) (c .before .before .before .before .type-in .ensures) (c .mark-of .ensures)
 

@@ -22,71 +22,54 @@ Inv-loop heads rows t v below count sequence size₀ deepest₀ at₀ i₀ size 
 abbrev μ-loop : tie.MeasureT-loop
 μ-loop heads rows t v below count sequence size₀ deepest₀ at₀ i₀ size deepest at i = count - i
 
--- src/lib.rt:64:9
 child-count-requires : tie.Need-child-count-requires Inv-loop μ-loop
 child-count-requires c κs = search needs
 
--- src/lib.rt:65:9
 is-sequence-requires : tie.Need-is-sequence-requires Inv-loop μ-loop
 is-sequence-requires c κs = search needs
 
--- src/lib.rt:70:5
 loop-holds : tie.Need-loop-holds Inv-loop μ-loop
 loop-holds c = (omega arith, marking-start (c .before .before .before .args .heads .now) (c .before .before .before .args .rows .now) (c .before .before .before .args .t) (c .before .before .before .args .v) (c .before .before .before .args .below .now))
 
--- src/lib.rt:71:13
 word-requires : tie.Need-word-requires Inv-loop μ-loop
 word-requires c κs = search needs
 
--- src/lib.rt:72:13
 size-in-requires : tie.Need-size-in-requires Inv-loop μ-loop
 size-in-requires c κs = search needs
 
--- src/lib.rt:73:17
 nesting-in-requires : tie.Need-nesting-in-requires Inv-loop μ-loop
 nesting-in-requires c κs = search needs
 
--- src/lib.rt:73:33
 level-requires : tie.Need-level-requires Inv-loop μ-loop
 level-requires c κs = search needs
 
--- src/lib.rt:73:17
 add-k : tie.Need-add-k Inv-loop μ-loop
 add-k c = omega (arith, c .before .nesting-in .ensures .1, c .level .ensures .1)
 
--- src/lib.rt:74:9
 greater-requires : tie.Need-greater-requires Inv-loop μ-loop
 greater-requires c κs = search needs
 
--- src/lib.rt:75:16
 add-size : tie.Need-add-size Inv-loop μ-loop
 add-size c = omega (arith, c .before .before .before .before .before .before .loop .inv .0, c .before .before .before .before .before .before .loop .inv .1 .small, c .before .before .before .size-in .ensures .1)
 
--- src/lib.rt:76:19
 mul-at : tie.Need-mul-at Inv-loop μ-loop
 mul-at c = omega (arith, c .before .before .before .size-in .ensures .1)
 
--- src/lib.rt:76:14
 add-at : tie.Need-add-at Inv-loop μ-loop
 add-at c = omega (arith, c .before .before .before .before .before .before .loop .inv .0, c .before .before .before .before .before .before .loop .inv .1 .near, c .before .before .before .size-in .ensures .1)
 
--- src/lib.rt:77:13
 add-i : tie.Need-add-i Inv-loop μ-loop
 add-i c = omega (arith, c .before .before .before .before .before .before .loop .inv .0)
 
--- src/lib.rt:70:5
 loop-less : tie.Need-loop-less Inv-loop μ-loop
 loop-less c = search needs
 
--- src/lib.rt:70:5
 loop-again : tie.Need-loop-again Inv-loop μ-loop
 loop-again c = (omega (arith, c .before .before .before .before .before .before .before .before .child-count .ensures .small, c .before .before .before .before .before .loop-test .taken), marking-more (c .before .before .before .before .before .before .before .before .before .before .args .heads .now) (c .before .before .before .before .before .before .before .before .before .before .args .rows .now) (c .before .before .before .before .before .before .before .before .before .before .args .t) (c .before .before .before .before .before .before .before .before .before .before .args .v) (c .before .before .before .before .before .before .before .before .before .before .args .below .now) (c .before .before .before .before .before .before .loop .size) (c .before .before .before .before .before .before .loop .deepest) (c .before .before .before .before .before .before .loop .at) (c .before .before .before .before .before .before .loop .i) (c .before .before .before .before .before .before .loop .inv .1) _ _ (c .before .before .before .before .before .before .before .before .child-count .ensures) (c .before .before .before .before .before .before .before .is-sequence .ensures) (c .before .before .before .before .before .loop-test .taken) _ _ _ _ _ (c .before .before .before .before .word .ensures) (c .before .before .before .size-in .ensures) (c .before .before .nesting-in .ensures) (c .before .level .ensures .0) (c .before .level .ensures .1) (c .greater .ensures))
 
--- src/lib.rt:79:5
 pack-requires : tie.Need-pack-requires Inv-loop μ-loop
 pack-requires c κs = (omega (arith, c .before .loop .inv .0, c .before .loop .inv .1 .small), omega (arith, c .before .loop .inv .1 .low))
 
--- src/lib.rt:61:1
 returns : tie.Need-returns Inv-loop μ-loop
 returns c = marking-end (c .before .before .before .before .before .before .args .heads .now) (c .before .before .before .before .before .before .args .rows .now) (c .before .before .before .before .before .before .args .t) (c .before .before .before .before .before .before .args .v) (c .before .before .before .before .before .before .args .below .now) (c .before .before .loop .size) (c .before .before .loop .deepest) (c .before .before .loop .at) (c .before .before .loop .i) (c .before .before .loop .inv .1) _ _ (c .before .before .before .before .child-count .ensures) (c .before .before .before .is-sequence .ensures) (c .before .loop-test .left) _ (c .pack .ensures)
 

@@ -15,35 +15,27 @@ Inv-loop heads rows w₀ base place top p₀ w p = MarkLoop Whatever heads rows 
 abbrev μ-loop : tie.MeasureT-loop
 μ-loop heads rows w₀ base place top p₀ w p = p - base
 
--- src/lib.rt:139:5
 loop-holds : tie.Need-loop-holds Inv-loop μ-loop
 loop-holds c = mark-start Whatever (c .before .args .heads .now) (c .before .args .rows .now) (c .before .args .w .now) (c .before .args .base) (c .before .args .place) (c .before .args .top) (c .before .pre .0)
 
--- src/lib.rt:139:16
 sub-loop : tie.Need-sub-loop Inv-loop μ-loop
 sub-loop c = omega (arith, c .loop .inv .low)
 
--- src/lib.rt:140:13
 sub-p : tie.Need-sub-p Inv-loop μ-loop
 sub-p c = search needs
 
--- src/lib.rt:141:9
 mark-node-requires : tie.Need-mark-node-requires Inv-loop μ-loop
 mark-node-requires c κs = (omega (arith, c .before .before .loop .inv .high, c .before .before .before .before .pre .1, c .before .loop-test .taken), omega (arith, c .before .before .loop .inv .long, c .before .before .before .before .pre .2))
 
--- src/lib.rt:139:5
 loop-less : tie.Need-loop-less Inv-loop μ-loop
 loop-less c = search needs
 
--- src/lib.rt:139:5
 loop-again : tie.Need-loop-again Inv-loop μ-loop
 loop-again c = mark-more Whatever (c .before .before .before .before .before .before .before .args .heads .now) (c .before .before .before .before .before .before .before .args .rows .now) (c .before .before .before .before .before .before .before .args .w .now) (c .before .before .before .before .before .loop .w) (c .before .before .before .before .before .before .before .args .base) (c .before .before .before .before .before .before .before .args .place) (c .before .before .before .before .before .before .before .args .top) (c .before .before .before .before .before .loop .p) (c .before .before .before .before .before .loop .inv) (c .before .before .before .before .before .before .before .pre .1) (c .before .before .before .before .before .before .before .pre .2) (c .before .before .before .before .loop-test .taken) _ refl _ (c .before .before .mark-node .ensures)
 
--- src/lib.rt:127:1
 same-length : tie.Need-same-length Inv-loop μ-loop
 same-length c = c .before .loop .inv .long
 
--- src/lib.rt:127:1
 returns : tie.Need-returns Inv-loop μ-loop
 returns c = mark-end (c .before .before .before .args .heads .now) (c .before .before .before .args .rows .now) (c .before .before .before .args .w .now) (c .before .loop .w) (c .before .before .before .args .base) (c .before .before .before .args .place) (c .before .before .before .args .top) (c .before .loop .p) (c .before .loop .inv) (c .before .before .before .pre .1) (c .before .before .before .pre .2) (c .loop-test .left)
 

@@ -13,114 +13,88 @@ use Rattle.rewrite.proofs.pair_words.Reads as pair-words-reads
 use Rattle.rewrite.proofs.start_in.Reads as start-in-reads
 
 abbrev Inv-loop : tie.InvT-loop
-Inv-loop pairs arena part at live starts₀ n₀ total₀ i₀ p₀ starts n total i p = Going pairs arena part at (record { n = n₀; starts = starts₀ }) live (record { n = n; starts = starts }) total i p
+Inv-loop pairs arena part at held starts₀ n₀ live₀ i₀ p₀ starts n live i p = Going pairs arena part at (record { n = n₀; starts = starts₀ }) held (record { n = n; starts = starts }) live i p
 
 abbrev μ-loop : tie.MeasureT-loop
-μ-loop pairs arena part at live starts₀ n₀ total₀ i₀ p₀ starts n total i p = length pairs - i
+μ-loop pairs arena part at held starts₀ n₀ live₀ i₀ p₀ starts n live i p = length pairs - i
 
--- src/lib.rt:360:5
 loop-holds : tie.Need-loop-holds Inv-loop μ-loop
-loop-holds c = going-start (c .before .before .before .before .args .pairs .now) (c .before .before .before .before .args .arena .now) (c .before .before .before .before .args .part .now) (c .before .before .before .before .args .at) (c .before .before .before .before .args .vars) (c .before .before .before .before .args .live) (c .before .before .before .before .pre .2) (c .before .before .before .before .pre .3)
+loop-holds c = going-start (c .before .before .before .before .args .pairs .now) (c .before .before .before .before .args .arena .now) (c .before .before .before .before .args .part .now) (c .before .before .before .before .args .at) (c .before .before .before .before .args .vars) (c .before .before .before .before .args .held) (c .before .before .before .before .pre .2) (c .before .before .before .before .pre .3)
 
--- src/lib.rt:360:16
 sub-loop : tie.Need-sub-loop Inv-loop μ-loop
 sub-loop c = omega (arith, c .loop .inv .read)
 
--- src/lib.rt:361:17
 mul-t : tie.Need-mul-t Inv-loop μ-loop
 mul-t c = search needs
 
--- src/lib.rt:361:17
 shared-slice-read-t : tie.Need-shared-slice-read-t Inv-loop μ-loop
 shared-slice-read-t c = omega (arith, c .before .before .loop .inv .read, c .before .loop-test .taken)
 
--- src/lib.rt:362:23
 add-v : tie.Need-add-v Inv-loop μ-loop
 add-v c = omega (arith, c .before .before .loop .inv .read, c .before .loop-test .taken)
 
--- src/lib.rt:362:17
 mul-v : tie.Need-mul-v Inv-loop μ-loop
 mul-v c = search needs
 
--- src/lib.rt:362:17
 shared-slice-read-v : tie.Need-shared-slice-read-v Inv-loop μ-loop
 shared-slice-read-v c = omega (arith, c .before .before .before .loop .inv .read, c .before .before .loop-test .taken)
 
--- src/lib.rt:363:13
 start-in-requires : tie.Need-start-in-requires Inv-loop μ-loop
 start-in-requires c κs = search needs
 
--- src/lib.rt:364:13
 pair-words-requires : tie.Need-pair-words-requires Inv-loop μ-loop
 pair-words-requires c κs = (c .start-in .ensures .1, omega (arith, c .before .before .before .before .before .loop .inv .near, c .before .before .before .before .before .loop .inv .read, c .before .before .before .before .before .before .before .before .before .before .pre .0), c .before .before .before .before .before .loop .inv .fits)
 
--- src/lib.rt:367:13
 failed-requires : tie.Need-failed-requires Inv-loop μ-loop
 failed-requires c κs = search needs
 
--- src/lib.rt:367:13
 returns : tie.Need-returns Inv-loop μ-loop
-returns c = rw (c .failed .ensures) (pair-failed (c .before .before .before .before .before .before .before .before .before .before .before .before .before .args .pairs .now) (c .before .before .before .before .before .before .before .before .before .before .before .before .before .args .arena .now) (c .before .before .before .before .before .before .before .before .before .before .before .before .before .args .part .now) (c .before .before .before .before .before .before .before .before .before .before .before .before .before .args .at) (c .before .before .before .before .before .before .before .before .before .before .before .before .before .args .vars) (c .before .before .before .before .before .before .before .before .before .before .before .before .before .args .live) (record { n = c .before .before .before .before .before .before .before .before .loop .n; starts = c .before .before .before .before .before .before .before .before .loop .starts }) (c .before .before .before .before .before .before .before .before .loop .total) (c .before .before .before .before .before .before .before .before .loop .i) (c .before .before .before .before .before .before .before .before .loop .p) (c .before .before .before .before .before .before .before .before .loop .inv) (c .before .before .before .before .before .before .before .loop-test .taken) _ _ _ _ refl refl (c .before .before .before .start-in .ensures .0) (c .before .before .pair-words .ensures .0) (c .before .if1 .taken))
+returns c = rw (c .failed .ensures) (pair-failed (c .before .before .before .before .before .before .before .before .before .before .before .before .before .args .pairs .now) (c .before .before .before .before .before .before .before .before .before .before .before .before .before .args .arena .now) (c .before .before .before .before .before .before .before .before .before .before .before .before .before .args .part .now) (c .before .before .before .before .before .before .before .before .before .before .before .before .before .args .at) (c .before .before .before .before .before .before .before .before .before .before .before .before .before .args .vars) (c .before .before .before .before .before .before .before .before .before .before .before .before .before .args .held) (record { n = c .before .before .before .before .before .before .before .before .loop .n; starts = c .before .before .before .before .before .before .before .before .loop .starts }) (c .before .before .before .before .before .before .before .before .loop .live) (c .before .before .before .before .before .before .before .before .loop .i) (c .before .before .before .before .before .before .before .before .loop .p) (c .before .before .before .before .before .before .before .before .loop .inv) (c .before .before .before .before .before .before .before .loop-test .taken) _ _ _ _ refl refl (c .before .before .before .start-in .ensures .0) (c .before .before .pair-words .ensures .0) (c .before .if1 .taken))
 
--- src/lib.rt:370:26
 add-starts : tie.Need-add-starts Inv-loop μ-loop
 add-starts c = omega (arith, c .before .before .before .before .before .before .before .before .loop .inv .near, c .before .before .before .before .before .before .before .before .loop .inv .read, c .before .before .before .before .before .before .before .before .before .before .before .before .before .pre .0, c .before .before .before .before .before .before .before .before .before .before .before .before .before .pre .1)
 
--- src/lib.rt:370:25
 cast-starts : tie.Need-cast-starts Inv-loop μ-loop
 cast-starts c = omega (arith, c .before .before .before .before .before .before .before .before .loop .inv .near, c .before .before .before .before .before .before .before .before .loop .inv .read, c .before .before .before .before .before .before .before .before .before .before .before .before .before .pre .0, c .before .before .before .before .before .before .before .before .before .before .before .before .before .pre .1)
 
--- src/lib.rt:370:13
 mul-starts : tie.Need-mul-starts Inv-loop μ-loop
-mul-starts c = let b = pair-bound (c .before .before .before .before .before .before .before .before .before .before .before .before .before .args .pairs .now) (c .before .before .before .before .before .before .before .before .before .before .before .before .before .args .arena .now) (c .before .before .before .before .before .before .before .before .before .before .before .before .before .args .part .now) (c .before .before .before .before .before .before .before .before .before .before .before .before .before .args .at) (c .before .before .before .before .before .before .before .before .before .before .before .before .before .args .vars) (c .before .before .before .before .before .before .before .before .before .before .before .before .before .args .live) (record { n = c .before .before .before .before .before .before .before .before .loop .n; starts = c .before .before .before .before .before .before .before .before .loop .starts }) (c .before .before .before .before .before .before .before .before .loop .total) (c .before .before .before .before .before .before .before .before .loop .i) (c .before .before .before .before .before .before .before .before .loop .p) (c .before .before .before .before .before .before .before .before .loop .inv) (c .before .before .before .before .before .before .before .loop-test .taken) _ _ _ _ refl refl (c .before .before .before .start-in .ensures .0) (c .before .before .pair-words .ensures .0) (c .if2 .taken) (c .before .if1 .left) in omega (arith, b .0)
+mul-starts c = let b = pair-bound (c .before .before .before .before .before .before .before .before .before .before .before .before .before .args .pairs .now) (c .before .before .before .before .before .before .before .before .before .before .before .before .before .args .arena .now) (c .before .before .before .before .before .before .before .before .before .before .before .before .before .args .part .now) (c .before .before .before .before .before .before .before .before .before .before .before .before .before .args .at) (c .before .before .before .before .before .before .before .before .before .before .before .before .before .args .vars) (c .before .before .before .before .before .before .before .before .before .before .before .before .before .args .held) (record { n = c .before .before .before .before .before .before .before .before .loop .n; starts = c .before .before .before .before .before .before .before .before .loop .starts }) (c .before .before .before .before .before .before .before .before .loop .live) (c .before .before .before .before .before .before .before .before .loop .i) (c .before .before .before .before .before .before .before .before .loop .p) (c .before .before .before .before .before .before .before .before .loop .inv) (c .before .before .before .before .before .before .before .loop-test .taken) _ _ _ _ refl refl (c .before .before .before .start-in .ensures .0) (c .before .before .pair-words .ensures .0) (c .if2 .taken) (c .before .if1 .left) in omega (arith, b .0)
 
--- src/lib.rt:370:13
 array-write-starts : tie.Need-array-write-starts Inv-loop μ-loop
-array-write-starts c = let b = pair-bound (c .before .before .before .before .before .before .before .before .before .before .before .before .before .args .pairs .now) (c .before .before .before .before .before .before .before .before .before .before .before .before .before .args .arena .now) (c .before .before .before .before .before .before .before .before .before .before .before .before .before .args .part .now) (c .before .before .before .before .before .before .before .before .before .before .before .before .before .args .at) (c .before .before .before .before .before .before .before .before .before .before .before .before .before .args .vars) (c .before .before .before .before .before .before .before .before .before .before .before .before .before .args .live) (record { n = c .before .before .before .before .before .before .before .before .loop .n; starts = c .before .before .before .before .before .before .before .before .loop .starts }) (c .before .before .before .before .before .before .before .before .loop .total) (c .before .before .before .before .before .before .before .before .loop .i) (c .before .before .before .before .before .before .before .before .loop .p) (c .before .before .before .before .before .before .before .before .loop .inv) (c .before .before .before .before .before .before .before .loop-test .taken) _ _ _ _ refl refl (c .before .before .before .start-in .ensures .0) (c .before .before .pair-words .ensures .0) (c .if2 .taken) (c .before .if1 .left) in omega (arith, b .0, c .before .before .before .before .before .before .before .before .loop .inv .sound .room)
+array-write-starts c = let b = pair-bound (c .before .before .before .before .before .before .before .before .before .before .before .before .before .args .pairs .now) (c .before .before .before .before .before .before .before .before .before .before .before .before .before .args .arena .now) (c .before .before .before .before .before .before .before .before .before .before .before .before .before .args .part .now) (c .before .before .before .before .before .before .before .before .before .before .before .before .before .args .at) (c .before .before .before .before .before .before .before .before .before .before .before .before .before .args .vars) (c .before .before .before .before .before .before .before .before .before .before .before .before .before .args .held) (record { n = c .before .before .before .before .before .before .before .before .loop .n; starts = c .before .before .before .before .before .before .before .before .loop .starts }) (c .before .before .before .before .before .before .before .before .loop .live) (c .before .before .before .before .before .before .before .before .loop .i) (c .before .before .before .before .before .before .before .before .loop .p) (c .before .before .before .before .before .before .before .before .loop .inv) (c .before .before .before .before .before .before .before .loop-test .taken) _ _ _ _ refl refl (c .before .before .before .start-in .ensures .0) (c .before .before .pair-words .ensures .0) (c .if2 .taken) (c .before .if1 .left) in omega (arith, b .0, c .before .before .before .before .before .before .before .before .loop .inv .sound .room)
 
--- src/lib.rt:371:17
 add-n : tie.Need-add-n Inv-loop μ-loop
-add-n c = let b = pair-bound (c .before .before .before .before .before .before .before .before .before .before .before .before .before .args .pairs .now) (c .before .before .before .before .before .before .before .before .before .before .before .before .before .args .arena .now) (c .before .before .before .before .before .before .before .before .before .before .before .before .before .args .part .now) (c .before .before .before .before .before .before .before .before .before .before .before .before .before .args .at) (c .before .before .before .before .before .before .before .before .before .before .before .before .before .args .vars) (c .before .before .before .before .before .before .before .before .before .before .before .before .before .args .live) (record { n = c .before .before .before .before .before .before .before .before .loop .n; starts = c .before .before .before .before .before .before .before .before .loop .starts }) (c .before .before .before .before .before .before .before .before .loop .total) (c .before .before .before .before .before .before .before .before .loop .i) (c .before .before .before .before .before .before .before .before .loop .p) (c .before .before .before .before .before .before .before .before .loop .inv) (c .before .before .before .before .before .before .before .loop-test .taken) _ _ _ _ refl refl (c .before .before .before .start-in .ensures .0) (c .before .before .pair-words .ensures .0) (c .if2 .taken) (c .before .if1 .left) in omega (arith, b .0)
+add-n c = let b = pair-bound (c .before .before .before .before .before .before .before .before .before .before .before .before .before .args .pairs .now) (c .before .before .before .before .before .before .before .before .before .before .before .before .before .args .arena .now) (c .before .before .before .before .before .before .before .before .before .before .before .before .before .args .part .now) (c .before .before .before .before .before .before .before .before .before .before .before .before .before .args .at) (c .before .before .before .before .before .before .before .before .before .before .before .before .before .args .vars) (c .before .before .before .before .before .before .before .before .before .before .before .before .before .args .held) (record { n = c .before .before .before .before .before .before .before .before .loop .n; starts = c .before .before .before .before .before .before .before .before .loop .starts }) (c .before .before .before .before .before .before .before .before .loop .live) (c .before .before .before .before .before .before .before .before .loop .i) (c .before .before .before .before .before .before .before .before .loop .p) (c .before .before .before .before .before .before .before .before .loop .inv) (c .before .before .before .before .before .before .before .loop-test .taken) _ _ _ _ refl refl (c .before .before .before .start-in .ensures .0) (c .before .before .pair-words .ensures .0) (c .if2 .taken) (c .before .if1 .left) in omega (arith, b .0)
 
--- src/lib.rt:372:21
-add-total : tie.Need-add-total Inv-loop μ-loop
-add-total c = omega (arith, c .before .before .before .before .before .before .before .before .loop .inv .fits, c .before .before .pair-words .ensures .1)
+add-live : tie.Need-add-live Inv-loop μ-loop
+add-live c = omega (arith, c .before .before .before .before .before .before .before .before .loop .inv .fits, c .before .before .pair-words .ensures .1)
 
--- src/lib.rt:373:17
 add-p : tie.Need-add-p Inv-loop μ-loop
 add-p c = omega (arith, c .before .before .before .before .before .before .before .before .loop .inv .near, c .before .before .before .before .before .before .before .before .loop .inv .read, c .before .before .before .before .before .before .before .before .before .before .before .before .before .pre .0, c .before .before .pair-words .ensures .1)
 
--- src/lib.rt:374:17
 add-i : tie.Need-add-i Inv-loop μ-loop
 add-i c = omega (arith, c .before .before .before .before .before .before .before .before .loop .inv .read, c .before .before .before .before .before .before .before .loop-test .taken)
 
--- src/lib.rt:360:5
 loop-less : tie.Need-loop-less Inv-loop μ-loop
 loop-less c = omega (arith, c .before .before .before .before .before .before .before .before .loop .inv .read, c .before .before .before .before .before .before .before .loop-test .taken)
 
--- src/lib.rt:360:5
 loop-again : tie.Need-loop-again Inv-loop μ-loop
-loop-again c = pair-bound (c .before .before .before .before .before .before .before .before .before .before .before .before .before .args .pairs .now) (c .before .before .before .before .before .before .before .before .before .before .before .before .before .args .arena .now) (c .before .before .before .before .before .before .before .before .before .before .before .before .before .args .part .now) (c .before .before .before .before .before .before .before .before .before .before .before .before .before .args .at) (c .before .before .before .before .before .before .before .before .before .before .before .before .before .args .vars) (c .before .before .before .before .before .before .before .before .before .before .before .before .before .args .live) (record { n = c .before .before .before .before .before .before .before .before .loop .n; starts = c .before .before .before .before .before .before .before .before .loop .starts }) (c .before .before .before .before .before .before .before .before .loop .total) (c .before .before .before .before .before .before .before .before .loop .i) (c .before .before .before .before .before .before .before .before .loop .p) (c .before .before .before .before .before .before .before .before .loop .inv) (c .before .before .before .before .before .before .before .loop-test .taken) _ _ _ _ refl refl (c .before .before .before .start-in .ensures .0) (c .before .before .pair-words .ensures .0) (c .if2 .taken) (c .before .if1 .left) .1
+loop-again c = pair-bound (c .before .before .before .before .before .before .before .before .before .before .before .before .before .args .pairs .now) (c .before .before .before .before .before .before .before .before .before .before .before .before .before .args .arena .now) (c .before .before .before .before .before .before .before .before .before .before .before .before .before .args .part .now) (c .before .before .before .before .before .before .before .before .before .before .before .before .before .args .at) (c .before .before .before .before .before .before .before .before .before .before .before .before .before .args .vars) (c .before .before .before .before .before .before .before .before .before .before .before .before .before .args .held) (record { n = c .before .before .before .before .before .before .before .before .loop .n; starts = c .before .before .before .before .before .before .before .before .loop .starts }) (c .before .before .before .before .before .before .before .before .loop .live) (c .before .before .before .before .before .before .before .before .loop .i) (c .before .before .before .before .before .before .before .before .loop .p) (c .before .before .before .before .before .before .before .before .loop .inv) (c .before .before .before .before .before .before .before .loop-test .taken) _ _ _ _ refl refl (c .before .before .before .start-in .ensures .0) (c .before .before .pair-words .ensures .0) (c .if2 .taken) (c .before .if1 .left) .1
 
--- src/lib.rt:376:17
 add-p-2 : tie.Need-add-p-2 Inv-loop μ-loop
 add-p-2 c = omega (arith, c .before .before .before .before .before .before .before .before .loop .inv .near, c .before .before .before .before .before .before .before .before .loop .inv .read, c .before .before .before .before .before .before .before .before .before .before .before .before .before .pre .0, c .before .before .pair-words .ensures .1)
 
--- src/lib.rt:377:17
 add-i-2 : tie.Need-add-i-2 Inv-loop μ-loop
 add-i-2 c = omega (arith, c .before .before .before .before .before .before .before .before .loop .inv .read, c .before .before .before .before .before .before .before .loop-test .taken)
 
--- src/lib.rt:360:5
 loop-less-2 : tie.Need-loop-less-2 Inv-loop μ-loop
 loop-less-2 c = omega (arith, c .before .before .before .before .before .before .before .before .loop .inv .read, c .before .before .before .before .before .before .before .loop-test .taken)
 
--- src/lib.rt:360:5
 loop-again-2 : tie.Need-loop-again-2 Inv-loop μ-loop
-loop-again-2 c = pair-on (c .before .before .before .before .before .before .before .before .before .before .before .before .before .args .pairs .now) (c .before .before .before .before .before .before .before .before .before .before .before .before .before .args .arena .now) (c .before .before .before .before .before .before .before .before .before .before .before .before .before .args .part .now) (c .before .before .before .before .before .before .before .before .before .before .before .before .before .args .at) (c .before .before .before .before .before .before .before .before .before .before .before .before .before .args .vars) (c .before .before .before .before .before .before .before .before .before .before .before .before .before .args .live) (record { n = c .before .before .before .before .before .before .before .before .loop .n; starts = c .before .before .before .before .before .before .before .before .loop .starts }) (c .before .before .before .before .before .before .before .before .loop .total) (c .before .before .before .before .before .before .before .before .loop .i) (c .before .before .before .before .before .before .before .before .loop .p) (c .before .before .before .before .before .before .before .before .loop .inv) (c .before .before .before .before .before .before .before .loop-test .taken) _ _ _ _ refl refl (c .before .before .before .start-in .ensures .0) (c .before .before .pair-words .ensures .0) (c .if2 .left) (c .before .if1 .left)
+loop-again-2 c = pair-on (c .before .before .before .before .before .before .before .before .before .before .before .before .before .args .pairs .now) (c .before .before .before .before .before .before .before .before .before .before .before .before .before .args .arena .now) (c .before .before .before .before .before .before .before .before .before .before .before .before .before .args .part .now) (c .before .before .before .before .before .before .before .before .before .before .before .before .before .args .at) (c .before .before .before .before .before .before .before .before .before .before .before .before .before .args .vars) (c .before .before .before .before .before .before .before .before .before .before .before .before .before .args .held) (record { n = c .before .before .before .before .before .before .before .before .loop .n; starts = c .before .before .before .before .before .before .before .before .loop .starts }) (c .before .before .before .before .before .before .before .before .loop .live) (c .before .before .before .before .before .before .before .before .loop .i) (c .before .before .before .before .before .before .before .before .loop .p) (c .before .before .before .before .before .before .before .before .loop .inv) (c .before .before .before .before .before .before .before .loop-test .taken) _ _ _ _ refl refl (c .before .before .before .start-in .ensures .0) (c .before .before .pair-words .ensures .0) (c .if2 .left) (c .before .if1 .left)
 
--- src/lib.rt:344:1
 returns-2 : tie.Need-returns-2 Inv-loop μ-loop
-returns-2 c = going-end (c .before .before .before .before .before .before .args .pairs .now) (c .before .before .before .before .before .before .args .arena .now) (c .before .before .before .before .before .before .args .part .now) (c .before .before .before .before .before .before .args .at) (c .before .before .before .before .before .before .args .vars) (c .before .before .before .before .before .before .args .live) (record { n = c .before .loop .n; starts = c .before .loop .starts }) (c .before .loop .total) (c .before .loop .i) (c .before .loop .p) (c .before .loop .inv) (omega (arith, c .loop-test .left))
+returns-2 c = going-end (c .before .before .before .before .before .before .args .pairs .now) (c .before .before .before .before .before .before .args .arena .now) (c .before .before .before .before .before .before .args .part .now) (c .before .before .before .before .before .before .args .at) (c .before .before .before .before .before .before .args .vars) (c .before .before .before .before .before .before .args .held) (record { n = c .before .loop .n; starts = c .before .loop .starts }) (c .before .loop .live) (c .before .loop .i) (c .before .loop .p) (c .before .loop .inv) (omega (arith, c .loop-test .left))
 
 pub match-pattern-spec : {M : Type 1} → statement M
 match-pattern-spec =
@@ -144,7 +118,7 @@ match-pattern-spec =
     mul-starts
     array-write-starts
     add-n
-    add-total
+    add-live
     add-p
     add-i
     loop-less

@@ -19,83 +19,63 @@ Inv-loop heads part q p₀ above₀ sequence₀ i₀ p above sequence i = Descen
 abbrev μ-loop : tie.MeasureT-loop
 μ-loop heads part q p₀ above₀ sequence₀ i₀ p above sequence i = q - p
 
--- src/lib.rt:173:5
 loop-holds : tie.Need-loop-holds Inv-loop μ-loop
 loop-holds c = descent-start (c .before .args .heads .now) (c .before .args .part .now) (c .before .args .q) (c .before .pre)
 
--- src/lib.rt:174:17
 mul-w : tie.Need-mul-w Inv-loop μ-loop
 mul-w c = search needs
 
--- src/lib.rt:174:17
 shared-slice-read-w : tie.Need-shared-slice-read-w Inv-loop μ-loop
 shared-slice-read-w c = search needs
 
--- src/lib.rt:175:13
 size-in-requires : tie.Need-size-in-requires Inv-loop μ-loop
 size-in-requires c κs = search needs
 
--- src/lib.rt:176:23
 mul-end : tie.Need-mul-end Inv-loop μ-loop
 mul-end c = search needs
 
--- src/lib.rt:176:19
 add-end : tie.Need-add-end Inv-loop μ-loop
 add-end c = search needs
 
--- src/lib.rt:178:13
 returns : tie.Need-returns Inv-loop μ-loop
 returns c = (descent-none (c .before .before .before .before .before .before .args .heads .now) (c .before .before .before .before .before .before .args .part .now) (c .before .before .before .before .before .before .args .q) (c .before .before .before .before .loop .p) (c .before .before .before .before .loop .above) (c .before .before .before .before .loop .sequence) (c .before .before .before .before .loop .i) (c .before .before .before .before .loop .inv) _ (c .before .size-in .result) refl (c .before .size-in .ensures .0) (c .if1 .taken), omega arith)
 
--- src/lib.rt:182:17
 add-i : tie.Need-add-i Inv-loop μ-loop
 add-i c = search needs
 
--- src/lib.rt:173:5
 loop-less : tie.Need-loop-less Inv-loop μ-loop
 loop-less c = search needs
 
--- src/lib.rt:173:5
 loop-again : tie.Need-loop-again Inv-loop μ-loop
 loop-again c = descent-over (c .before .before .before .before .before .before .before .args .heads .now) (c .before .before .before .before .before .before .before .args .part .now) (c .before .before .before .before .before .before .before .args .q) (c .before .before .before .before .before .loop .p) (c .before .before .before .before .before .loop .above) (c .before .before .before .before .before .loop .sequence) (c .before .before .before .before .before .loop .i) (c .before .before .before .before .before .loop .inv) _ (c .before .before .size-in .result) refl (c .before .before .size-in .ensures .0) (c .before .if1 .left) (c .if2 .taken)
 
--- src/lib.rt:184:29
 level-requires : tie.Need-level-requires Inv-loop μ-loop
 level-requires c κs = search needs
 
--- src/lib.rt:184:21
 add-above : tie.Need-add-above Inv-loop μ-loop
 add-above c = search needs
 
--- src/lib.rt:185:51
 type-in-requires : tie.Need-type-in-requires Inv-loop μ-loop
 type-in-requires c κs = search needs
 
--- src/lib.rt:185:13
 is-sequence-requires : tie.Need-is-sequence-requires Inv-loop μ-loop
 is-sequence-requires c κs = search needs
 
--- src/lib.rt:187:17
 add-p : tie.Need-add-p Inv-loop μ-loop
 add-p c = search needs
 
--- src/lib.rt:173:5
 loop-less-2 : tie.Need-loop-less-2 Inv-loop μ-loop
 loop-less-2 c = search needs
 
--- src/lib.rt:173:5
 loop-again-2 : tie.Need-loop-again-2 Inv-loop μ-loop
 loop-again-2 c = descent-into (c .before .before .before .before .before .before .before .before .before .before .args .heads .now) (c .before .before .before .before .before .before .before .before .before .before .args .part .now) (c .before .before .before .before .before .before .before .before .before .before .args .q) (c .before .before .before .before .before .before .before .before .loop .p) (c .before .before .before .before .before .before .before .before .loop .above) (c .before .before .before .before .before .before .before .before .loop .sequence) (c .before .before .before .before .before .before .before .before .loop .i) (c .before .before .before .before .before .before .before .before .loop .inv) _ (c .before .before .before .before .before .size-in .result) _ _ _ refl (c .before .before .before .before .before .size-in .ensures .0) (c .before .type-in .ensures) (c .is-sequence .ensures) (c .before .before .before .before .before .before .before .loop-test .taken) (omega (arith, c .before .before .before .if2 .left)) (c .before .before .level .ensures .0) (c .before .before .level .ensures .1)
 
--- src/lib.rt:190:13
 level-requires-2 : tie.Need-level-requires-2 Inv-loop μ-loop
 level-requires-2 c κs = search needs
 
--- src/lib.rt:190:5
 add-result : tie.Need-add-result Inv-loop μ-loop
 add-result c = search needs
 
--- src/lib.rt:165:1
 returns-2 : tie.Need-returns-2 Inv-loop μ-loop
 returns-2 c = (descent-end (c .before .before .before .before .args .heads .now) (c .before .before .before .before .args .part .now) (c .before .before .before .before .args .q) (c .before .before .loop .p) (c .before .before .loop .above) (c .before .before .loop .sequence) (c .before .before .loop .i) (c .before .before .loop .inv) (omega (arith, c .before .loop-test .left)) _ (c .level2 .ensures .0), omega (arith, c .before .before .loop .inv .near, c .before .before .loop .inv .shallow, c .level2 .ensures .1))
 

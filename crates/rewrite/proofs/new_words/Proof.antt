@@ -10,35 +10,27 @@ use Rattle.rewrite.proofs.new_words.Lts as lts
 use Rattle.rewrite.proofs.size_in.Reads as size-in-reads
 use Rattle.rewrite.proofs.type_in.Reads as type-in-reads
 
--- src/lib.rt:279:8
 type-in-requires : tie.Need-type-in-requires
 type-in-requires c κs = search needs
 
--- src/lib.rt:280:9
 returns : tie.Need-returns
 returns c = (other (λ q. c .if1 .taken (c .before .type-in .ensures ∙ q)) refl, omega arith)
 
--- src/lib.rt:282:9
 size-in-requires : tie.Need-size-in-requires
 size-in-requires c κs = search needs
 
--- src/lib.rt:283:20
 add-if2 : tie.Need-add-if2
 add-if2 c = search needs
 
--- src/lib.rt:284:9
 returns-2 : tie.Need-returns-2
 returns-2 c = (over (sym (c .before .before .before .type-in .ensures) ∙ c .before .before .if1 .left) (omega (arith, c .if2 .taken, c .before .size-in .ensures .0)) refl, omega arith)
 
--- src/lib.rt:287:9
 returns-3 : tie.Need-returns-3
 returns-3 c = (past (sym (c .before .before .before .before .type-in .ensures) ∙ c .before .before .before .if1 .left) (omega (arith, c .before .if2 .left, c .before .before .size-in .ensures .0)) (c .if3 .taken) refl, omega arith)
 
--- src/lib.rt:289:5
 mul-result : tie.Need-mul-result
 mul-result c = search needs
 
--- src/lib.rt:275:1
 returns-4 : tie.Need-returns-4
 returns-4 c = (taken (sym (c .before .before .before .before .type-in .ensures) ∙ c .before .before .before .if1 .left) (omega (arith, c .before .if2 .left, c .before .before .size-in .ensures .0)) (omega (arith, c .if3 .left)) (ap (λ x. 2 * x) (c .before .before .size-in .ensures .0)), omega (arith, c .before .before .size-in .ensures .1))
 

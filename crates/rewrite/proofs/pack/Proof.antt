@@ -7,31 +7,24 @@ use Rattle.rewrite.proofs.pack.Reads as reads
 use Rattle.rewrite.proofs.pack.Lts as lts
 use Rattle.words.proofs.wide.Reads as wide-reads
 
--- src/lib.rt:56:13
 wide-requires : tie.Need-wide-requires
 wide-requires c κs = search needs
 
--- src/lib.rt:56:30
 mul-w : tie.Need-mul-w
 mul-w c = search needs
 
--- src/lib.rt:56:13
 add-w : tie.Need-add-w
 add-w c = search needs
 
--- src/lib.rt:56:39
 mul-w-2 : tie.Need-mul-w-2
 mul-w-2 c = search needs
 
--- src/lib.rt:56:13
 add-w-2 : tie.Need-add-w-2
 add-w-2 c = search needs
 
--- src/lib.rt:57:5
 cast-result : tie.Need-cast-result
 cast-result c = search needs
 
--- src/lib.rt:52:1
 returns : tie.Need-returns
 returns c = packed (c .before .args .t) _ (c .before .args .n) (c .before .args .k) _ (c .wide .ensures) refl
 

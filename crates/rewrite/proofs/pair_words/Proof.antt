@@ -14,91 +14,69 @@ use Rattle.rewrite.proofs.same_tree.Reads as same-tree-reads
 use Rattle.rewrite.proofs.size_in.Reads as size-in-reads
 use Rattle.rewrite.proofs.type_in.Reads as type-in-reads
 
--- src/lib.rt:307:21
 add-if1 : tie.Need-add-if1
 add-if1 c = search needs
 
--- src/lib.rt:308:9
 returns : tie.Need-returns
 returns c = (short (c .if1 .taken) refl, omega arith)
 
--- src/lib.rt:310:13
 mul-w : tie.Need-mul-w
 mul-w c = search needs
 
--- src/lib.rt:310:13
 shared-slice-read-w : tie.Need-shared-slice-read-w
 shared-slice-read-w c = search needs
 
--- src/lib.rt:312:9
 new-words-requires : tie.Need-new-words-requires
 new-words-requires c κs = search needs
 
--- src/lib.rt:312:9
 returns-2 : tie.Need-returns-2
 returns-2 c = (new (c .before .before .before .if1 .left) (c .before .if2 .taken) (c .new-words .ensures .0), c .new-words .ensures .1)
 
--- src/lib.rt:315:36
 mul-same-tree : tie.Need-mul-same-tree
 mul-same-tree c = search needs
 
--- src/lib.rt:315:36
 sub-same-tree : tie.Need-sub-same-tree
 sub-same-tree c = search needs
 
--- src/lib.rt:315:36
 part-same-tree-start : tie.Need-part-same-tree-start
 part-same-tree-start c = search needs
 
--- src/lib.rt:315:36
 part-same-tree-end : tie.Need-part-same-tree-end
 part-same-tree-end c = search needs
 
--- src/lib.rt:315:12
 same-tree-requires : tie.Need-same-tree-requires
 same-tree-requires c κs = search needs
 
--- src/lib.rt:316:24
 size-in-requires : tie.Need-size-in-requires
 size-in-requires c κs = search needs
 
--- src/lib.rt:316:20
 mul-result : tie.Need-mul-result
 mul-result c = search needs
 
--- src/lib.rt:316:13
 returns-3 : tie.Need-returns-3
 returns-3 c = (like (c .before .before .before .before .before .before .before .if1 .left) (c .before .before .before .before .before .if2 .left) (c .before .before .before .before .if3 .taken) (same-as (part-rest (c .before .before .before .before .before .before .before .before .before .before .args .p) (c .before .before .before .before .before .before .before .before .before .before .args .part .now)) (c .before .if4 .taken) (c .before .before .same-tree .ensures)) (ap (λ x. 2 * x) (c .size-in .ensures .0)), omega (arith, c .size-in .ensures .1))
 
--- src/lib.rt:318:9
 returns-4 : tie.Need-returns-4
 returns-4 c = (unlike (c .before .before .before .before .before .before .if1 .left) (c .before .before .before .before .if2 .left) (c .before .before .before .if3 .taken) (same-as (part-rest (c .before .before .before .before .before .before .before .before .before .args .p) (c .before .before .before .before .before .before .before .before .before .args .part .now)) (c .if4 .left) (c .before .same-tree .ensures)) refl, omega arith)
 
--- src/lib.rt:320:8
 type-in-requires : tie.Need-type-in-requires
 type-in-requires c κs = search needs
 
--- src/lib.rt:321:9
 returns-5 : tie.Need-returns-5
 returns-5 c = (type (c .before .before .before .before .before .if1 .left) (c .before .before .before .if2 .left) (c .before .before .if3 .left) (λ q. c .if5 .taken (c .before .type-in .ensures ∙ q)) refl, omega arith)
 
--- src/lib.rt:323:13
 add-if6 : tie.Need-add-if6
 add-if6 c = search needs
 
--- src/lib.rt:323:8
 mul-if6 : tie.Need-mul-if6
 mul-if6 c = search needs
 
--- src/lib.rt:323:8
 shared-slice-read-if6 : tie.Need-shared-slice-read-if6
 shared-slice-read-if6 c = search needs
 
--- src/lib.rt:324:9
 returns-6 : tie.Need-returns-6
 returns-6 c = (value (c .before .before .before .before .before .before .before .if1 .left) (c .before .before .before .before .before .if2 .left) (c .before .before .before .before .if3 .left) (sym (c .before .before .before .type-in .ensures) ∙ c .before .before .if5 .left) (c .if6 .taken) refl, omega arith)
 
--- src/lib.rt:294:1
 returns-7 : tie.Need-returns-7
 returns-7 c = (node (c .before .before .before .before .before .before .before .if1 .left) (c .before .before .before .before .before .if2 .left) (c .before .before .before .before .if3 .left) (sym (c .before .before .before .type-in .ensures) ∙ c .before .before .if5 .left) (c .if6 .left) refl, omega arith)
 

@@ -17,111 +17,84 @@ use Rattle.rewrite.proofs.size_in.Reads as size-in-reads
 use Rattle.words.proofs.copy_up.Reads as copy-up-reads
 use Rattle.words.proofs.move_down.Reads as move-down-reads
 
--- src/lib.rt:214:15
 mul-old : tie.Need-mul-old
 mul-old c = search needs
 
--- src/lib.rt:214:15
 slice-read-old : tie.Need-slice-read-old
 slice-read-old c = search needs
 
--- src/lib.rt:215:15
 mul-new : tie.Need-mul-new
 mul-new c = search needs
 
--- src/lib.rt:215:15
 slice-read-new : tie.Need-slice-read-new
 slice-read-new c = search needs
 
--- src/lib.rt:217:9
 move-down-requires : tie.Need-move-down-requires
 move-down-requires c κs = search needs
 
--- src/lib.rt:218:9
 same-length : tie.Need-same-length
 same-length c = search needs
 
--- src/lib.rt:218:9
 returns : tie.Need-returns
 returns c = put-same (c .before .before .before .before .before .before .before .before .args .heads .now) (c .before .before .before .before .before .before .before .before .args .rows .now) (c .before .before .before .before .before .before .before .before .args .w .now) (c .before .before .before .before .before .before .before .before .args .base) (c .before .before .before .before .before .before .before .before .args .place) (c .before .before .before .before .before .before .before .before .args .end) (c .before .before .before .before .before .before .before .before .args .from) (c .before .before .before .before .before .before .before .before .args .n) (c .before .before .before .before .before .before .before .before .pre .0) (c .before .before .before .before .before .before .before .before .pre .1) (c .before .before .before .before .before .before .before .before .pre .2) (c .before .before .before .before .before .before .before .before .pre .3) _ (sym (c .before .before .before .before .if1 .taken)) (c .before .before .move-down .ensures)
 
--- src/lib.rt:220:29
 size-in-requires : tie.Need-size-in-requires
 size-in-requires c κs = search needs
 
--- src/lib.rt:220:25
 mul-after : tie.Need-mul-after
 mul-after c = search needs
 
--- src/lib.rt:220:17
 add-after : tie.Need-add-after
 add-after c = search needs
 
--- src/lib.rt:222:9
 returns-2 : tie.Need-returns-2
 returns-2 c = put-not (c .before .before .before .before .before .before .args .heads .now) (c .before .before .before .before .before .before .args .rows .now) (c .before .before .before .before .before .before .args .w .now) (c .before .before .before .before .before .before .args .base) (c .before .before .before .before .before .before .args .place) (c .before .before .before .before .before .before .args .end) (c .before .before .before .before .before .before .args .from) (c .before .before .before .before .before .before .args .n) (c .before .before .before .before .before .before .pre .0) (c .before .before .before .before .before .before .pre .1) (c .before .before .before .before .before .before .pre .2) (c .before .before .before .before .before .before .pre .3) (omega (arith, c .if2 .taken, c .before .size-in .ensures .0))
 
--- src/lib.rt:225:30
 add-copy-up : tie.Need-add-copy-up
 add-copy-up c = search needs
 
--- src/lib.rt:225:5
 copy-up-requires : tie.Need-copy-up-requires
 copy-up-requires c κs = search needs
 
--- src/lib.rt:226:38
 add-move-down : tie.Need-add-move-down
 add-move-down c = search needs
 
--- src/lib.rt:226:5
 move-down-requires-2 : tie.Need-move-down-requires-2
 move-down-requires-2 c κs = search needs
 
--- src/lib.rt:227:8
 nesting-in-requires : tie.Need-nesting-in-requires
 nesting-in-requires c κs = search needs
 
--- src/lib.rt:227:27
 nesting-in-requires-2 : tie.Need-nesting-in-requires-2
 nesting-in-requires-2 c κs = search needs
 
--- src/lib.rt:228:38
 size-in-requires-2 : tie.Need-size-in-requires-2
 size-in-requires-2 c κs = search needs
 
--- src/lib.rt:228:52
 size-in-requires-3 : tie.Need-size-in-requires-3
 size-in-requires-3 c κs = search needs
 
--- src/lib.rt:228:9
 resize-above-requires : tie.Need-resize-above-requires
 resize-above-requires c κs = search needs
 
--- src/lib.rt:230:58
 add-mark-above : tie.Need-add-mark-above
 add-mark-above c = search needs
 
--- src/lib.rt:230:49
 add-mark-above-2 : tie.Need-add-mark-above-2
 add-mark-above-2 c = search needs
 
--- src/lib.rt:230:9
 mark-above-requires : tie.Need-mark-above-requires
 mark-above-requires c κs = search needs
 
--- src/lib.rt:201:1
 same-length-2 : tie.Need-same-length-2
 same-length-2 c = search needs
 
--- src/lib.rt:201:1
 returns-3 : tie.Need-returns-3
 returns-3 c = put-resized (c .before .before .before .before .before .before .before .before .before .before .before .before .before .before .before .before .before .before .before .before .before .before .before .args .heads .now) (c .before .before .before .before .before .before .before .before .before .before .before .before .before .before .before .before .before .before .before .before .before .before .before .args .rows .now) (c .before .before .before .before .before .before .before .before .before .before .before .before .before .before .before .before .before .before .before .before .before .before .before .args .w .now) (c .before .before .before .before .before .before .before .before .before .before .before .before .before .before .before .before .before .before .before .before .before .before .before .args .base) (c .before .before .before .before .before .before .before .before .before .before .before .before .before .before .before .before .before .before .before .before .before .before .before .args .place) (c .before .before .before .before .before .before .before .before .before .before .before .before .before .before .before .before .before .before .before .before .before .before .before .args .end) (c .before .before .before .before .before .before .before .before .before .before .before .before .before .before .before .before .before .before .before .before .before .before .before .args .from) (c .before .before .before .before .before .before .before .before .before .before .before .before .before .before .before .before .before .before .before .before .before .before .before .args .n) (c .before .before .before .before .before .before .before .before .before .before .before .before .before .before .before .before .before .before .before .before .before .before .before .pre .0) (c .before .before .before .before .before .before .before .before .before .before .before .before .before .before .before .before .before .before .before .before .before .before .before .pre .1) (c .before .before .before .before .before .before .before .before .before .before .before .before .before .before .before .before .before .before .before .before .before .before .before .pre .2) (c .before .before .before .before .before .before .before .before .before .before .before .before .before .before .before .before .before .before .before .before .before .before .before .pre .3) _ _ _ _ _ _ (ap (λ (k : ℕ). c .before .before .before .before .before .before .before .before .before .before .before .before .before .before .before .before .before .before .before .before .before .before .before .args .place + 2 * k) (c .before .before .before .before .before .before .before .before .before .before .before .before .before .before .before .before .before .before .size-in .ensures .0)) (omega (arith, c .before .before .before .before .before .before .before .before .before .before .before .before .before .before .before .before .before .if2 .left)) refl (c .before .before .before .before .before .before .before .before .before .before .before .move-down2 .ensures ∙ ap (λ (l : List ℕ). paste l (c .before .before .before .before .before .before .before .before .before .before .before .before .before .before .before .before .before .before .before .before .before .before .before .args .place) (drop (c .before .before .before .before .before .before .before .before .before .before .before .before .before .before .before .before .before .before .before .before .before .before .before .args .from) l) (c .before .before .before .before .before .before .before .before .before .before .before .before .before .before .before .before .before .before .before .before .before .before .before .args .n + (c .before .before .before .before .before .before .before .before .before .before .before .before .before .before .before .before .before .before .before .before .before .before .before .args .end - (c .before .before .before .before .before .before .before .before .before .before .before .before .before .before .before .before .before .before .before .before .before .before .before .args .place + 2 * c .before .before .before .before .before .before .before .before .before .before .before .before .before .before .before .before .before .before .size-in .result)))) (c .before .before .before .before .before .before .before .before .before .before .before .before .before .before .before .copy-up .ensures)) (c .before .before .before .before .size-in2 .ensures .0) (c .before .before .before .size-in3 .ensures .0) (sym (c .before .before .before .before .before .before .before .before .nesting-in .ensures .0) ∙ c .before .before .before .before .before .before .if3 .taken ∙ c .before .before .before .before .before .before .before .nesting-in2 .ensures .0) (c .before .before .resize-above .ensures)
 
--- src/lib.rt:201:1
 same-length-3 : tie.Need-same-length-3
 same-length-3 c = search needs
 
--- src/lib.rt:201:1
 returns-4 : tie.Need-returns-4
 returns-4 c = put-done (c .before .before .before .before .before .before .before .before .before .before .before .before .before .before .before .before .before .before .before .before .before .args .heads .now) (c .before .before .before .before .before .before .before .before .before .before .before .before .before .before .before .before .before .before .before .before .before .args .rows .now) (c .before .before .before .before .before .before .before .before .before .before .before .before .before .before .before .before .before .before .before .before .before .args .w .now) (c .before .before .before .before .before .before .before .before .before .before .before .before .before .before .before .before .before .before .before .before .before .args .base) (c .before .before .before .before .before .before .before .before .before .before .before .before .before .before .before .before .before .before .before .before .before .args .place) (c .before .before .before .before .before .before .before .before .before .before .before .before .before .before .before .before .before .before .before .before .before .args .end) (c .before .before .before .before .before .before .before .before .before .before .before .before .before .before .before .before .before .before .before .before .before .args .from) (c .before .before .before .before .before .before .before .before .before .before .before .before .before .before .before .before .before .before .before .before .before .args .n) (c .before .before .before .before .before .before .before .before .before .before .before .before .before .before .before .before .before .before .before .before .before .pre .0) (c .before .before .before .before .before .before .before .before .before .before .before .before .before .before .before .before .before .before .before .before .before .pre .1) (c .before .before .before .before .before .before .before .before .before .before .before .before .before .before .before .before .before .before .before .before .before .pre .2) (c .before .before .before .before .before .before .before .before .before .before .before .before .before .before .before .before .before .before .before .before .before .pre .3) _ _ _ _ (ap (λ (k : ℕ). c .before .before .before .before .before .before .before .before .before .before .before .before .before .before .before .before .before .before .before .before .before .args .place + 2 * k) (c .before .before .before .before .before .before .before .before .before .before .before .before .before .before .before .before .size-in .ensures .0)) (omega (arith, c .before .before .before .before .before .before .before .before .before .before .before .before .before .before .before .if2 .left)) refl (c .before .before .before .before .before .before .before .before .before .move-down2 .ensures ∙ ap (λ (l : List ℕ). paste l (c .before .before .before .before .before .before .before .before .before .before .before .before .before .before .before .before .before .before .before .before .before .args .place) (drop (c .before .before .before .before .before .before .before .before .before .before .before .before .before .before .before .before .before .before .before .before .before .args .from) l) (c .before .before .before .before .before .before .before .before .before .before .before .before .before .before .before .before .before .before .before .before .before .args .n + (c .before .before .before .before .before .before .before .before .before .before .before .before .before .before .before .before .before .before .before .before .before .args .end - (c .before .before .before .before .before .before .before .before .before .before .before .before .before .before .before .before .before .before .before .before .before .args .place + 2 * c .before .before .before .before .before .before .before .before .before .before .before .before .before .before .before .before .size-in .result)))) (c .before .before .before .before .before .before .before .before .before .before .before .before .before .copy-up .ensures)) (c .before .before .mark-above .ensures)
 

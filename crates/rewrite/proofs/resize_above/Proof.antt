@@ -15,83 +15,63 @@ Inv-loop w₀ base place was will p₀ w p = ResizeLoop w₀ w base place was wi
 abbrev μ-loop : tie.MeasureT-loop
 μ-loop w₀ base place was will p₀ w p = place - p
 
--- src/lib.rt:184:5
 loop-holds : tie.Need-loop-holds Inv-loop μ-loop
 loop-holds c = resize-start (c .before .args .w .now) (c .before .args .base) (c .before .args .place) (c .before .args .was) (c .before .args .will) (c .before .pre .0)
 
--- src/lib.rt:185:25
 mul-size-in : tie.Need-mul-size-in Inv-loop μ-loop
 mul-size-in c = search needs
 
--- src/lib.rt:185:25
 slice-read-size-in : tie.Need-slice-read-size-in Inv-loop μ-loop
 slice-read-size-in c = omega (arith, c .before .before .loop .inv .long, c .before .before .before .before .pre .1, c .before .loop-test .taken)
 
--- src/lib.rt:185:13
 size-in-requires : tie.Need-size-in-requires Inv-loop μ-loop
 size-in-requires c κs = search needs
 
--- src/lib.rt:186:23
 mul-end : tie.Need-mul-end Inv-loop μ-loop
 mul-end c = search needs
 
--- src/lib.rt:186:19
 add-end : tie.Need-add-end Inv-loop μ-loop
 add-end c = search needs
 
--- src/lib.rt:188:13
 same-length : tie.Need-same-length Inv-loop μ-loop
 same-length c = c .before .before .before .before .loop .inv .long
 
--- src/lib.rt:188:13
 returns : tie.Need-returns Inv-loop μ-loop
 returns c = resize-none (c .before .before .before .before .before .before .args .w .now) (c .before .before .before .before .loop .w) (c .before .before .before .before .before .before .args .base) (c .before .before .before .before .before .before .args .place) (c .before .before .before .before .before .before .args .was) (c .before .before .before .before .before .before .args .will) (c .before .before .before .before .loop .p) (c .before .before .before .before .loop .inv) (c .before .before .before .loop-test .taken) (c .before .before .before .before .before .before .pre .1) _ (c .before .size-in .ensures .0) (c .if1 .taken)
 
--- src/lib.rt:184:5
 loop-less : tie.Need-loop-less Inv-loop μ-loop
 loop-less c = search needs
 
--- src/lib.rt:184:5
 loop-again : tie.Need-loop-again Inv-loop μ-loop
 loop-again c = resize-over (c .before .before .before .before .before .before .before .args .w .now) (c .before .before .before .before .before .loop .w) (c .before .before .before .before .before .before .before .args .base) (c .before .before .before .before .before .before .before .args .place) (c .before .before .before .before .before .before .before .args .was) (c .before .before .before .before .before .before .before .args .will) (c .before .before .before .before .before .loop .p) (c .before .before .before .before .before .loop .inv) (c .before .before .before .before .loop-test .taken) (c .before .before .before .before .before .before .before .pre .1) _ (c .before .before .size-in .ensures .0) (c .if2 .taken)
 
--- src/lib.rt:193:28
 mul-resized : tie.Need-mul-resized Inv-loop μ-loop
 mul-resized c = search needs
 
--- src/lib.rt:193:28
 slice-read-resized : tie.Need-slice-read-resized Inv-loop μ-loop
 slice-read-resized c = omega (arith, c .before .before .before .before .before .before .loop .inv .long, c .before .before .before .before .before .before .before .before .pre .1, c .before .before .before .before .before .loop-test .taken)
 
--- src/lib.rt:193:20
 resized-requires : tie.Need-resized-requires Inv-loop μ-loop
 resized-requires c κs = search needs
 
--- src/lib.rt:193:13
 mul-w : tie.Need-mul-w Inv-loop μ-loop
 mul-w c = search needs
 
--- src/lib.rt:193:13
 slice-write-w : tie.Need-slice-write-w Inv-loop μ-loop
 slice-write-w c = omega (arith, c .before .before .before .before .before .before .before .loop .inv .long, c .before .before .before .before .before .before .before .before .before .pre .1, c .before .before .before .before .before .before .loop-test .taken)
 
--- src/lib.rt:194:17
 add-p : tie.Need-add-p Inv-loop μ-loop
 add-p c = search needs
 
--- src/lib.rt:184:5
 loop-less-2 : tie.Need-loop-less-2 Inv-loop μ-loop
 loop-less-2 c = search needs
 
--- src/lib.rt:184:5
 loop-again-2 : tie.Need-loop-again-2 Inv-loop μ-loop
 loop-again-2 c = resize-into (c .before .before .before .before .before .before .before .before .before .args .w .now) (c .before .before .before .before .before .before .before .loop .w) (c .before .before .before .before .before .before .before .before .before .args .base) (c .before .before .before .before .before .before .before .before .before .args .place) (c .before .before .before .before .before .before .before .before .before .args .was) (c .before .before .before .before .before .before .before .before .before .args .will) (c .before .before .before .before .before .before .before .loop .p) (c .before .before .before .before .before .before .before .loop .inv) (c .before .before .before .before .before .before .loop-test .taken) (c .before .before .before .before .before .before .before .before .before .pre .1) _ _ (c .before .before .before .before .size-in .ensures .0) (omega (arith, c .before .before .if2 .left)) (c .before .before .before .before .before .before .before .before .before .pre .2) (c .before .before .before .before .before .before .before .before .before .pre .3) (c .resized .ensures)
 
--- src/lib.rt:179:1
 same-length-2 : tie.Need-same-length-2 Inv-loop μ-loop
 same-length-2 c = c .before .loop .inv .long
 
--- src/lib.rt:179:1
 returns-2 : tie.Need-returns-2 Inv-loop μ-loop
 returns-2 c = resize-end (c .before .before .before .args .w .now) (c .before .loop .w) (c .before .before .before .args .base) (c .before .before .before .args .place) (c .before .before .before .args .was) (c .before .before .before .args .will) (c .before .loop .p) (c .before .loop .inv) (omega (arith, c .loop-test .left))
 

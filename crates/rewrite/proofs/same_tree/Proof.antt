@@ -12,71 +12,54 @@ use Rattle.rewrite.proofs.size_in.Reads as size-in-reads
 use Rattle.words.proofs.same.Reads as same-reads
 use Rattle.words.proofs.word.Reads as word-reads
 
--- src/lib.rt:124:25
 word-requires : tie.Need-word-requires
 word-requires c κs = search needs
 
--- src/lib.rt:124:17
 size-in-requires : tie.Need-size-in-requires
 size-in-requires c κs = search needs
 
--- src/lib.rt:124:13
 mul-n : tie.Need-mul-n
 mul-n c = search needs
 
--- src/lib.rt:125:25
 word-requires-2 : tie.Need-word-requires-2
 word-requires-2 c κs = search needs
 
--- src/lib.rt:125:17
 size-in-requires-2 : tie.Need-size-in-requires-2
 size-in-requires-2 c κs = search needs
 
--- src/lib.rt:125:13
 mul-m : tie.Need-mul-m
 mul-m c = search needs
 
--- src/lib.rt:126:15
 add-end : tie.Need-add-end
 add-end c = search needs
 
--- src/lib.rt:128:9
 returns : tie.Need-returns
 returns c = same-sizes (c .before .before .before .before .before .before .before .args .arena .now) (c .before .before .before .before .before .before .before .args .part .now) (c .before .before .before .before .before .before .before .args .start) _ _ _ _ (c .before .before .before .before .word .ensures) (c .before .before .word2 .ensures) (c .before .before .before .size-in .ensures .0) (c .before .size-in2 .ensures .0) (c .if1 .taken)
 
--- src/lib.rt:131:9
 returns-2 : tie.Need-returns-2
 returns-2 c = same-arena (c .before .before .before .before .before .before .before .before .args .arena .now) (c .before .before .before .before .before .before .before .before .args .part .now) (c .before .before .before .before .before .before .before .before .args .start) _ _ _ _ (c .before .before .before .before .before .word .ensures) (c .before .before .before .word2 .ensures) (c .before .before .before .before .size-in .ensures .0) (c .before .before .size-in2 .ensures .0) (c .if2 .taken)
 
--- src/lib.rt:134:9
 returns-3 : tie.Need-returns-3
 returns-3 c = same-part (c .before .before .before .before .before .before .before .before .before .args .arena .now) (c .before .before .before .before .before .before .before .before .before .args .part .now) (c .before .before .before .before .before .before .before .before .before .args .start) _ _ _ _ (c .before .before .before .before .before .before .word .ensures) (c .before .before .before .before .word2 .ensures) (c .before .before .before .before .before .size-in .ensures .0) (c .before .before .before .size-in2 .ensures .0) (c .if3 .taken)
 
--- src/lib.rt:136:17
 mul-same : tie.Need-mul-same
 mul-same c = search needs
 
--- src/lib.rt:136:17
 sub-same : tie.Need-sub-same
 sub-same c = search needs
 
--- src/lib.rt:136:17
 part-same-start : tie.Need-part-same-start
 part-same-start c = search needs
 
--- src/lib.rt:136:17
 part-same-end : tie.Need-part-same-end
 part-same-end c = search needs
 
--- src/lib.rt:136:37
 slice-aggregate-same : tie.Need-slice-aggregate-same
 slice-aggregate-same c = omega (arith, length-take (2 * c .before .before .before .before .before .size-in2 .result) (c .before .before .before .before .before .before .before .before .before .before .before .args .part .now), c .before .before .if3 .left)
 
--- src/lib.rt:136:5
 same-requires : tie.Need-same-requires
 same-requires c κs = search needs
 
--- src/lib.rt:120:1
 returns-4 : tie.Need-returns-4
 returns-4 c = same-words (c .before .before .before .before .before .before .before .before .before .before .before .before .args .arena .now) (c .before .before .before .before .before .before .before .before .before .before .before .before .args .part .now) (c .before .before .before .before .before .before .before .before .before .before .before .before .args .start) _ _ _ _ (c .before .before .before .before .before .before .before .before .before .word .ensures) (c .before .before .before .before .before .before .before .word2 .ensures) (c .before .before .before .before .before .before .before .before .size-in .ensures .0) (c .before .before .before .before .before .before .size-in2 .ensures .0) (c .before .before .before .before .before .if1 .left) _ (c .same .ensures)
 

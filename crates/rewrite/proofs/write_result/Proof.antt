@@ -16,75 +16,57 @@ Inv-loop part result₀ i₀ result i = WriteLoop part result₀ result i
 abbrev μ-loop : tie.MeasureT-loop
 μ-loop part result₀ i₀ result i = length part - i
 
--- src/lib.rt:170:5
 loop-holds : tie.Need-loop-holds Inv-loop μ-loop
 loop-holds c = write-start (c .before .before .args .part .now) (c .before .before .args .result .now)
 
--- src/lib.rt:170:16
 sub-loop : tie.Need-sub-loop Inv-loop μ-loop
 sub-loop c = c .loop .inv .inside
 
--- src/lib.rt:171:29
 mul-type-in : tie.Need-mul-type-in Inv-loop μ-loop
 mul-type-in c = search needs
 
--- src/lib.rt:171:29
 shared-slice-read-type-in : tie.Need-shared-slice-read-type-in Inv-loop μ-loop
 shared-slice-read-type-in c = omega (arith, c .before .loop-test .taken)
 
--- src/lib.rt:171:21
 type-in-requires : tie.Need-type-in-requires Inv-loop μ-loop
 type-in-requires c κs = search needs
 
--- src/lib.rt:171:9
 mul-result : tie.Need-mul-result Inv-loop μ-loop
 mul-result c = search needs
 
--- src/lib.rt:171:9
 slice-write-result : tie.Need-slice-write-result Inv-loop μ-loop
 slice-write-result c = omega (arith, c .before .before .before .loop .inv .long, c .before .before .before .before .before .before .pre, c .before .before .loop-test .taken)
 
--- src/lib.rt:172:30
 add-result : tie.Need-add-result Inv-loop μ-loop
 add-result c = search needs
 
--- src/lib.rt:172:25
 mul-result-2 : tie.Need-mul-result-2 Inv-loop μ-loop
 mul-result-2 c = search needs
 
--- src/lib.rt:172:25
 shared-slice-read-result : tie.Need-shared-slice-read-result Inv-loop μ-loop
 shared-slice-read-result c = omega (arith, c .before .before .before .loop-test .taken)
 
--- src/lib.rt:172:16
 add-result-2 : tie.Need-add-result-2 Inv-loop μ-loop
 add-result-2 c = search needs
 
--- src/lib.rt:172:9
 mul-result-3 : tie.Need-mul-result-3 Inv-loop μ-loop
 mul-result-3 c = search needs
 
--- src/lib.rt:172:9
 slice-write-result-2 : tie.Need-slice-write-result-2 Inv-loop μ-loop
 slice-write-result-2 c = omega (arith, c .before .before .before .before .loop .inv .long, c .before .before .before .before .before .before .before .pre, c .before .before .before .loop-test .taken, length-set (c .before .before .before .before .loop .result) (c .before .before .before .before .loop .i) (c .before .type-in .result))
 
--- src/lib.rt:173:13
 add-i : tie.Need-add-i Inv-loop μ-loop
 add-i c = search needs
 
--- src/lib.rt:170:5
 loop-less : tie.Need-loop-less Inv-loop μ-loop
 loop-less c = search needs
 
--- src/lib.rt:170:5
 loop-again : tie.Need-loop-again Inv-loop μ-loop
 loop-again c = write-more (c .before .before .before .before .before .before .before .args .part .now) (c .before .before .before .before .before .before .before .args .result .now) (c .before .before .before .before .loop .result) (c .before .before .before .before .loop .i) (c .before .before .before .before .loop .inv) (c .before .before .before .before .before .before .before .pre) (c .before .before .before .loop-test .taken) _ (c .before .type-in .ensures)
 
--- src/lib.rt:165:1
 same-length : tie.Need-same-length Inv-loop μ-loop
 same-length c = c .before .loop .inv .long
 
--- src/lib.rt:165:1
 returns : tie.Need-returns Inv-loop μ-loop
 returns c = write-end (c .before .before .before .before .args .part .now) (c .before .before .before .before .args .result .now) (c .before .loop .result) (c .before .loop .i) (c .before .loop .inv) (c .before .before .before .before .pre) (c .loop-test .left)
 

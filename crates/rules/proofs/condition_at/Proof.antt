@@ -7,11 +7,9 @@ use Rattle.rules.proofs.condition_at.Reads as reads
 use Rattle.rules.proofs.condition_at.Lts as lts
 use Rattle.rules.proofs.pairs_end.Reads as pairs-end-reads
 
--- src/lib.rt:649:9
 pairs-end-requires : tie.Need-pairs-end-requires
 pairs-end-requires c κs = search needs
 
--- src/lib.rt:646:1
 returns : tie.Need-returns
 returns c = ap (λ n. record { part = Condition (record { negated = c .before .before .args .negated; chain = c .before .before .args .chain }); next = n }) (c .pairs-end .ensures)
 

@@ -7,11 +7,9 @@ use Rattle.rules.proofs.construct_at.Reads as reads
 use Rattle.rules.proofs.construct_at.Lts as lts
 use Rattle.rules.proofs.pairs_end.Reads as pairs-end-reads
 
--- src/lib.rt:639:9
 pairs-end-requires : tie.Need-pairs-end-requires
 pairs-end-requires c κs = search needs
 
--- src/lib.rt:636:1
 returns : tie.Need-returns
 returns c = ap (λ n. record { part = Construct (record { built = c .before .before .args .built; replacement = c .before .before .args .replacement }); next = n }) (c .pairs-end .ensures)
 

@@ -8,15 +8,12 @@ use Rattle.rules.proofs.deconstruct_at.Reads as reads
 use Rattle.rules.proofs.deconstruct_at.Lts as lts
 use Rattle.rules.proofs.pairs_end.Reads as pairs-end-reads
 
--- src/lib.rt:623:19
 add-pattern : tie.Need-add-pattern
 add-pattern c = search needs
 
--- src/lib.rt:624:9
 pairs-end-requires : tie.Need-pairs-end-requires
 pairs-end-requires c κs = search needs
 
--- src/lib.rt:619:1
 returns : tie.Need-returns
 returns c = ap (λ n. record { part = Deconstruct (record { searches = c .before .before .args .searches; searched = c .before .before .args .searched; variable = c .before .before .args .variable; pattern = c .before .before .args .variable + 1 }); next = n }) (c .pairs-end .ensures)
 

@@ -9,39 +9,30 @@ use Rattle.rules.proofs.pairs_end.Lts as lts
 use Rattle.words.proofs.wide.Reads as wide-reads
 use Rattle.words.proofs.word.Reads as word-reads
 
--- src/lib.rt:609:9
 returns : tie.Need-returns
 returns c = end-past (c .before .before .args .ws .now) (c .before .before .args .p) (c .if1 .taken)
 
--- src/lib.rt:611:29
 word-requires : tie.Need-word-requires
 word-requires c κs = search needs
 
--- src/lib.rt:611:17
 wide-requires : tie.Need-wide-requires
 wide-requires c κs = search needs
 
--- src/lib.rt:611:13
 mul-n : tie.Need-mul-n
 mul-n c = search needs
 
--- src/lib.rt:612:8
 sub-if2 : tie.Need-sub-if2
 sub-if2 c = search needs
 
--- src/lib.rt:613:9
 returns-2 : tie.Need-returns-2
 returns-2 c = end-over (c .before .before .before .before .before .args .ws .now) (c .before .before .before .before .before .args .p) _ (c .before .wide .ensures ∙ c .before .before .word .ensures) (c .if2 .taken)
 
--- src/lib.rt:615:5
 add-result : tie.Need-add-result
 add-result c = search needs
 
--- src/lib.rt:615:5
 add-result-2 : tie.Need-add-result-2
 add-result-2 c = search needs
 
--- src/lib.rt:605:1
 returns-3 : tie.Need-returns-3
 returns-3 c = end-there (c .before .before .before .before .before .args .ws .now) (c .before .before .before .before .before .args .p) _ (c .before .wide .ensures ∙ c .before .before .word .ensures) (omega (arith, c .if2 .left))
 

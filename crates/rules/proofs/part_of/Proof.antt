@@ -10,115 +10,87 @@ use Rattle.rules.proofs.condition_at.Reads as condition-at-reads
 use Rattle.rules.proofs.construct_at.Reads as construct-at-reads
 use Rattle.rules.proofs.deconstruct_at.Reads as deconstruct-at-reads
 
--- src/lib.rt:660:9
 condition-at-requires : tie.Need-condition-at-requires
 condition-at-requires c κs = search needs
 
--- src/lib.rt:660:9
 returns : tie.Need-returns
 returns c = λ types q next e. found-short types (c .before .before .before .args .ws .now) (c .before .before .before .args .at) q next e (omega (arith, c .before .if1 .taken))
 
--- src/lib.rt:662:8
 sub-if2 : tie.Need-sub-if2
 sub-if2 c = search needs
 
--- src/lib.rt:663:9
 condition-at-requires-2 : tie.Need-condition-at-requires-2
 condition-at-requires-2 c κs = search needs
 
--- src/lib.rt:663:9
 returns-2 : tie.Need-returns-2
 returns-2 c = λ types q next e. found-short types (c .before .before .before .before .args .ws .now) (c .before .before .before .before .args .at) q next e (omega (arith, c .before .before .if1 .left, c .before .if2 .taken))
 
--- src/lib.rt:665:13
 mul-m : tie.Need-mul-m
 mul-m c = search needs
 
--- src/lib.rt:665:13
 shared-slice-read-m : tie.Need-shared-slice-read-m
 shared-slice-read-m c = search needs
 
--- src/lib.rt:667:45
 add-deconstruct-at : tie.Need-add-deconstruct-at
 add-deconstruct-at c = search needs
 
--- src/lib.rt:667:9
 deconstruct-at-requires : tie.Need-deconstruct-at-requires
 deconstruct-at-requires c κs = search needs
 
--- src/lib.rt:667:9
 returns-3 : tie.Need-returns-3
 returns-3 c = λ types q next e. found-read types (c .before .before .before .before .before .before .args .ws .now) (c .before .before .before .before .before .before .args .at) q next e (c .deconstruct-at .ensures ∙ found-apart (c .before .before .before .before .before .before .args .ws .now) (c .before .before .before .before .before .before .args .at) _ (c .before .if3 .taken) _ (omega arith))
 
--- src/lib.rt:670:44
 add-deconstruct-at-2 : tie.Need-add-deconstruct-at-2
 add-deconstruct-at-2 c = search needs
 
--- src/lib.rt:670:41
 mul-deconstruct-at : tie.Need-mul-deconstruct-at
 mul-deconstruct-at c = search needs
 
--- src/lib.rt:670:41
 shared-slice-read-deconstruct-at : tie.Need-shared-slice-read-deconstruct-at
 shared-slice-read-deconstruct-at c = search needs
 
--- src/lib.rt:670:53
 add-deconstruct-at-3 : tie.Need-add-deconstruct-at-3
 add-deconstruct-at-3 c = search needs
 
--- src/lib.rt:670:9
 deconstruct-at-requires-2 : tie.Need-deconstruct-at-requires-2
 deconstruct-at-requires-2 c κs = search needs
 
--- src/lib.rt:670:9
 returns-4 : tie.Need-returns-4
 returns-4 c = λ types q next e. found-read types (c .before .before .before .before .before .before .before .before .args .ws .now) (c .before .before .before .before .before .before .before .before .args .at) q next e (c .deconstruct-at2 .ensures ∙ found-searched (c .before .before .before .before .before .before .before .before .args .ws .now) (c .before .before .before .before .before .before .before .before .args .at) _ (c .before .before .if4 .taken) _ (omega arith))
 
--- src/lib.rt:673:36
 add-construct-at : tie.Need-add-construct-at
 add-construct-at c = search needs
 
--- src/lib.rt:673:33
 mul-construct-at : tie.Need-mul-construct-at
 mul-construct-at c = search needs
 
--- src/lib.rt:673:33
 shared-slice-read-construct-at : tie.Need-shared-slice-read-construct-at
 shared-slice-read-construct-at c = search needs
 
--- src/lib.rt:673:45
 add-construct-at-2 : tie.Need-add-construct-at-2
 add-construct-at-2 c = search needs
 
--- src/lib.rt:673:9
 construct-at-requires : tie.Need-construct-at-requires
 construct-at-requires c κs = search needs
 
--- src/lib.rt:673:9
 returns-5 : tie.Need-returns-5
 returns-5 c = λ types q next e. found-read types (c .before .before .before .before .before .before .before .before .before .args .ws .now) (c .before .before .before .before .before .before .before .before .before .args .at) q next e (c .construct-at .ensures ∙ found-built (c .before .before .before .before .before .before .before .before .before .args .ws .now) (c .before .before .before .before .before .before .before .before .before .args .at) _ (c .before .before .if5 .taken))
 
--- src/lib.rt:676:40
 add-condition-at : tie.Need-add-condition-at
 add-condition-at c = search needs
 
--- src/lib.rt:676:9
 condition-at-requires-3 : tie.Need-condition-at-requires-3
 condition-at-requires-3 c κs = search needs
 
--- src/lib.rt:676:9
 returns-6 : tie.Need-returns-6
 returns-6 c = λ types q next e. found-read types (c .before .before .before .before .before .before .before .before .before .args .ws .now) (c .before .before .before .before .before .before .before .before .before .args .at) q next e (c .condition-at3 .ensures ∙ found-tested (c .before .before .before .before .before .before .before .before .before .args .ws .now) (c .before .before .before .before .before .before .before .before .before .args .at) _ (c .before .if6 .taken))
 
--- src/lib.rt:678:28
 add-condition-at-2 : tie.Need-add-condition-at-2
 add-condition-at-2 c = search needs
 
--- src/lib.rt:678:5
 condition-at-requires-4 : tie.Need-condition-at-requires-4
 condition-at-requires-4 c κs = search needs
 
--- src/lib.rt:656:1
 returns-7 : tie.Need-returns-7
 returns-7 c = λ types q next e. found-read types (c .before .before .before .before .before .before .before .before .before .args .ws .now) (c .before .before .before .before .before .before .before .before .before .args .at) q next e (c .condition-at4 .ensures ∙ found-untested (c .before .before .before .before .before .before .before .before .before .args .ws .now) (c .before .before .before .before .before .before .before .before .before .args .at) _ (c .before .before .before .before .if3 .left) (c .before .before .before .if4 .left) (c .before .before .if5 .left) (c .before .if6 .left))
 

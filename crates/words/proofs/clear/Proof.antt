@@ -16,35 +16,27 @@ Inv-loop w₀ i₀ w i = (w ≡ paste w₀ 0 (zeros (length w₀)) i) × (i ≤ 
 abbrev μ-loop : tie.MeasureT-loop
 μ-loop w₀ i₀ w i = length w₀ - i
 
--- src/lib.rt:112:5
 loop-holds : tie.Need-loop-holds Inv-loop μ-loop
 loop-holds c = (paste-zero (c .args .w .now) 0 (zeros (length (c .args .w .now))), omega arith, refl)
 
--- src/lib.rt:113:9
 mul-w : tie.Need-mul-w Inv-loop μ-loop
 mul-w c = search needs
 
--- src/lib.rt:113:9
 slice-write-w : tie.Need-slice-write-w Inv-loop μ-loop
 slice-write-w c = search needs
 
--- src/lib.rt:114:9
 add-i : tie.Need-add-i Inv-loop μ-loop
 add-i c = search needs
 
--- src/lib.rt:112:5
 loop-less : tie.Need-loop-less Inv-loop μ-loop
 loop-less c = search needs
 
--- src/lib.rt:112:5
 loop-again : tie.Need-loop-again Inv-loop μ-loop
 loop-again c = let h : c .before .loop .i < length (c .before .before .args .w .now) = omega arith in (rw (c .before .loop .inv .0) (zero-turn (c .before .before .args .w .now) (c .before .loop .i) h), omega arith, simp length-set (c .before .loop .inv .2))
 
--- src/lib.rt:108:1
 same-length : tie.Need-same-length Inv-loop μ-loop
 same-length c = search needs
 
--- src/lib.rt:108:1
 returns : tie.Need-returns Inv-loop μ-loop
 returns c = c .before .loop .inv .0 ∙ zero-all (c .before .before .args .w .now) (c .before .loop .i) (omega arith)
 

@@ -16,51 +16,39 @@ Inv-loop w₀ from to n i₀ w i = (w ≡ paste w₀ to (drop from w₀) i) × (
 abbrev μ-loop : tie.MeasureT-loop
 μ-loop w₀ from to n i₀ w i = n - i
 
--- src/lib.rt:89:5
 loop-holds : tie.Need-loop-holds Inv-loop μ-loop
 loop-holds c = (paste-zero (c .args .w .now) (c .args .to) (drop (c .args .from) (c .args .w .now)), omega arith, refl)
 
--- src/lib.rt:90:23
 add-w : tie.Need-add-w Inv-loop μ-loop
 add-w c = search needs
 
--- src/lib.rt:90:21
 mul-w : tie.Need-mul-w Inv-loop μ-loop
 mul-w c = search needs
 
--- src/lib.rt:90:21
 slice-read-w : tie.Need-slice-read-w Inv-loop μ-loop
 slice-read-w c = search needs
 
--- src/lib.rt:90:11
 add-w-2 : tie.Need-add-w-2 Inv-loop μ-loop
 add-w-2 c = search needs
 
--- src/lib.rt:90:9
 mul-w-2 : tie.Need-mul-w-2 Inv-loop μ-loop
 mul-w-2 c = search needs
 
--- src/lib.rt:90:9
 slice-write-w : tie.Need-slice-write-w Inv-loop μ-loop
 slice-write-w c = search needs
 
--- src/lib.rt:91:9
 add-i : tie.Need-add-i Inv-loop μ-loop
 add-i c = search needs
 
--- src/lib.rt:89:5
 loop-less : tie.Need-loop-less Inv-loop μ-loop
 loop-less c = search needs
 
--- src/lib.rt:89:5
 loop-again : tie.Need-loop-again Inv-loop μ-loop
 loop-again c = (rw (c .before .before .loop .inv .0) (up-turn (c .before .before .before .args .w .now) (c .before .before .before .args .from) (c .before .before .before .args .to) (c .before .before .before .args .n) (c .before .before .loop .i) (c .before .before .before .pre .0) (c .before .before .before .pre .1) (c .before .loop-test .taken)), omega arith, simp length-set (c .before .before .loop .inv .2))
 
--- src/lib.rt:84:1
 same-length : tie.Need-same-length Inv-loop μ-loop
 same-length c = search needs
 
--- src/lib.rt:84:1
 returns : tie.Need-returns Inv-loop μ-loop
 returns c = let e : c .before .loop .i ≡ c .before .before .args .n = omega arith in rw e at (c .before .loop .inv .0)
 

@@ -6,31 +6,24 @@ use Rattle.words.proofs.read_in.Reads as reads
 use Rattle.words.proofs.read_in.Lts as lts
 use Rattle.words.proofs.read_word.Reads as read-word-reads
 
--- src/lib.rt:50:9
 read-word-requires : tie.Need-read-word-requires
 read-word-requires c κs = search needs
 
--- src/lib.rt:52:18
 enum-known-g : tie.Need-enum-known-g
 enum-known-g c = search needs
 
--- src/lib.rt:53:19
 enum-known-g-2 : tie.Need-enum-known-g-2
 enum-known-g-2 c = search needs
 
--- src/lib.rt:55:17
 returns : tie.Need-returns
 returns c = in-low (c .before .before .before .before .before .before .args .ends) (c .before .before .before .before .before .before .args .ws .now) (c .before .before .before .before .before .before .args .at) (c .before .before .before .before .before .before .args .fault) (c .before .before .before .before .before .before .args .low) (c .before .before .before .before .before .before .args .high) _ (c .before .before .before .before .read-word .ensures) (c .before .before .g2 .given .1) (c .if1 .taken)
 
--- src/lib.rt:58:17
 returns-2 : tie.Need-returns-2
 returns-2 c = in-high (c .before .before .before .before .before .before .before .args .ends) (c .before .before .before .before .before .before .before .args .ws .now) (c .before .before .before .before .before .before .before .args .at) (c .before .before .before .before .before .before .before .args .fault) (c .before .before .before .before .before .before .before .args .low) (c .before .before .before .before .before .before .before .args .high) _ (c .before .before .before .before .before .read-word .ensures) (c .before .before .before .g2 .given .1) (c .before .if1 .left) (c .if2 .taken)
 
--- src/lib.rt:47:1
 returns-3 : tie.Need-returns-3
 returns-3 c = in-bad (c .before .before .before .before .before .args .ends) (c .before .before .before .before .before .args .ws .now) (c .before .before .before .before .before .args .at) (c .before .before .before .before .before .args .fault) (c .before .before .before .before .before .args .low) (c .before .before .before .before .before .args .high) _ (c .before .before .before .read-word .ensures) (c .before .g .given .1)
 
--- src/lib.rt:47:1
 returns-4 : tie.Need-returns-4
 returns-4 c = in-there (c .before .before .before .before .before .before .before .args .ends) (c .before .before .before .before .before .before .before .args .ws .now) (c .before .before .before .before .before .before .before .args .at) (c .before .before .before .before .before .before .before .args .fault) (c .before .before .before .before .before .before .before .args .low) (c .before .before .before .before .before .before .before .args .high) _ (c .before .before .before .before .before .read-word .ensures) (c .before .before .before .g2 .given .1) (c .before .if1 .left) (c .if2 .left)
 

@@ -5,23 +5,18 @@ use Rattle.words.proofs.read_word.Tie as tie
 use Rattle.words.proofs.read_word.Reads as reads
 use Rattle.words.proofs.read_word.Lts as lts
 
--- src/lib.rt:39:17
 mul-w : tie.Need-mul-w
 mul-w c = search needs
 
--- src/lib.rt:39:17
 shared-slice-read-w : tie.Need-shared-slice-read-w
 shared-slice-read-w c = search needs
 
--- src/lib.rt:40:22
 add-t8 : tie.Need-add-t8
 add-t8 c = search needs
 
--- src/lib.rt:35:1
 returns : tie.Need-returns
 returns c = word-there (c .before .before .args .ends) (c .before .before .args .ws .now) (c .before .before .args .at) (c .before .if1 .taken)
 
--- src/lib.rt:35:1
 returns-2 : tie.Need-returns-2
 returns-2 c = word-ends (c .before .args .ends) (c .before .args .ws .now) (c .before .args .at) (c .if1 .left)
 

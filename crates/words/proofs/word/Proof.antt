@@ -9,19 +9,15 @@ use Rattle.words.proofs.word.Tie as tie
 use Rattle.words.proofs.word.Reads as reads
 use Rattle.words.proofs.word.Lts as lts
 
--- src/lib.rt:31:23
 mul-result : tie.Need-mul-result
 mul-result c = search needs
 
--- src/lib.rt:31:23
 shared-slice-read-result : tie.Need-shared-slice-read-result
 shared-slice-read-result c = search needs
 
--- src/lib.rt:28:1
 returns : tie.Need-returns
 returns c = search needs
 
--- src/lib.rt:28:1
 returns-2 : tie.Need-returns-2
 returns-2 c = sym (List·getD-eq-default (c .before .args .ws .now) 0 {n = c .before .args .i} (c .if1 .left))
 

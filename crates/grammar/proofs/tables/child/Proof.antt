@@ -10,59 +10,45 @@ use Rattle.grammar.proofs.tables.child.Lts as lts
 use Rattle.grammar.proofs.tables.narrow.Reads as narrow-reads
 use Rattle.words.proofs.wide.Reads as wide-reads
 
--- src/tables.rt:225:9
 returns : tie.Need-returns
 returns c = λ g rs. ap (λ l. getD l (c .before .args .i) 0) (sym (no-type g (c .before .args .rows .now) rs (c .before .args .t) (c .before .args .v) (c .if1 .taken)))
 
--- src/tables.rt:228:9
 returns-2 : tie.Need-returns-2
 returns-2 c = λ g rs. ap (λ l. getD l (c .before .before .args .i) 0) (sym (rs .values (c .before .before .args .t) (c .before .before .args .v) (c .if2 .taken)))
 
--- src/tables.rt:230:8
 wide-requires : tie.Need-wide-requires
 wide-requires c κs = search needs
 
--- src/tables.rt:231:9
 returns-3 : tie.Need-returns-3
 returns-3 c = λ g rs. child-out g (c .before .before .before .before .args .rows .now) rs (c .before .before .before .before .args .t) (c .before .before .before .before .args .v) (c .before .before .before .before .args .i) (omega (arith, c .before .wide .ensures, c .if3 .taken))
 
--- src/tables.rt:233:14
 wide-requires-2 : tie.Need-wide-requires-2
 wide-requires-2 c κs = search needs
 
--- src/tables.rt:233:14
 mul-j : tie.Need-mul-j
 mul-j c = search needs
 
--- src/tables.rt:233:36
 wide-requires-3 : tie.Need-wide-requires-3
 wide-requires-3 c κs = search needs
 
--- src/tables.rt:233:14
 add-j : tie.Need-add-j
 add-j c = search needs
 
--- src/tables.rt:233:13
 mul-j-2 : tie.Need-mul-j-2
 mul-j-2 c = search needs
 
--- src/tables.rt:233:59
 add-j-2 : tie.Need-add-j-2
 add-j-2 c = search needs
 
--- src/tables.rt:233:13
 add-j-3 : tie.Need-add-j-3
 add-j-3 c = search needs
 
--- src/tables.rt:234:12
 element-copy-out-narrow : tie.Need-element-copy-out-narrow
 element-copy-out-narrow c = search needs
 
--- src/tables.rt:234:5
 narrow-requires : tie.Need-narrow-requires
 narrow-requires c κs = search needs
 
--- src/tables.rt:221:1
 returns-4 : tie.Need-returns-4
 returns-4 c = λ g rs. c .narrow .ensures ∙ child-in g (c .before .before .before .before .before .before .before .before .args .rows .now) rs (c .before .before .before .before .before .before .before .before .args .t) (c .before .before .before .before .before .before .before .before .args .v) _ _ (c .before .before .before .before .before .before .before .before .args .i) (c .before .before .before .wide2 .ensures) (c .before .before .wide3 .ensures) (omega (arith, c .before .before .before .before .before .before .before .if1 .left)) (omega (arith, c .before .before .before .before .before .before .if2 .left)) (omega (arith, c .before .before .before .before .if3 .left, c .before .before .before .before .before .wide .ensures))
 

@@ -9,43 +9,33 @@ use Rattle.grammar.proofs.tables.child_count.Lts as lts
 use Rattle.grammar.proofs.tables.wide8.Reads as wide8-reads
 use Rattle.words.proofs.wide.Reads as wide-reads
 
--- src/tables.rt:84:9
 returns : tie.Need-returns
 returns c = none-counted (c .before .args .rows .now) (c .before .args .t) (c .before .args .v) (λ g rs. no-type g (c .before .args .rows .now) rs (c .before .args .t) (c .before .args .v) (c .if1 .taken))
 
--- src/tables.rt:87:9
 returns-2 : tie.Need-returns-2
 returns-2 c = none-counted (c .before .before .args .rows .now) (c .before .before .args .t) (c .before .before .args .v) (λ g rs. rs .values (c .before .before .args .t) (c .before .before .args .v) (c .if2 .taken))
 
--- src/tables.rt:89:14
 wide-requires : tie.Need-wide-requires
 wide-requires c κs = search needs
 
--- src/tables.rt:89:14
 mul-i : tie.Need-mul-i
 mul-i c = search needs
 
--- src/tables.rt:89:36
 wide-requires-2 : tie.Need-wide-requires-2
 wide-requires-2 c κs = search needs
 
--- src/tables.rt:89:14
 add-i : tie.Need-add-i
 add-i c = search needs
 
--- src/tables.rt:89:13
 mul-i-2 : tie.Need-mul-i-2
 mul-i-2 c = search needs
 
--- src/tables.rt:90:11
 element-copy-out-wide8 : tie.Need-element-copy-out-wide8
 element-copy-out-wide8 c = search needs
 
--- src/tables.rt:90:5
 wide8-requires : tie.Need-wide8-requires
 wide8-requires c κs = search needs
 
--- src/tables.rt:80:1
 returns-3 : tie.Need-returns-3
 returns-3 c = record { small = c .wide8 .ensures .1; count = λ g rs. c .wide8 .ensures .0 ∙ count-in g (c .before .before .before .before .before .before .args .rows .now) rs (c .before .before .before .before .before .before .args .t) (c .before .before .before .before .before .before .args .v) _ _ (c .before .before .before .wide .ensures) (c .before .before .wide2 .ensures) (omega (arith, c .before .before .before .before .before .if1 .left)) (omega (arith, c .before .before .before .before .if2 .left)) }
 

@@ -20,71 +20,54 @@ Inv-loop ws heads₀ rows₀ left₀ t₀ at₀ heads rows left t at = FillLoop 
 abbrev μ-loop : tie.MeasureT-loop
 μ-loop ws heads₀ rows₀ left₀ t₀ at₀ heads rows left t at = left
 
--- src/tables.rt:146:9
 word-requires : tie.Need-word-requires Inv-loop μ-loop
 word-requires c κs = search needs
 
--- src/tables.rt:149:5
 loop-holds : tie.Need-loop-holds Inv-loop μ-loop
 loop-holds c = fill-start (c .before .before .args .ws .now) _ (c .before .before .args .heads .now) (c .before .before .args .rows .now) _ (accepted-decoded (c .before .before .args .ws .now) (c .before .before .pre .0)) (c .word .ensures)
 
--- src/tables.rt:150:24
 word-requires-2 : tie.Need-word-requires-2 Inv-loop μ-loop
 word-requires-2 c κs = search needs
 
--- src/tables.rt:150:15
 mul-heads : tie.Need-mul-heads Inv-loop μ-loop
 mul-heads c = search needs
 
--- src/tables.rt:150:9
 mul-heads-2 : tie.Need-mul-heads-2 Inv-loop μ-loop
 mul-heads-2 c = search needs
 
--- src/tables.rt:150:9
 element-write-heads : tie.Need-element-write-heads Inv-loop μ-loop
 element-write-heads c = omega (arith, c .before .before .loop .inv .count, c .before .before .loop .inv .few, c .before .loop-test .taken)
 
--- src/tables.rt:151:28
 value-count-requires : tie.Need-value-count-requires Inv-loop μ-loop
 value-count-requires c κs = fill-record _ _ _ _ _ _ _ _ _ (c .before .before .loop .inv) (c .before .loop-test .taken)
 
--- src/tables.rt:151:15
 mul-heads-3 : tie.Need-mul-heads-3 Inv-loop μ-loop
 mul-heads-3 c = search needs
 
--- src/tables.rt:151:15
 add-heads : tie.Need-add-heads Inv-loop μ-loop
 add-heads c = search needs
 
--- src/tables.rt:151:9
 mul-heads-4 : tie.Need-mul-heads-4 Inv-loop μ-loop
 mul-heads-4 c = search needs
 
--- src/tables.rt:151:9
 element-write-heads-2 : tie.Need-element-write-heads-2 Inv-loop μ-loop
 element-write-heads-2 c = omega (arith, c .before .before .before .loop .inv .count, c .before .before .before .loop .inv .few, c .before .before .loop-test .taken)
 
--- src/tables.rt:152:9
 fill-rows-requires : tie.Need-fill-rows-requires Inv-loop μ-loop
 fill-rows-requires c κs = (omega (arith, c .before .before .before .before .loop .inv .count, c .before .before .before .before .loop .inv .few, c .before .before .before .loop-test .taken), c .before .before .before .before .loop .inv .few, fill-record _ _ _ _ _ _ _ _ _ (c .before .before .before .before .loop .inv) (c .before .before .before .loop-test .taken))
 
--- src/tables.rt:153:13
 add-t : tie.Need-add-t Inv-loop μ-loop
 add-t c = search needs
 
--- src/tables.rt:154:16
 sub-left : tie.Need-sub-left Inv-loop μ-loop
 sub-left c = search needs
 
--- src/tables.rt:149:5
 loop-less : tie.Need-loop-less Inv-loop μ-loop
 loop-less c = search needs
 
--- src/tables.rt:149:5
 loop-again : tie.Need-loop-again Inv-loop μ-loop
 loop-again c = fill-more _ _ _ _ _ _ _ _ _ (c .before .before .before .before .before .loop .inv) (c .before .before .before .before .loop-test .taken) _ _ _ _ _ _ (record-map (c .before .before .before .before .before .before .before .before .args .ws .now) (c .before .before .before .before .before .loop .at) (fill-record _ _ _ _ _ _ _ _ _ (c .before .before .before .before .before .loop .inv) (c .before .before .before .before .loop-test .taken)) _ _ (c .before .before .before .word2 .ensures) refl) (c .before .before .value-count .ensures) refl refl (c .fill-rows .ensures)
 
--- src/tables.rt:142:1
 returns : tie.Need-returns Inv-loop μ-loop
 returns c = let e = fill-end _ _ _ _ _ _ _ _ _ (c .before .loop .inv) (c .loop-test .left) in filled-tables (c .before .before .before .before .args .ws .now) _ (c .before .before .before .before .args .heads .now) (c .before .before .before .before .args .rows .now) _ _ (accepted-decoded (c .before .before .before .before .args .ws .now) (c .before .before .before .before .pre .0)) (c .before .before .before .before .pre .1) (c .before .before .before .before .pre .2) (e .1) (e .0)
 

@@ -17,47 +17,36 @@ Inv-loop ws at rows₀ base left₀ p₀ m₀ rows left p m = FormLoop ws at bas
 abbrev μ-loop : tie.MeasureT-loop
 μ-loop ws at rows₀ base left₀ p₀ m₀ rows left p m = left
 
--- src/tables.rt:68:9
 word-requires : tie.Need-word-requires Inv-loop μ-loop
 word-requires c κs = search needs
 
--- src/tables.rt:69:17
 add-p : tie.Need-add-p Inv-loop μ-loop
 add-p c = omega (arith, form-inside (c .before .before .args .ws .now) (c .before .before .args .at) (c .before .before .pre .2))
 
--- src/tables.rt:71:5
 loop-holds : tie.Need-loop-holds Inv-loop μ-loop
 loop-holds c = form-start (c .before .before .args .ws .now) (c .before .before .args .at) (c .before .before .args .base) (c .before .before .args .rows .now) _ (c .before .before .pre .2) (c .word .ensures)
 
--- src/tables.rt:72:13
 word-requires-2 : tie.Need-word-requires-2 Inv-loop μ-loop
 word-requires-2 c κs = search needs
 
--- src/tables.rt:73:9
 put-element-requires : tie.Need-put-element-requires Inv-loop μ-loop
 put-element-requires c κs = let f = form-element _ _ _ _ _ _ _ _ (c .before .before .before .loop .inv) (c .before .before .loop-test .taken) (c .before .before .before .before .before .before .pre .1) _ (c .before .word2 .ensures) in (c .before .before .before .before .before .before .pre .0, omega (arith, c .before .before .before .loop .inv .room, c .before .before .loop-test .taken), f .0)
 
--- src/tables.rt:74:13
 add-p-2 : tie.Need-add-p-2 Inv-loop μ-loop
 add-p-2 c = let f = form-element _ _ _ _ _ _ _ _ (c .before .before .before .before .loop .inv) (c .before .before .before .loop-test .taken) (c .before .before .before .before .before .before .before .pre .1) _ (c .before .before .word2 .ensures) in omega (arith, f .1)
 
--- src/tables.rt:75:16
 sub-left : tie.Need-sub-left Inv-loop μ-loop
 sub-left c = search needs
 
--- src/tables.rt:71:5
 loop-less : tie.Need-loop-less Inv-loop μ-loop
 loop-less c = search needs
 
--- src/tables.rt:71:5
 loop-again : tie.Need-loop-again Inv-loop μ-loop
 loop-again c = form-more _ _ _ _ _ _ _ _ (c .before .before .before .before .loop .inv) (c .before .before .before .loop-test .taken) _ _ _ (c .before .before .word2 .ensures) (c .put-element .ensures)
 
--- src/tables.rt:77:5
 put-requires : tie.Need-put-requires Inv-loop μ-loop
 put-requires c κs = (omega (arith, c .before .before .before .before .before .pre .0), omega (arith, c .before .before .loop .inv .room))
 
--- src/tables.rt:64:1
 returns : tie.Need-returns Inv-loop μ-loop
 returns c = form-end _ _ _ _ _ _ _ _ (c .before .before .before .loop .inv) (c .before .before .loop-test .left) _ (c .put .ensures)
 

@@ -15,43 +15,33 @@ Inv-loop ws start k t rows₀ left₀ v₀ at₀ rows left v at = FormsLoop ws t
 abbrev μ-loop : tie.MeasureT-loop
 μ-loop ws start k t rows₀ left₀ v₀ at₀ rows left v at = left
 
--- src/tables.rt:89:5
 loop-holds : tie.Need-loop-holds Inv-loop μ-loop
 loop-holds c = forms-start (c .before .args .ws .now) (c .before .args .t) (c .before .args .k) (c .before .args .start) (c .before .args .rows .now) (c .before .pre .3)
 
--- src/tables.rt:90:39
 mul-fill-form : tie.Need-mul-fill-form Inv-loop μ-loop
 mul-fill-form c = search needs
 
--- src/tables.rt:90:39
 add-fill-form : tie.Need-add-fill-form Inv-loop μ-loop
 add-fill-form c = search needs
 
--- src/tables.rt:90:38
 mul-fill-form-2 : tie.Need-mul-fill-form-2 Inv-loop μ-loop
 mul-fill-form-2 c = search needs
 
--- src/tables.rt:90:9
 fill-form-requires : tie.Need-fill-form-requires Inv-loop μ-loop
 fill-form-requires c κs = (omega (arith, c .before .before .loop .inv .count, c .before .before .before .before .pre .0, c .before .before .before .before .pre .1, c .before .loop-test .taken), c .before .before .before .before .pre .2, forms-form _ _ _ _ _ _ _ _ _ (c .before .before .loop .inv) (c .before .loop-test .taken))
 
--- src/tables.rt:91:13
 add-v : tie.Need-add-v Inv-loop μ-loop
 add-v c = search needs
 
--- src/tables.rt:92:16
 sub-left : tie.Need-sub-left Inv-loop μ-loop
 sub-left c = search needs
 
--- src/tables.rt:89:5
 loop-less : tie.Need-loop-less Inv-loop μ-loop
 loop-less c = search needs
 
--- src/tables.rt:89:5
 loop-again : tie.Need-loop-again Inv-loop μ-loop
 loop-again c = forms-more _ _ _ _ _ _ _ _ _ (c .before .before .before .loop .inv) (c .before .before .loop-test .taken) _ _ _ refl (c .fill-form .ensures)
 
--- src/tables.rt:82:1
 returns : tie.Need-returns Inv-loop μ-loop
 returns c = forms-end _ _ _ _ _ _ _ _ _ (c .before .loop .inv) (c .loop-test .left)
 

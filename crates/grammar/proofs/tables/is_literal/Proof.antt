@@ -4,11 +4,9 @@ use Rattle.grammar.proofs.tables.is_literal.Tie as tie
 use Rattle.grammar.proofs.tables.is_literal.Reads as reads
 use Rattle.grammar.proofs.tables.is_literal.Lts as lts
 
--- src/tables.rt:37:9
 returns : tie.Need-returns
 returns c = literal-low (c .before .args .e) (c .if1 .taken)
 
--- src/tables.rt:33:1
 returns-2 : tie.Need-returns-2
 returns-2 c = literal-high (c .before .args .e) (c .if1 .left)
 

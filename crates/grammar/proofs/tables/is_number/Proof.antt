@@ -6,11 +6,9 @@ use Rattle.grammar.proofs.tables.is_number.Reads as reads
 use Rattle.grammar.proofs.tables.is_number.Lts as lts
 use Rattle.grammar.proofs.tables.values.Reads as values-reads
 
--- src/tables.rt:75:9
 values-requires : tie.Need-values-requires
 values-requires c κs = search needs
 
--- src/tables.rt:72:1
 returns : tie.Need-returns
 returns c = λ g hs. number-by g (c .before .args .t) _ (hs .forms (c .before .args .t)) (c .values .ensures g hs)
 

@@ -6,11 +6,9 @@ use Rattle.grammar.proofs.tables.is_sequence.Reads as reads
 use Rattle.grammar.proofs.tables.is_sequence.Lts as lts
 use Rattle.grammar.proofs.tables.map_of.Reads as map-of-reads
 
--- src/tables.rt:67:9
 map-of-requires : tie.Need-map-of-requires
 map-of-requires c κs = search needs
 
--- src/tables.rt:64:1
 returns : tie.Need-returns
 returns c = λ g hs. sequence-by g (c .before .args .t) _ (c .map-of .ensures g hs)
 

@@ -6,27 +6,21 @@ use Rattle.grammar.proofs.tables.map_of.Reads as reads
 use Rattle.grammar.proofs.tables.map_of.Lts as lts
 use Rattle.words.proofs.wide.Reads as wide-reads
 
--- src/tables.rt:38:17
 wide-requires : tie.Need-wide-requires
 wide-requires c κs = search needs
 
--- src/tables.rt:38:17
 mul-i : tie.Need-mul-i
 mul-i c = search needs
 
--- src/tables.rt:39:16
 mul-result : tie.Need-mul-result
 mul-result c = search needs
 
--- src/tables.rt:39:16
 element-copy-out-result : tie.Need-element-copy-out-result
 element-copy-out-result c = search needs
 
--- src/tables.rt:39:9
 returns : tie.Need-returns
 returns c = λ g hs. map-in g (c .before .before .before .args .heads .now) hs (c .before .before .before .args .t) _ (c .before .wide .ensures) (c .before .before .if1 .taken)
 
--- src/tables.rt:34:1
 returns-2 : tie.Need-returns-2
 returns-2 c = λ g hs. map-out g (c .before .args .heads .now) hs (c .before .args .t) (c .if1 .left)
 

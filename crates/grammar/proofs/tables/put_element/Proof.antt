@@ -11,35 +11,27 @@ use Rattle.grammar.proofs.tables.is_literal.Reads as is-literal-reads
 use Rattle.grammar.proofs.tables.put.Reads as put-reads
 use Rattle.words.proofs.wide.Reads as wide-reads
 
--- src/tables.rt:55:9
 is-literal-requires : tie.Need-is-literal-requires
 is-literal-requires c κs = search needs
 
--- src/tables.rt:57:9
 returns : tie.Need-returns
 returns c = put-literal (c .before .before .args .rows .now) (c .before .before .args .base) (c .before .before .args .m) (c .before .before .args .e) _ (c .before .is-literal .ensures) (c .if1 .taken)
 
--- src/tables.rt:59:15
 add-put : tie.Need-add-put
 add-put c = search needs
 
--- src/tables.rt:59:15
 add-put-2 : tie.Need-add-put-2
 add-put-2 c = search needs
 
--- src/tables.rt:59:29
 wide-requires : tie.Need-wide-requires
 wide-requires c κs = search needs
 
--- src/tables.rt:59:5
 put-requires : tie.Need-put-requires
 put-requires c κs = (omega (arith, c .before .before .before .before .pre .0, c .before .before .before .before .pre .1), omega (arith, c .wide .ensures, type-small (c .before .before .before .before .args .e) _ (c .before .before .before .is-literal .ensures) (c .before .before .if1 .left) (c .before .before .before .before .pre .2)))
 
--- src/tables.rt:60:5
 add-result : tie.Need-add-result
 add-result c = search needs
 
--- src/tables.rt:51:1
 returns-2 : tie.Need-returns-2
 returns-2 c = put-type (c .before .before .before .before .before .args .rows .now) _ (c .before .before .before .before .before .args .base) (c .before .before .before .before .before .args .m) (c .before .before .before .before .before .args .e) _ _ (c .before .before .before .before .is-literal .ensures) (c .before .before .before .if1 .left) (c .before .wide .ensures) (c .put .ensures)
 

@@ -9,31 +9,24 @@ use Rattle.grammar.proofs.tables.value_count.Reads as reads
 use Rattle.grammar.proofs.tables.value_count.Lts as lts
 use Rattle.words.proofs.word.Reads as word-reads
 
--- src/tables.rt:127:9
 word-requires : tie.Need-word-requires
 word-requires c κs = search needs
 
--- src/tables.rt:128:29
 add-word : tie.Need-add-word
 add-word c = omega (arith, record-inside (c .before .before .args .ws .now) (c .before .before .args .at) (c .before .before .pre))
 
--- src/tables.rt:128:9
 word-requires-2 : tie.Need-word-requires-2
 word-requires-2 c κs = search needs
 
--- src/tables.rt:130:9
 returns : tie.Need-returns
 returns c = values-forms (c .before .before .before .before .args .ws .now) (c .before .before .before .before .args .at) (c .before .before .before .before .pre) _ _ (c .before .before .word .ensures) (c .before .word2 .ensures) (c .if1 .taken)
 
--- src/tables.rt:134:13
 returns-2 : tie.Need-returns-2
 returns-2 c = values-number (c .before .before .before .before .before .before .args .ws .now) (c .before .before .before .before .before .before .args .at) (c .before .before .before .before .before .before .pre) _ _ (c .before .before .before .before .word .ensures) (c .before .before .before .word2 .ensures) (c .before .if2 .taken) (c .if3 .taken)
 
--- src/tables.rt:136:9
 returns-3 : tie.Need-returns-3
 returns-3 c = values-name (c .before .before .before .before .before .before .args .ws .now) (c .before .before .before .before .before .before .args .at) (c .before .before .before .before .before .before .pre) _ _ (c .before .before .before .before .word .ensures) (c .before .before .before .word2 .ensures) (c .before .if2 .taken) (c .if3 .left)
 
--- src/tables.rt:123:1
 returns-4 : tie.Need-returns-4
 returns-4 c = values-two (c .before .before .before .before .before .args .ws .now) (c .before .before .before .before .before .args .at) (c .before .before .before .before .before .pre) _ _ (c .before .before .before .word .ensures) (c .before .before .word2 .ensures) (c .before .if1 .left) (c .if2 .left)
 

@@ -10,39 +10,30 @@ use Rattle.rewrite.proofs.mark_tree.Reads as mark-tree-reads
 use Rattle.rewrite.proofs.nesting_in.Reads as nesting-in-reads
 use Rattle.words.proofs.word.Reads as word-reads
 
--- src/arena.rt:122:21
 mul-end : tie.Need-mul-end
 mul-end c = search needs
 
--- src/arena.rt:122:15
 add-end : tie.Need-add-end
 add-end c = search needs
 
--- src/arena.rt:123:5
 mark-tree-requires : tie.Need-mark-tree-requires
 mark-tree-requires c κs = search needs
 
--- src/arena.rt:124:37
 word-requires : tie.Need-word-requires
 word-requires c κs = search needs
 
--- src/arena.rt:124:9
 nesting-in-requires : tie.Need-nesting-in-requires
 nesting-in-requires c κs = search needs
 
--- src/arena.rt:126:9
 same-length : tie.Need-same-length
 same-length c = search needs
 
--- src/arena.rt:126:9
 returns : tie.Need-returns
 returns c = closed-deep (c .before .before .before .before .before .before .before .before .before .args .heads .now) (c .before .before .before .before .before .before .before .before .before .args .rows .now) (c .before .before .before .before .before .before .before .before .before .args .w .now) _ (c .before .before .before .before .before .before .before .before .before .args .top) (c .before .before .before .before .before .before .before .before .before .args .n) (c .before .nesting-in .result) (c .before .before .before .before .before .before .before .before .before .pre .1) (c .before .before .before .before .before .before .mark-tree .ensures) (c .before .nesting-in .ensures .0 ∙ ap nestingIn (c .before .before .word .ensures)) (c .if1 .taken)
 
--- src/arena.rt:118:1
 same-length-2 : tie.Need-same-length-2
 same-length-2 c = search needs
 
--- src/arena.rt:118:1
 returns-2 : tie.Need-returns-2
 returns-2 c = closed-flat (c .before .before .before .before .before .before .before .before .before .args .heads .now) (c .before .before .before .before .before .before .before .before .before .args .rows .now) (c .before .before .before .before .before .before .before .before .before .args .w .now) _ (c .before .before .before .before .before .before .before .before .before .args .top) (c .before .before .before .before .before .before .before .before .before .args .n) (c .before .nesting-in .result) (c .before .before .before .before .before .before .before .before .before .pre .1) (c .before .before .before .before .before .before .mark-tree .ensures) (c .before .nesting-in .ensures .0 ∙ ap nestingIn (c .before .before .word .ensures)) (c .if1 .left)
 

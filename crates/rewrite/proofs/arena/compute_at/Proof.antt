@@ -7,51 +7,39 @@ use Rattle.rewrite.proofs.arena.compute_at.Lts as lts
 use Rattle.rewrite.proofs.operations.operate.Reads as operate-reads
 use Rattle.words.proofs.word.Reads as word-reads
 
--- src/arena.rt:170:28
 add-word : tie.Need-add-word
 add-word c = search needs
 
--- src/arena.rt:170:9
 word-requires : tie.Need-word-requires
 word-requires c κs = search needs
 
--- src/arena.rt:171:9
 operate-requires : tie.Need-operate-requires
 operate-requires c κs = search needs
 
--- src/arena.rt:173:31
 enum-told : tie.Need-enum-told
 enum-told c = search needs
 
--- src/arena.rt:174:20
 enum-known-r : tie.Need-enum-known-r
 enum-known-r c = search needs
 
--- src/arena.rt:175:15
 add-w : tie.Need-add-w
 add-w c = search needs
 
--- src/arena.rt:175:13
 mul-w : tie.Need-mul-w
 mul-w c = search needs
 
--- src/arena.rt:175:13
 slice-write-w : tie.Need-slice-write-w
 slice-write-w c = search needs
 
--- src/arena.rt:166:1
 same-length : tie.Need-same-length
 same-length c = search needs
 
--- src/arena.rt:166:1
 returns : tie.Need-returns
 returns c = computed-out (c .before .before .before .before .before .before .args .w .now) (c .before .before .before .before .before .before .args .base) (c .before .before .before .before .before .before .args .op) (c .before .before .before .before .before .before .args .b) (c .before .before .before .word .result) (c .before .before .operate .result) (c .before .before .before .word .ensures) (c .before .before .operate .ensures) (c .enum-told .given .1)
 
--- src/arena.rt:166:1
 same-length-2 : tie.Need-same-length-2
 same-length-2 c = search needs
 
--- src/arena.rt:166:1
 returns-2 : tie.Need-returns-2
 returns-2 c = computed-is (c .before .before .before .before .before .before .before .args .w .now) (c .before .before .before .before .before .before .before .args .base) (c .before .before .before .before .before .before .before .args .op) (c .before .before .before .before .before .before .before .args .b) (c .before .before .before .before .word .result) (c .before .before .before .operate .result) (c .before .before .before .before .word .ensures) (c .before .before .before .operate .ensures) (c .before .r .given .0 .0) (c .before .r .given .1)
 

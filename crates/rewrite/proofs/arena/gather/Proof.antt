@@ -18,75 +18,57 @@ Inv-loop w pairs at n bound places starts₀ total₀ count i₀ starts total i 
 abbrev μ-loop : tie.MeasureT-loop
 μ-loop w pairs at n bound places starts₀ total₀ count i₀ starts total i = count - i
 
--- src/arena.rt:97:9
 wide-requires : tie.Need-wide-requires Inv-loop μ-loop
 wide-requires c κs = search needs
 
--- src/arena.rt:99:5
 loop-holds : tie.Need-loop-holds Inv-loop μ-loop
 loop-holds c = gathering-start (c .before .before .before .before .args .w .now) (c .before .before .before .before .args .pairs .now) (c .before .before .before .before .args .at) (c .before .before .before .before .args .n) (c .before .before .before .before .args .vars) _ refl
 
--- src/arena.rt:102:13
 returns : tie.Need-returns Inv-loop μ-loop
 returns c = gathering-over (c .before .before .before .before .before .before .before .args .w .now) (c .before .before .before .before .before .before .before .args .pairs .now) (c .before .before .before .before .before .before .before .args .at) (c .before .before .before .before .before .before .before .args .n) (c .before .before .before .before .before .before .before .args .vars) (record { n = c .before .before .loop .i; starts = c .before .before .loop .starts }) (c .before .before .loop .total) (c .before .before .loop .i) (c .before .before .loop .inv) (c .if1 .taken) (omega (arith, c .before .loop-test .taken, c .before .before .before .wide .ensures))
 
--- src/arena.rt:104:77
 mul-word : tie.Need-mul-word Inv-loop μ-loop
 mul-word c = omega (arith, c .before .before .before .loop .inv .few)
 
--- src/arena.rt:104:72
 add-word : tie.Need-add-word Inv-loop μ-loop
 add-word c = omega (arith, c .before .before .before .loop .inv .few, c .before .before .before .before .before .before .before .before .pre .0)
 
--- src/arena.rt:104:72
 add-word-2 : tie.Need-add-word-2 Inv-loop μ-loop
 add-word-2 c = omega (arith, c .before .before .before .loop .inv .few, c .before .before .before .before .before .before .before .before .pre .0)
 
--- src/arena.rt:104:53
 word-requires : tie.Need-word-requires Inv-loop μ-loop
 word-requires c κs = search needs
 
--- src/arena.rt:104:13
 start-in-requires : tie.Need-start-in-requires Inv-loop μ-loop
 start-in-requires c κs = search needs
 
--- src/arena.rt:105:21
 cast-starts : tie.Need-cast-starts Inv-loop μ-loop
 cast-starts c = search needs
 
--- src/arena.rt:105:9
 mul-starts : tie.Need-mul-starts Inv-loop μ-loop
 mul-starts c = omega (arith, c .before .before .before .if1 .left)
 
--- src/arena.rt:105:9
 array-write-starts : tie.Need-array-write-starts Inv-loop μ-loop
 array-write-starts c = omega (arith, c .before .before .before .if1 .left, c .before .before .before .before .before .loop .inv .sound .room)
 
--- src/arena.rt:106:40
 word-requires-2 : tie.Need-word-requires-2 Inv-loop μ-loop
 word-requires-2 c κs = search needs
 
--- src/arena.rt:106:25
 size-in-requires : tie.Need-size-in-requires Inv-loop μ-loop
 size-in-requires c κs = search needs
 
--- src/arena.rt:106:17
 add-total : tie.Need-add-total Inv-loop μ-loop
 add-total c = omega (arith, c .before .before .before .before .before .before .before .loop .inv .small, c .before .before .before .before .before .before .before .loop .inv .few, c .size-in .ensures .1)
 
--- src/arena.rt:107:13
 add-i : tie.Need-add-i Inv-loop μ-loop
 add-i c = omega (arith, c .before .before .before .before .before .before .before .loop .inv .few)
 
--- src/arena.rt:99:5
 loop-less : tie.Need-loop-less Inv-loop μ-loop
 loop-less c = search needs
 
--- src/arena.rt:99:5
 loop-again : tie.Need-loop-again Inv-loop μ-loop
 loop-again c = gathering-more (c .before .before .before .before .before .before .before .before .before .before .before .before .args .w .now) (c .before .before .before .before .before .before .before .before .before .before .before .before .args .pairs .now) (c .before .before .before .before .before .before .before .before .before .before .before .before .args .at) (c .before .before .before .before .before .before .before .before .before .before .before .before .args .n) (c .before .before .before .before .before .before .before .before .before .before .before .before .args .vars) (record { n = c .before .before .before .before .before .before .before .loop .i; starts = c .before .before .before .before .before .before .before .loop .starts }) (c .before .before .before .before .before .before .before .loop .total) (c .before .before .before .before .before .before .before .loop .i) (c .before .before .before .before .before .before .before .loop .inv) (c .before .before .before .before .before .before .before .before .before .before .before .before .pre .1) (omega (arith, c .before .before .before .before .before .before .loop-test .taken, c .before .before .before .before .before .before .before .before .wide .ensures)) (c .before .before .before .before .before .if1 .left) (c .before .before .before .word .ensures) (c .before .before .start-in .ensures .0) refl (c .before .word2 .ensures) (c .size-in .ensures .0) (c .size-in .ensures .1)
 
--- src/arena.rt:89:1
 returns-2 : tie.Need-returns-2 Inv-loop μ-loop
 returns-2 c = gathering-end (c .before .before .before .before .before .before .args .w .now) (c .before .before .before .before .before .before .args .pairs .now) (c .before .before .before .before .before .before .args .at) (c .before .before .before .before .before .before .args .n) (c .before .before .before .before .before .before .args .vars) (record { n = c .before .loop .i; starts = c .before .loop .starts }) (c .before .loop .total) (c .before .loop .i) (c .before .loop .inv) (omega (arith, c .loop-test .left, c .before .before .wide .ensures))
 

@@ -11,75 +11,57 @@ use Rattle.rewrite.proofs.put_in_place.Reads as put-in-place-reads
 use Rattle.rewrite.proofs.size_in.Reads as size-in-reads
 use Rattle.words.proofs.word.Reads as word-reads
 
--- src/arena.rt:171:24
 mul-place : tie.Need-mul-place
 mul-place c = search needs
 
--- src/arena.rt:171:17
 add-place : tie.Need-add-place
 add-place c = search needs
 
--- src/arena.rt:172:22
 mul-end : tie.Need-mul-end
 mul-end c = search needs
 
--- src/arena.rt:172:15
 add-end : tie.Need-add-end
 add-end c = search needs
 
--- src/arena.rt:173:30
 word-requires : tie.Need-word-requires
 word-requires c κs = search needs
 
--- src/arena.rt:173:9
 size-in-requires : tie.Need-size-in-requires
 size-in-requires c κs = search needs
 
--- src/arena.rt:175:9
 same-length : tie.Need-same-length
 same-length c = search needs
 
--- src/arena.rt:175:9
 returns : tie.Need-returns
 returns c = replaced-none (c .before .before .before .before .before .args .heads .now) (c .before .before .before .before .before .args .rows .now) (c .before .before .before .before .before .args .w .now) (c .before .before .before .before .before .args .base) (c .before .before .before .before .before .args .n) (c .before .before .before .before .before .args .i) (c .before .before .before .before .before .args .from) (c .before .before .before .before .before .args .m) (c .before .size-in .result) (c .before .before .before .before .before .pre .0) (c .before .size-in .ensures .0 ∙ ap sizeIn (c .before .before .word .ensures)) (c .if1 .taken)
 
--- src/arena.rt:177:17
 add-nodes : tie.Need-add-nodes
 add-nodes c = search needs
 
--- src/arena.rt:179:9
 same-length-2 : tie.Need-same-length-2
 same-length-2 c = search needs
 
--- src/arena.rt:179:9
 returns-2 : tie.Need-returns-2
 returns-2 c = replaced-many (c .before .before .before .before .before .before .args .heads .now) (c .before .before .before .before .before .before .args .rows .now) (c .before .before .before .before .before .before .args .w .now) (c .before .before .before .before .before .before .args .base) (c .before .before .before .before .before .before .args .n) (c .before .before .before .before .before .before .args .i) (c .before .before .before .before .before .before .args .from) (c .before .before .before .before .before .before .args .m) (c .before .before .size-in .result) (c .before .before .before .before .before .before .pre .0) (c .before .before .size-in .ensures .0 ∙ ap sizeIn (c .before .before .before .word .ensures)) (c .if2 .taken)
 
--- src/arena.rt:181:8
 too-deep-requires : tie.Need-too-deep-requires
 too-deep-requires c κs = search needs
 
--- src/arena.rt:182:9
 same-length-3 : tie.Need-same-length-3
 same-length-3 c = search needs
 
--- src/arena.rt:182:9
 returns-3 : tie.Need-returns-3
 returns-3 c = replaced-deep (c .before .before .before .before .before .before .before .before .before .args .heads .now) (c .before .before .before .before .before .before .before .before .before .args .rows .now) (c .before .before .before .before .before .before .before .before .before .args .w .now) (c .before .before .before .before .before .before .before .before .before .args .base) (c .before .before .before .before .before .before .before .before .before .args .n) (c .before .before .before .before .before .before .before .before .before .args .i) (c .before .before .before .before .before .before .before .before .before .args .from) (c .before .before .before .before .before .before .before .before .before .args .m) (c .before .before .before .before .before .size-in .result) (c .before .before .before .before .before .before .before .before .before .pre .0) (c .before .before .before .before .before .size-in .ensures .0 ∙ ap sizeIn (c .before .before .before .before .before .before .word .ensures)) (c .before .before .before .if2 .left) (c .before .too-deep .result) (c .before .too-deep .ensures) (c .if3 .taken)
 
--- src/arena.rt:184:65
 mul-put-in-place : tie.Need-mul-put-in-place
 mul-put-in-place c = search needs
 
--- src/arena.rt:184:5
 put-in-place-requires : tie.Need-put-in-place-requires
 put-in-place-requires c κs = search needs
 
--- src/arena.rt:158:1
 same-length-4 : tie.Need-same-length-4
 same-length-4 c = search needs
 
--- src/arena.rt:158:1
 returns-4 : tie.Need-returns-4
 returns-4 c = replaced-done (c .before .before .before .before .before .before .before .before .before .before .before .before .before .args .heads .now) (c .before .before .before .before .before .before .before .before .before .before .before .before .before .args .rows .now) (c .before .before .before .before .before .before .before .before .before .before .before .before .before .args .w .now) (c .before .before .before .before .before .before .before .before .before .before .before .before .before .args .base) (c .before .before .before .before .before .before .before .before .before .before .before .before .before .args .n) (c .before .before .before .before .before .before .before .before .before .before .before .before .before .args .i) (c .before .before .before .before .before .before .before .before .before .before .before .before .before .args .from) (c .before .before .before .before .before .before .before .before .before .before .before .before .before .args .m) (c .before .before .before .before .before .before .before .before .before .size-in .result) (c .before .before .before .before .before .before .before .before .before .before .before .before .before .pre .0) (c .before .before .before .before .before .before .before .before .before .size-in .ensures .0 ∙ ap sizeIn (c .before .before .before .before .before .before .before .before .before .before .word .ensures)) (c .before .before .before .before .before .before .before .if2 .left) (c .before .before .before .before .before .too-deep .result) (c .before .before .before .before .before .too-deep .ensures) (c .before .before .before .before .if3 .left) _ (c .before .before .put-in-place .ensures)
 

@@ -10,75 +10,57 @@ use Rattle.rewrite.proofs.nesting_at.Reads as nesting-at-reads
 use Rattle.rewrite.proofs.nesting_in.Reads as nesting-in-reads
 use Rattle.words.proofs.word.Reads as word-reads
 
--- src/arena.rt:147:24
 mul-place : tie.Need-mul-place
 mul-place c = search needs
 
--- src/arena.rt:147:17
 add-place : tie.Need-add-place
 add-place c = search needs
 
--- src/arena.rt:148:22
 mul-end : tie.Need-mul-end
 mul-end c = search needs
 
--- src/arena.rt:148:15
 add-end : tie.Need-add-end
 add-end c = search needs
 
--- src/arena.rt:149:37
 word-requires : tie.Need-word-requires
 word-requires c κs = search needs
 
--- src/arena.rt:149:9
 nesting-in-requires : tie.Need-nesting-in-requires
 nesting-in-requires c κs = search needs
 
--- src/arena.rt:150:37
 word-requires-2 : tie.Need-word-requires-2
 word-requires-2 c κs = search needs
 
--- src/arena.rt:150:19
 nesting-in-requires-2 : tie.Need-nesting-in-requires-2
 nesting-in-requires-2 c κs = search needs
 
--- src/arena.rt:151:9
 returns : tie.Need-returns
 returns c = deep-not (c .before .before .before .before .before .before .args .heads .now) (c .before .before .before .before .before .before .args .w .now) (c .before .before .before .before .before .before .args .base) (c .before .before .before .before .before .before .args .n) (c .before .before .before .before .before .before .args .i) (c .before .before .before .before .before .before .args .from) (c .before .before .before .nesting-in .result) (c .before .before .before .before .before .before .pre .0) (c .before .before .before .nesting-in .ensures .0 ∙ ap nestingIn (c .before .before .before .before .word .ensures)) (c .before .nesting-in2 .result) (c .before .nesting-in2 .ensures .0 ∙ ap nestingIn (c .before .before .word2 .ensures)) (c .if1 .taken)
 
--- src/arena.rt:153:42
 mul-nesting-at : tie.Need-mul-nesting-at
 mul-nesting-at c = search needs
 
--- src/arena.rt:153:42
 sub-nesting-at : tie.Need-sub-nesting-at
 sub-nesting-at c = search needs
 
--- src/arena.rt:153:42
 part-nesting-at-start : tie.Need-part-nesting-at-start
 part-nesting-at-start c = search needs
 
--- src/arena.rt:153:42
 part-nesting-at-end : tie.Need-part-nesting-at-end
 part-nesting-at-end c = search needs
 
--- src/arena.rt:153:57
 sub-nesting-at-2 : tie.Need-sub-nesting-at-2
 sub-nesting-at-2 c = search needs
 
--- src/arena.rt:153:9
 nesting-at-requires : tie.Need-nesting-at-requires
 nesting-at-requires c κs = search needs
 
--- src/arena.rt:154:5
 add-result : tie.Need-add-result
 add-result c = search needs
 
--- src/arena.rt:154:24
 add-result-2 : tie.Need-add-result-2
 add-result-2 c = search needs
 
--- src/arena.rt:136:1
 returns-2 : tie.Need-returns-2
 returns-2 c = deep-by (c .before .before .before .before .before .before .before .before .args .heads .now) (c .before .before .before .before .before .before .before .before .args .w .now) (c .before .before .before .before .before .before .before .before .args .base) (c .before .before .before .before .before .before .before .before .args .n) (c .before .before .before .before .before .before .before .before .args .i) (c .before .before .before .before .before .before .before .before .args .from) (c .before .before .before .before .before .nesting-in .result) (c .before .before .before .before .before .before .before .before .pre .0) (c .before .before .before .before .before .nesting-in .ensures .0 ∙ ap nestingIn (c .before .before .before .before .before .before .word .ensures)) (c .nesting-at .result) (c .nesting-at .ensures .0)
 

@@ -17,139 +17,105 @@ Inv-loop pairs part live total₀ i₀ p₀ total i p = Clashing pairs part live
 abbrev μ-loop : tie.MeasureT-loop
 μ-loop pairs part live total₀ i₀ p₀ total i p = length pairs - i
 
--- src/candidates.rt:25:5
 loop-holds : tie.Need-loop-holds Inv-loop μ-loop
 loop-holds c = clashing-start (c .before .before .args .pairs .now) (c .before .before .args .part .now) (c .before .before .args .live) (c .before .before .pre .1)
 
--- src/candidates.rt:25:16
 sub-loop : tie.Need-sub-loop Inv-loop μ-loop
 sub-loop c = omega (arith, c .loop .inv .read)
 
--- src/candidates.rt:26:25
 add-if1 : tie.Need-add-if1 Inv-loop μ-loop
 add-if1 c = omega (arith, c .before .loop .inv .near, c .before .loop .inv .read, c .before .before .before .before .pre .0)
 
--- src/candidates.rt:27:13
 returns : tie.Need-returns Inv-loop μ-loop
 returns c = λ e. let z : _≡_ {A = ℕ} 0 1 = cc in absurd (omega arith)
 
--- src/candidates.rt:29:17
 mul-t : tie.Need-mul-t Inv-loop μ-loop
 mul-t c = search needs
 
--- src/candidates.rt:29:17
 shared-slice-read-t : tie.Need-shared-slice-read-t Inv-loop μ-loop
 shared-slice-read-t c = omega (arith, c .before .before .before .loop .inv .read, c .before .before .loop-test .taken)
 
--- src/candidates.rt:30:23
 add-v : tie.Need-add-v Inv-loop μ-loop
 add-v c = omega (arith, c .before .before .before .loop .inv .read, c .before .before .loop-test .taken)
 
--- src/candidates.rt:30:17
 mul-v : tie.Need-mul-v Inv-loop μ-loop
 mul-v c = search needs
 
--- src/candidates.rt:30:17
 shared-slice-read-v : tie.Need-shared-slice-read-v Inv-loop μ-loop
 shared-slice-read-v c = omega (arith, c .before .before .before .before .loop .inv .read, c .before .before .before .loop-test .taken)
 
--- src/candidates.rt:31:17
 mul-w : tie.Need-mul-w Inv-loop μ-loop
 mul-w c = search needs
 
--- src/candidates.rt:31:17
 shared-slice-read-w : tie.Need-shared-slice-read-w Inv-loop μ-loop
 shared-slice-read-w c = omega (arith, c .before .before .before .if1 .left)
 
--- src/candidates.rt:33:16
 type-in-requires : tie.Need-type-in-requires Inv-loop μ-loop
 type-in-requires c κs = search needs
 
--- src/candidates.rt:34:17
 returns-2 : tie.Need-returns-2 Inv-loop μ-loop
 returns-2 c = λ e. clashing-other (c .before .before .before .before .before .before .before .before .before .before .before .args .pairs .now) (c .before .before .before .before .before .before .before .before .before .before .before .args .part .now) (c .before .before .before .before .before .before .before .before .before .before .before .args .live) (c .before .before .before .before .before .before .before .before .loop .total) (c .before .before .before .before .before .before .before .before .loop .i) (c .before .before .before .before .before .before .before .before .loop .p) (c .before .before .before .before .before .before .before .before .loop .inv) (c .before .before .before .before .before .before .before .loop-test .taken) (c .before .before .before .before .before .before .if1 .left) _ refl (c .before .before .if2 .taken) (λ q. c .if3 .taken (c .before .type-in .ensures ∙ q))
 
--- src/candidates.rt:36:17
 size-in-requires : tie.Need-size-in-requires Inv-loop μ-loop
 size-in-requires c κs = search needs
 
--- src/candidates.rt:37:28
 add-if4 : tie.Need-add-if4 Inv-loop μ-loop
 add-if4 c = omega (arith, c .before .before .before .before .before .before .before .before .before .loop .inv .fits, c .size-in .ensures .1)
 
--- src/candidates.rt:38:17
 returns-3 : tie.Need-returns-3 Inv-loop μ-loop
 returns-3 c = λ e. let z : _≡_ {A = ℕ} 0 1 = cc in absurd (omega arith)
 
--- src/candidates.rt:40:21
 add-total : tie.Need-add-total Inv-loop μ-loop
 add-total c = omega (arith, c .before .before .before .before .before .before .before .before .before .before .loop .inv .fits, c .before .size-in .ensures .1)
 
--- src/candidates.rt:41:21
 mul-p : tie.Need-mul-p Inv-loop μ-loop
 mul-p c = search needs
 
--- src/candidates.rt:41:17
 add-p : tie.Need-add-p Inv-loop μ-loop
 add-p c = omega (arith, c .before .before .before .before .before .before .before .before .before .before .loop .inv .near, c .before .before .before .before .before .before .before .before .before .before .loop .inv .read, c .before .before .before .before .before .before .before .before .before .before .before .before .before .pre .0, c .before .size-in .ensures .1)
 
--- src/candidates.rt:42:17
 add-i : tie.Need-add-i Inv-loop μ-loop
 add-i c = omega (arith, c .before .before .before .before .before .before .before .before .before .before .loop .inv .read, c .before .before .before .before .before .before .before .before .before .loop-test .taken)
 
--- src/candidates.rt:25:5
 loop-less : tie.Need-loop-less Inv-loop μ-loop
 loop-less c = omega (arith, c .before .before .before .before .before .before .before .before .before .before .loop .inv .read, c .before .before .before .before .before .before .before .before .before .loop-test .taken)
 
--- src/candidates.rt:25:5
 loop-again : tie.Need-loop-again Inv-loop μ-loop
 loop-again c = clashing-new (c .before .before .before .before .before .before .before .before .before .before .before .before .before .args .pairs .now) (c .before .before .before .before .before .before .before .before .before .before .before .before .before .args .part .now) (c .before .before .before .before .before .before .before .before .before .before .before .before .before .args .live) (c .before .before .before .before .before .before .before .before .before .before .loop .total) (c .before .before .before .before .before .before .before .before .before .before .loop .i) (c .before .before .before .before .before .before .before .before .before .before .loop .p) (c .before .before .before .before .before .before .before .before .before .before .loop .inv) (c .before .before .before .before .before .before .before .before .before .loop-test .taken) (c .before .before .before .before .before .before .before .before .if1 .left) _ refl (c .before .before .before .before .if2 .taken) (sym (c .before .before .before .type-in .ensures) ∙ c .before .before .if3 .left) _ (c .before .size-in .ensures .0) (c .before .size-in .ensures .1) (c .if4 .left)
 
--- src/candidates.rt:44:13
 returns-4 : tie.Need-returns-4 Inv-loop μ-loop
 returns-4 c = λ e. let z : _≡_ {A = ℕ} 0 1 = cc in absurd (omega arith)
 
--- src/candidates.rt:46:16
 type-in-requires-2 : tie.Need-type-in-requires-2 Inv-loop μ-loop
 type-in-requires-2 c κs = search needs
 
--- src/candidates.rt:47:17
 returns-5 : tie.Need-returns-5 Inv-loop μ-loop
 returns-5 c = λ e. clashing-type (c .before .before .before .before .before .before .before .before .before .before .before .before .args .pairs .now) (c .before .before .before .before .before .before .before .before .before .before .before .before .args .part .now) (c .before .before .before .before .before .before .before .before .before .before .before .before .args .live) (c .before .before .before .before .before .before .before .before .before .loop .total) (c .before .before .before .before .before .before .before .before .before .loop .i) (c .before .before .before .before .before .before .before .before .before .loop .p) (c .before .before .before .before .before .before .before .before .before .loop .inv) (c .before .before .before .before .before .before .before .before .loop-test .taken) (c .before .before .before .before .before .before .before .if1 .left) _ refl (c .before .before .before .if2 .left) (c .before .before .if5 .left) (λ q. c .if6 .taken (c .before .type-in2 .ensures ∙ q))
 
--- src/candidates.rt:49:21
 add-if7 : tie.Need-add-if7 Inv-loop μ-loop
 add-if7 c = omega (arith, c .before .before .before .before .before .before .before .before .before .loop .inv .near, c .before .before .before .before .before .before .before .before .before .loop .inv .read, c .before .before .before .before .before .before .before .before .before .before .before .before .pre .0)
 
--- src/candidates.rt:49:16
 mul-if7 : tie.Need-mul-if7 Inv-loop μ-loop
 mul-if7 c = search needs
 
--- src/candidates.rt:49:16
 shared-slice-read-if7 : tie.Need-shared-slice-read-if7 Inv-loop μ-loop
 shared-slice-read-if7 c = omega (arith, c .before .before .before .before .before .before .before .before .if1 .left)
 
--- src/candidates.rt:50:17
 returns-6 : tie.Need-returns-6 Inv-loop μ-loop
 returns-6 c = λ e. clashing-value (c .before .before .before .before .before .before .before .before .before .before .before .before .before .before .args .pairs .now) (c .before .before .before .before .before .before .before .before .before .before .before .before .before .before .args .part .now) (c .before .before .before .before .before .before .before .before .before .before .before .before .before .before .args .live) (c .before .before .before .before .before .before .before .before .before .before .before .loop .total) (c .before .before .before .before .before .before .before .before .before .before .before .loop .i) (c .before .before .before .before .before .before .before .before .before .before .before .loop .p) (c .before .before .before .before .before .before .before .before .before .before .before .loop .inv) (c .before .before .before .before .before .before .before .before .before .before .loop-test .taken) (c .before .before .before .before .before .before .before .before .before .if1 .left) _ refl (c .before .before .before .before .before .if2 .left) (c .before .before .before .before .if5 .left) _ refl (sym (c .before .before .before .type-in2 .ensures) ∙ c .before .before .if6 .left) (c .if7 .taken)
 
--- src/candidates.rt:52:17
 add-p-2 : tie.Need-add-p-2 Inv-loop μ-loop
 add-p-2 c = omega (arith, c .before .before .before .before .before .before .before .before .before .before .before .loop .inv .near, c .before .before .before .before .before .before .before .before .before .before .before .loop .inv .read, c .before .before .before .before .before .before .before .before .before .before .before .before .before .before .pre .0)
 
--- src/candidates.rt:53:17
 add-i-2 : tie.Need-add-i-2 Inv-loop μ-loop
 add-i-2 c = omega (arith, c .before .before .before .before .before .before .before .before .before .before .before .loop .inv .read, c .before .before .before .before .before .before .before .before .before .before .loop-test .taken)
 
--- src/candidates.rt:25:5
 loop-less-2 : tie.Need-loop-less-2 Inv-loop μ-loop
 loop-less-2 c = omega (arith, c .before .before .before .before .before .before .before .before .before .before .before .loop .inv .read, c .before .before .before .before .before .before .before .before .before .before .loop-test .taken)
 
--- src/candidates.rt:25:5
 loop-again-2 : tie.Need-loop-again-2 Inv-loop μ-loop
 loop-again-2 c = clashing-node (c .before .before .before .before .before .before .before .before .before .before .before .before .before .before .args .pairs .now) (c .before .before .before .before .before .before .before .before .before .before .before .before .before .before .args .part .now) (c .before .before .before .before .before .before .before .before .before .before .before .before .before .before .args .live) (c .before .before .before .before .before .before .before .before .before .before .before .loop .total) (c .before .before .before .before .before .before .before .before .before .before .before .loop .i) (c .before .before .before .before .before .before .before .before .before .before .before .loop .p) (c .before .before .before .before .before .before .before .before .before .before .before .loop .inv) (c .before .before .before .before .before .before .before .before .before .before .loop-test .taken) (c .before .before .before .before .before .before .before .before .before .if1 .left) _ refl (c .before .before .before .before .before .if2 .left) (c .before .before .before .before .if5 .left) _ refl (sym (c .before .before .before .type-in2 .ensures) ∙ c .before .before .if6 .left) (c .if7 .left)
 
--- src/candidates.rt:18:1
 returns-7 : tie.Need-returns-7 Inv-loop μ-loop
 returns-7 c = λ e. let z : _≡_ {A = ℕ} 0 1 = cc in absurd (omega arith)
 

@@ -18,87 +18,66 @@ Inv-loop pairs w target base end from last live fuel node₀ left₀ node left =
 abbrev μ-loop : tie.MeasureT-loop
 μ-loop pairs w target base end from last live fuel node₀ left₀ node left = last - node
 
--- src/candidates.rt:77:5
 loop-holds : tie.Need-loop-holds Inv-loop μ-loop
 loop-holds c = passing-start _ _ _ _ _ _ _ _ _
 
--- src/candidates.rt:78:24
 mul-p : tie.Need-mul-p Inv-loop μ-loop
 mul-p c = let h = c .before .before .before .before .pre .2 (omega (arith, c .loop-test .taken)) in omega (arith, h .0, h .1, c .loop-test .taken)
 
--- src/candidates.rt:78:17
 add-p : tie.Need-add-p Inv-loop μ-loop
 add-p c = let h = c .before .before .before .before .pre .2 (omega (arith, c .loop-test .taken)) in omega (arith, h .0, h .1, c .loop-test .taken)
 
--- src/candidates.rt:79:27
 mul-type-in : tie.Need-mul-type-in Inv-loop μ-loop
 mul-type-in c = let h = c .before .before .before .before .pre .2 (omega (arith, c .loop-test .taken)) in omega (arith, h .0, h .1, c .loop-test .taken)
 
--- src/candidates.rt:79:27
 shared-slice-read-type-in : tie.Need-shared-slice-read-type-in Inv-loop μ-loop
 shared-slice-read-type-in c = let h = c .before .before .before .before .before .pre .2 (omega (arith, c .before .loop-test .taken)) in omega (arith, h .0, h .1, c .before .loop-test .taken)
 
--- src/candidates.rt:79:12
 type-in-requires : tie.Need-type-in-requires Inv-loop μ-loop
 type-in-requires c κs = search needs
 
--- src/candidates.rt:80:17
 add-node : tie.Need-add-node Inv-loop μ-loop
 add-node c = omega (arith, c .before .before .before .loop-test .taken)
 
--- src/candidates.rt:77:5
 loop-less : tie.Need-loop-less Inv-loop μ-loop
 loop-less c = omega (arith, c .before .before .before .loop-test .taken)
 
--- src/candidates.rt:77:5
 loop-again : tie.Need-loop-again Inv-loop μ-loop
 loop-again c = passing-other _ _ _ _ _ _ _ _ _ _ _ (c .before .before .before .before .loop .inv) (c .before .before .before .loop-test .taken) _ refl (λ q. c .if1 .taken (c .before .type-in .ensures ∙ q))
 
--- src/candidates.rt:83:17
 returns : tie.Need-returns Inv-loop μ-loop
 returns c = passing-done _ _ _ _ _ _ _ _ _ _ _ (c .before .before .before .before .before .loop .inv)
 
--- src/candidates.rt:88:32
 mul-clashes : tie.Need-mul-clashes Inv-loop μ-loop
 mul-clashes c = let h = c .before .before .before .before .before .before .before .before .pre .2 (omega (arith, c .before .before .before .before .loop-test .taken)) in omega (arith, h .0, h .1, c .before .before .before .before .loop-test .taken)
 
--- src/candidates.rt:88:32
 sub-clashes : tie.Need-sub-clashes Inv-loop μ-loop
 sub-clashes c = let h = c .before .before .before .before .before .before .before .before .pre .2 (omega (arith, c .before .before .before .before .loop-test .taken)) in omega (arith, h .0, h .1, c .before .before .before .before .loop-test .taken)
 
--- src/candidates.rt:88:32
 part-clashes-start : tie.Need-part-clashes-start Inv-loop μ-loop
 part-clashes-start c = let h = c .before .before .before .before .before .before .before .before .pre .2 (omega (arith, c .before .before .before .before .loop-test .taken)) in omega (arith, h .0, h .1, c .before .before .before .before .loop-test .taken)
 
--- src/candidates.rt:88:32
 part-clashes-end : tie.Need-part-clashes-end Inv-loop μ-loop
 part-clashes-end c = let h = c .before .before .before .before .before .before .before .before .pre .2 (omega (arith, c .before .before .before .before .loop-test .taken)) in omega (arith, h .0, h .1, c .before .before .before .before .loop-test .taken)
 
--- src/candidates.rt:88:17
 clashes-requires : tie.Need-clashes-requires Inv-loop μ-loop
 clashes-requires c κs = (c .before .before .before .before .before .before .before .before .before .pre .0, c .before .before .before .before .before .before .before .before .before .pre .1)
 
--- src/candidates.rt:89:17
 returns-2 : tie.Need-returns-2 Inv-loop μ-loop
 returns-2 c = passing-done _ _ _ _ _ _ _ _ _ _ _ (c .before .before .before .before .before .before .before .before .loop .inv)
 
--- src/candidates.rt:94:20
 sub-left : tie.Need-sub-left Inv-loop μ-loop
 sub-left c = omega (arith, c .before .before .before .if2 .left)
 
--- src/candidates.rt:95:17
 add-node-2 : tie.Need-add-node-2 Inv-loop μ-loop
 add-node-2 c = omega (arith, c .before .before .before .before .before .before .before .loop-test .taken)
 
--- src/candidates.rt:77:5
 loop-less-2 : tie.Need-loop-less-2 Inv-loop μ-loop
 loop-less-2 c = omega (arith, c .before .before .before .before .before .before .before .loop-test .taken)
 
--- src/candidates.rt:77:5
 loop-again-2 : tie.Need-loop-again-2 Inv-loop μ-loop
 loop-again-2 c = passing-clash _ _ _ _ _ _ _ _ _ _ _ (c .before .before .before .before .before .before .before .before .loop .inv) (c .before .before .before .before .before .before .before .loop-test .taken) _ refl (sym (c .before .before .before .before .before .type-in .ensures) ∙ c .before .before .before .before .if1 .left) _ (omega (arith, c .before .before .before .if2 .left)) _ refl (c .before .clashes .ensures (not-false _ (c .if3 .left)))
 
--- src/candidates.rt:61:1
 returns-3 : tie.Need-returns-3 Inv-loop μ-loop
 returns-3 c = passing-done _ _ _ _ _ _ _ _ _ _ _ (c .before .loop .inv)
 

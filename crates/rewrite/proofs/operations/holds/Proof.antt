@@ -4,11 +4,9 @@ use Rattle.rewrite.proofs.operations.holds.Tie as tie
 use Rattle.rewrite.proofs.operations.holds.Reads as reads
 use Rattle.rewrite.proofs.operations.holds.Lts as lts
 
--- src/operations.rt:59:9
 returns : tie.Need-returns
 returns c = equals (c .before .args .op) (c .before .args .a) (c .before .args .b) (c .if1 .taken)
 
--- src/operations.rt:55:1
 returns-2 : tie.Need-returns-2
 returns-2 c = exceeds (c .before .args .op) (c .before .args .a) (c .before .args .b) (c .if1 .left)
 

@@ -5,19 +5,15 @@ use Rattle.rewrite.proofs.operations.in_range.Tie as tie
 use Rattle.rewrite.proofs.operations.in_range.Reads as reads
 use Rattle.rewrite.proofs.operations.in_range.Lts as lts
 
--- src/operations.rt:17:16
 cast-most : tie.Need-cast-most
 cast-most c = search needs
 
--- src/operations.rt:19:9
 returns : tie.Need-returns
 returns c = range-over (c .before .args .n) (c .if1 .taken)
 
--- src/operations.rt:21:16
 cast-t4 : tie.Need-cast-t4
 cast-t4 c = search needs
 
--- src/operations.rt:14:1
 returns-2 : tie.Need-returns-2
 returns-2 c = range-in (c .before .args .n) (c .if1 .left)
 

@@ -9,95 +9,72 @@ use Rattle.rewrite.proofs.operations.operate.Reads as reads
 use Rattle.rewrite.proofs.operations.operate.Lts as lts
 use Rattle.rewrite.proofs.operations.in_range.Reads as in-range-reads
 
--- src/operations.rt:31:25
 add-in-range : tie.Need-add-in-range
 add-in-range c = search needs
 
--- src/operations.rt:31:9
 in-range-requires : tie.Need-in-range-requires
 in-range-requires c κs = search needs
 
--- src/operations.rt:31:9
 returns : tie.Need-returns
 returns c = adds (c .before .before .args .op) (c .before .before .args .a) (c .before .before .args .b) (c .before .before .args .a) (c .before .before .args .b) refl refl (c .before .if1 .taken) _ (c .in-range .ensures)
 
--- src/operations.rt:35:13
 returns-2 : tie.Need-returns-2
 returns-2 c = below-zero (c .before .before .before .args .op) (c .before .before .before .args .a) (c .before .before .before .args .b) (c .before .before .before .args .a) (c .before .before .before .args .b) refl refl (c .before .if2 .taken) (c .if3 .taken)
 
--- src/operations.rt:37:9
 in-range-requires-2 : tie.Need-in-range-requires-2
 in-range-requires-2 c κs = search needs
 
--- src/operations.rt:37:9
 returns-3 : tie.Need-returns-3
 returns-3 c = subtracts (c .before .before .before .before .args .op) (c .before .before .before .before .args .a) (c .before .before .before .before .args .b) (c .before .before .before .before .args .a) (c .before .before .before .before .args .b) refl refl (c .before .before .if2 .taken) (c .before .if3 .left) _ (c .in-range2 .ensures)
 
--- src/operations.rt:40:26
 add-in-range-2 : tie.Need-add-in-range-2
 add-in-range-2 c = search needs
 
--- src/operations.rt:40:25
 mul-in-range : tie.Need-mul-in-range
 mul-in-range c = search needs
 
--- src/operations.rt:40:9
 in-range-requires-3 : tie.Need-in-range-requires-3
 in-range-requires-3 c κs = search needs
 
--- src/operations.rt:40:9
 returns-4 : tie.Need-returns-4
 returns-4 c = rounds (c .before .before .before .before .args .op) (c .before .before .before .before .args .a) (c .before .before .before .before .args .b) (c .before .before .before .before .args .a) (c .before .before .before .before .args .b) refl refl (c .before .if4 .taken) _ (c .in-range3 .ensures)
 
--- src/operations.rt:43:25
 mul-in-range-2 : tie.Need-mul-in-range-2
 mul-in-range-2 c = search needs
 
--- src/operations.rt:43:9
 in-range-requires-4 : tie.Need-in-range-requires-4
 in-range-requires-4 c κs = search needs
 
--- src/operations.rt:43:9
 returns-5 : tie.Need-returns-5
 returns-5 c = truncates (c .before .before .before .before .before .args .op) (c .before .before .before .before .before .args .a) (c .before .before .before .before .before .args .b) (c .before .before .before .before .before .args .a) (c .before .before .before .before .before .args .b) refl refl (c .before .if5 .taken) _ (c .in-range4 .ensures)
 
--- src/operations.rt:46:9
 returns-6 : tie.Need-returns-6
 returns-6 c = by-zero (c .before .before .before .before .before .args .op) (c .before .before .before .before .before .args .a) (c .before .before .before .before .before .args .b) (c .before .before .before .before .before .args .a) (c .before .before .before .before .before .args .b) refl refl (c .before .before .before .before .if1 .left) (c .before .before .before .if2 .left) (c .before .before .if4 .left) (c .before .if5 .left) (c .if6 .taken)
 
--- src/operations.rt:49:25
 div-in-range : tie.Need-div-in-range
 div-in-range c = search needs
 
--- src/operations.rt:49:25
 mul-in-range-3 : tie.Need-mul-in-range-3
 mul-in-range-3 c = omega (arith, quotient-small (c .before .before .before .before .before .before .args .a) (c .before .before .before .before .before .before .args .b))
 
--- src/operations.rt:49:9
 in-range-requires-5 : tie.Need-in-range-requires-5
 in-range-requires-5 c κs = search needs
 
--- src/operations.rt:49:9
 returns-7 : tie.Need-returns-7
 returns-7 c = divides (c .before .before .before .before .before .before .before .args .op) (c .before .before .before .before .before .before .before .args .a) (c .before .before .before .before .before .before .before .args .b) (c .before .before .before .before .before .before .before .args .a) (c .before .before .before .before .before .before .before .args .b) refl refl (c .before .before .before .before .before .before .if1 .left) (c .before .before .before .before .before .if2 .left) (c .before .before .before .before .if4 .left) (c .before .before .before .if5 .left) (c .before .before .if6 .left) (c .before .if7 .taken) _ (c .in-range5 .ensures)
 
--- src/operations.rt:51:23
 div-in-range-2 : tie.Need-div-in-range-2
 div-in-range-2 c = search needs
 
--- src/operations.rt:51:18
 mul-in-range-4 : tie.Need-mul-in-range-4
 mul-in-range-4 c = omega (arith, quotient-fits (c .before .before .before .before .before .before .args .a) (c .before .before .before .before .before .before .args .b))
 
--- src/operations.rt:51:14
 sub-in-range : tie.Need-sub-in-range
 sub-in-range c = quotient-fits (c .before .before .before .before .before .before .args .a) (c .before .before .before .before .before .before .args .b)
 
--- src/operations.rt:51:5
 in-range-requires-6 : tie.Need-in-range-requires-6
 in-range-requires-6 c κs = search needs
 
--- src/operations.rt:25:1
 returns-8 : tie.Need-returns-8
 returns-8 c = remains (c .before .before .before .before .before .before .before .args .op) (c .before .before .before .before .before .before .before .args .a) (c .before .before .before .before .before .before .before .args .b) (c .before .before .before .before .before .before .before .args .a) (c .before .before .before .before .before .before .before .args .b) refl refl (c .before .before .before .before .before .before .if1 .left) (c .before .before .before .before .before .if2 .left) (c .before .before .before .before .if4 .left) (c .before .before .before .if5 .left) (c .before .before .if6 .left) (c .before .if7 .left) _ (c .in-range6 .ensures)
 
