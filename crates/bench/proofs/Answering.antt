@@ -107,10 +107,6 @@ pub between-input : (p : Place) (ns : Words) (n m : ℕ) → p ≡ Between → m
 unfolding inputAt
 between-input p ns n m e f = rw (e, f, count-all)
 
-pub unread-input : (p : Place) (ns : Words) → p ≡ Unread → inputAt p ns ≡ none
-unfolding inputAt
-unread-input p ns e = rw e
-
 pub within-input : (p : Place) (v : ℕ) (ns : Words) → p ≡ Within v → inputAt p ns ≡ none
 unfolding inputAt
 within-input p v ns e = rw e

@@ -51,11 +51,6 @@ variables-ok env (x ∷ xs) l s =
     let b = variables-ok env xs l (sure-first (variables env xs l) j (sure-as (a .2) s)) in
     (a .0 ∷ b .0, a .2 ∙ then-ok (variables env xs l) j (b .0) l (b .1), ap suc (b .2))
 
-pub arguments-length : (k : ℕ) (ws : Words) → length (arguments k ws) ≡ k
-unfolding arguments
-arguments-length zero ws = refl
-arguments-length (suc k) ws = ap suc (arguments-length k (drop 2 ws))
-
 -- WHAT IS APPLIED
 
 applied-rule : (a : ℕ) → a < 1000 → applied a ≡ rule a

@@ -36,6 +36,7 @@ use Rattle.calls.specs.declared.Chained.{Chained}
 use Rattle.calls.proofs.Frames.{take-less, stretch-kept, tree-length, stands-whole, env-up, env-kept, held-kept}
 use Rattle.rewrite.proofs.Leaves.{variable-stands}
 use Rattle.calls.proofs.Going.{then-ok, then-stop, sure-first, sure-as, variable-sure, live-fits, live-over, nodes-fit, says-ok, says-stop, stop-says, then-nested}
+use Rattle.rules.proofs.Replacements.{pieces-after}
 
 -- WORDS PUSHED
 
@@ -124,16 +125,6 @@ module _ {B : Type 0} (a l s : ℕ) (k : Unit {0} → Comp B) (e : s ≡ overBy 
       go false e = rw e
 
 -- PIECES
-
--- pairs that are skipped are dropped
-pieces-after : (k : ℕ) (ws : Words) → piecesAfter k ws ≡ pieces (drop (2 * k) ws)
-unfolding pieces piecesAfter
-pieces-after zero ws = refl
-pieces-after (suc k) [] = rw (drop-nil {A = ℕ} (2 * suc k))
-pieces-after (suc k) (t ∷ []) =
-    let z : 2 * suc k ≡ suc (suc (2 * k)) = omega arith in
-    ap pieces (sym (drop-nil {A = ℕ} (suc (2 * k))) ∙ ap (λ n. drop n (t ∷ [])) (sym z))
-pieces-after (suc k) (t ∷ v ∷ ws) = let z : 2 * suc k ≡ suc (suc (2 * k)) = omega arith in rw z (pieces-after k ws)
 
 pieces-none : (ws : Words) → length ws < 2 → pieces ws ≡ []
 unfolding pieces piecesAfter

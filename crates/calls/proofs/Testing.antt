@@ -34,11 +34,12 @@ use Rattle.calls.specs.declared.Found.the-variants.{At, Nowhere, Stopped
 use Rattle.calls.specs.declared.Sought.{Sought}
 use Rattle.calls.specs.declared.Taken.{Taken}
 use Rattle.calls.specs.declared.Tested.{Tested}
-use Rattle.calls.proofs.Frames.{env-kept, standing-stands, standing-whole, stands-standing}
+use Rattle.calls.proofs.Frames.{env-kept, standing-stands, standing-whole, stands-standing, held-kept}
 use Rattle.rewrite.proofs.Leaves.{variable-stands}
 use Rattle.calls.proofs.Going.{sure-first, sure-as, variable-sure, live-fits, live-over, then-then}
-use Rattle.calls.proofs.Applied.{begin-sure, RuleGiven, rule-given, operation-given, arguments-length, rule-few, compare-arguments, value-there, operand-values}
+use Rattle.calls.proofs.Applied.{begin-sure, RuleGiven, rule-given, operation-given, rule-few, compare-arguments, value-there, operand-values}
 use Rattle.calls.proofs.Chains.{condition-read, nextAt, applications-step}
+use Rattle.rules.proofs.Chains.{arguments-length}
 
 -- A CALL IN A CONDITION
 
@@ -251,9 +252,6 @@ any-end : (g : Grammar) (rules : Rules.Rules) (deeper : M.Calls) (ws : Words) (k
     → M.anySucceeds true g rules deeper (applications k ws) env scope besides l ≡ ok false l
 unfolding M.anySucceeds applications
 any-end g rules deeper ws k env scope besides l e = rw e
-
-held-kept : {g : Grammar} {w w′ : Words} {frame : Frame} {b : Bindings} → take (frame .top) w′ ≡ take (frame .top) w → Held g w frame b → Held g w′ frame b
-held-kept {g} {w} {w′} {frame} {b} e h = record { stands = env-kept g w w′ (frame .top) e (startsOf (frame .vars)) (b .env) (h .stands); counted = h .counted }
 
 module _ (heads rows : Words) (types : ℕ) (book starts w₀ pairs : Words) (base n : ℕ) (frame : Frame) (deep left : ℕ) where
   abbrev Whole : Grammar → Rules.Rules → Words → Bindings → Result Bool

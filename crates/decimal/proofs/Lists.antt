@@ -17,7 +17,3 @@ pub drop-more : (m n : ℕ) (a b : List ℕ) → m ≤ n → drop m a ≡ drop m
 drop-more m n a b h e =
     let k : m + (n - m) ≡ n = omega arith in
     subst (λ (x : ℕ). drop x a ≡ drop x b) k (sym (drop-drop (n - m) m a) ∙ ap (drop (n - m)) e ∙ drop-drop (n - m) m b)
-
--- a part that goes on to the end
-pub to-end : (n : ℕ) (ws : List ℕ) → take (length ws - n) (drop n ws) ≡ drop n ws
-to-end n ws = take-all (length ws - n) (drop n ws) (simp length-drop (omega arith))

@@ -163,7 +163,7 @@ none-over Between ns h = by (input ns) refl
     by none e = e
     by (some x) e = absurd (omega (arith, few-numbers ns x e))
 
-unread-none : (p : Place) (ns : Words) → p ≡ Unread → inputAt p ns ≡ none
+pub unread-none : (p : Place) (ns : Words) → p ≡ Unread → inputAt p ns ≡ none
 unfolding inputAt
 unread-none p ns e = rw e
 

@@ -29,7 +29,8 @@ use Rattle.meaning.specs.Sound.{WellEnded, Sound}
 use Rattle.tree.specs.Rest.{Rest}
 use Rattle.tree.proofs.Rest.{tree-rest, rest-node, onward}
 use Rattle.meaning.proofs.Safe.{Safe, goes, stops, returns, safe-map, andThen, Any, stopUnless-safe, surely-safe, check-safe, present-safe, choose-safe, Maybe, whether-safe, spend-safe}
-use Rattle.meaning.proofs.Matching.{OfTypes, ofTypes-length, areTreesOf-true, live-safe, nodes-safe, nesting-safe, variable-safe, variables-safe, numbers-safe, isNumberToken-true, Binds, bind-safe, pattern-grows, match-safe, matchFirst-safe}
+use Rattle.meaning.proofs.Matching.{OfTypes, ofTypes-length, areTreesOf-true, live-safe, nodes-safe, nesting-safe, variable-safe, variables-safe, numbers-safe, isNumberToken-true, Binds, bind-safe, match-safe, matchFirst-safe}
+use Rattle.rules.proofs.Parts.{parts-grow}
 
 -- NUMBERS
 
@@ -198,17 +199,6 @@ afterRound-sound tree k exhaustive (goes {a = some next} {l} h p) f = sound-less
 afterRound-sound tree k firstMatch (goes {a = some next} {l} h p) f = record { agree = refl; ends = tt; scope = p .0; attempts = h }
 afterRound-sound tree k rootOnly (goes {a = some next} {l} h p) f = record { agree = refl; ends = tt; scope = p .0; attempts = h }
 afterRound-sound tree k s (stops h a b) f = record { agree = refl; ends = (a, b); scope = tree; attempts = h }
-
--- variables are only added
-part-grows : {g : Grammar} {rules : Rules} {Γ Γ′ : Types} {p : Part} → PartFits g rules Γ p Γ′ → length Γ ≤ length Γ′
-part-grows (deconstructs has p) = pattern-grows (p .typed)
-part-grows (searchesFor has p) = pattern-grows (p .typed)
-part-grows {Γ = Γ} (constructs {ty = ty} r) = omega (arith, length-append Γ (ty ∷ []))
-part-grows {Γ = Γ} (tests has all) = le-refl (length Γ)
-
-parts-grow : {g : Grammar} {rules : Rules} {Γ Γ′ : Types} {ps : List Part} → PartsFit g rules Γ ps Γ′ → length Γ ≤ length Γ′
-parts-grow {Γ = Γ} noPart = le-refl (length Γ)
-parts-grow (aPart p ps) = le-trans (part-grows p) (parts-grow ps)
 
 -- ONE LEVEL
 

@@ -24,6 +24,7 @@ use Rattle.meaning.specs.Meaning.{Env, Bindings, live, nodesWithin, nest
 use Rattle.tree.specs.Rest.{Rest}
 use Rattle.tree.proofs.Rest.{rest-node, onward}
 use Rattle.meaning.proofs.Safe.{Safe, returns, andThen, Any, stopUnless-safe, surely-safe, check-safe, present-safe, choose-safe, Maybe, whether-safe, safe-map}
+use Rattle.rules.proofs.Patterns.{pattern-grows}
 
 -- a tree for each type, in order
 pub data OfTypes (g : Grammar) : Types → Env → Type 0 where
@@ -105,13 +106,6 @@ bind-safe {g} {Γ} {t} {ws} b env x few n =
     returns (ofTypes-snoc env x)
 
 -- PATTERNS
-
--- variables are only added
-pub pattern-grows : {g : Grammar} {Γ due Γ′ : Types} {ps : List Shape} → Pattern g Γ due ps Γ′ → length Γ ≤ length Γ′
-pattern-grows {Γ = Γ} patternEnd = le-refl (length Γ)
-pattern-grows (aNode fine p) = pattern-grows p
-pattern-grows {Γ = Γ} (aNew {t = t} p) = omega (arith, pattern-grows p, length-append Γ (t ∷ []))
-pattern-grows (aSame h p) = pattern-grows p
 
 pub match-safe : {g : Grammar} {Γ due Γ′ : Types} {ps : List Shape} → Pattern g Γ due ps Γ′ → length Γ′ ≤ mostVariables → (ts : Types) (ws : Words) (b : Bindings) → Rest g (due ++ ts) ws → OfTypes g Γ (b .env) → (n : ℕ)
     → Safe (Binds g Γ′) n (match true g ps ws b n) (match false g ps ws b n)

@@ -39,7 +39,7 @@ isNumber-eq g Γ v = go (ltb v (length Γ)) refl
     go true e = rw (there-some Γ v 0 (ltb-true v (length Γ) e))
     go false e = rw (past-none Γ v (ltb-false v (length Γ) e))
 
-arguments-length : (k : ℕ) (ws : Words) → length (arguments k ws) ≡ k
+pub arguments-length : (k : ℕ) (ws : Words) → length (arguments k ws) ≡ k
 unfolding arguments
 arguments-length zero ws = refl
 arguments-length (suc k) ws = ap suc (arguments-length k (drop 2 ws))

@@ -65,7 +65,7 @@ part-grows (searchesFor h r) = pattern-grows (r .typed)
 part-grows (constructs {Γ = Γ} {ty = ty} r) = omega (arith, length-append Γ (ty ∷ []))
 part-grows (tests h r) = omega arith
 
-parts-grow : {g : Grammar} {rules : Rules} {Γ Γ′ : Types} {ps : List Part} → PartsFit g rules Γ ps Γ′ → length Γ ≤ length Γ′
+pub parts-grow : {g : Grammar} {rules : Rules} {Γ Γ′ : Types} {ps : List Part} → PartsFit g rules Γ ps Γ′ → length Γ ≤ length Γ′
 parts-grow noPart = omega arith
 parts-grow (aPart p r) = let a = part-grows p in let b = parts-grow r in omega arith
 

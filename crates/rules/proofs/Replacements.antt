@@ -32,7 +32,7 @@ use Rattle.rules.proofs.Chains.{chain-exact}
 
 -- THE PIECES BEHIND A CHAIN
 
-pieces-after : (skip : ℕ) (ws : Words) → piecesAfter skip ws ≡ pieces (drop (2 * skip) ws)
+pub pieces-after : (skip : ℕ) (ws : Words) → piecesAfter skip ws ≡ pieces (drop (2 * skip) ws)
 unfolding piecesAfter pieces
 pieces-after zero ws = refl
 pieces-after (suc skip) [] = rw (drop-nil {A = ℕ} (2 * suc skip))

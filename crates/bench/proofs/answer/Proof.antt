@@ -1,11 +1,12 @@
 -- `bench::answer` meets its contract. Assumes nothing.
-use Rattle.bench.proofs.Answering.{part-least, none-answers, between-input, unread-input, within-input}
+use Rattle.bench.proofs.Answering.{part-least, none-answers, between-input, within-input}
 use Rattle.bench.proofs.answer.Statement.{statement}
 use Rattle.bench.proofs.answer.Tie as tie
 use Rattle.decimal.specs.Input.{inputAt}
 use Rattle.tamarind.specs.Run.{memories}
 use borrow.Author.Needs.{needs}
 use lib.ListN.{take}
+use Rattle.decimal.proofs.Whole.{unread-none}
 
 least-requires : tie.Need-least-requires
 least-requires c κs = search needs
@@ -47,7 +48,7 @@ same-length-4 : tie.Need-same-length-4
 same-length-4 c = search needs
 
 returns-2 : tie.Need-returns-2
-returns-2 c = none-answers (inputAt (c .before .before .before .before .before .before .before .before .before .before .before .args .read .place) (take (c .before .before .before .before .before .before .before .before .before .before .before .args .read .count) (c .before .before .before .before .before .before .before .before .before .before .before .args .numbers .now))) (memories (c .before .before .before .before .before .before .before .before .before .before .before .args .result .now) (c .before .before .before .before .before .before .before .before .before .before .before .args .work .now)) (c .before .before .before .before .before .before .before .before .before .before .before .args .out .now) _ _ (unread-input (c .before .before .before .before .before .before .before .before .before .before .before .args .read .place) (take (c .before .before .before .before .before .before .before .before .before .before .before .args .read .count) (c .before .before .before .before .before .before .before .before .before .before .before .args .numbers .now)) (c .before .before .before .before .enum-told2 .given .1)) (c .before .before .print-unread .ensures)
+returns-2 c = none-answers (inputAt (c .before .before .before .before .before .before .before .before .before .before .before .args .read .place) (take (c .before .before .before .before .before .before .before .before .before .before .before .args .read .count) (c .before .before .before .before .before .before .before .before .before .before .before .args .numbers .now))) (memories (c .before .before .before .before .before .before .before .before .before .before .before .args .result .now) (c .before .before .before .before .before .before .before .before .before .before .before .args .work .now)) (c .before .before .before .before .before .before .before .before .before .before .before .args .out .now) _ _ (unread-none (c .before .before .before .before .before .before .before .before .before .before .before .args .read .place) (take (c .before .before .before .before .before .before .before .before .before .before .before .args .read .count) (c .before .before .before .before .before .before .before .before .before .before .before .args .numbers .now)) (c .before .before .before .before .enum-told2 .given .1)) (c .before .before .print-unread .ensures)
 
 same-length-5 : tie.Need-same-length-5
 same-length-5 c = search needs

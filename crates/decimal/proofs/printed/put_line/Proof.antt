@@ -1,5 +1,5 @@
 -- `decimal::printed::put_line` meets its contract. Assumes nothing.
-use Rattle.decimal.proofs.Lists.{to-end}
+use Rattle.words.proofs.Stretches.{part-rest}
 use Rattle.decimal.proofs.Putting.{put-both, line-empty, line-some}
 use Rattle.decimal.proofs.printed.put_line.Statement.{statement}
 use Rattle.decimal.proofs.printed.put_line.Tie as tie
@@ -42,7 +42,7 @@ same-length-2 : tie.Need-same-length-2
 same-length-2 c = search needs
 
 returns-2 : tie.Need-returns-2
-returns-2 c = rw (line-some (c .before .before .before .before .before .before .before .before .before .before .before .before .before .before .before .before .before .before .args .ws .now) (c .before .before .before .before .before .before .before .before .before .before .before .before .before .before .before .if1 .left), ← (c .before .before .before .before .before .before .before .before .before .before .before .before .before .wide .ensures), ← (to-end 1 (c .before .before .before .before .before .before .before .before .before .before .before .before .before .before .before .before .before .before .args .ws .now))) (put-both (c .before .before .before .before .before .before .before .before .before .before .before .put-digits .ensures) (put-both (c .before .before .before .before .before .before .put-all-spaced .ensures) (c .before .before .put2 .ensures)))
+returns-2 c = rw (line-some (c .before .before .before .before .before .before .before .before .before .before .before .before .before .before .before .before .before .before .args .ws .now) (c .before .before .before .before .before .before .before .before .before .before .before .before .before .before .before .if1 .left), ← (c .before .before .before .before .before .before .before .before .before .before .before .before .before .wide .ensures), ← (part-rest 1 (c .before .before .before .before .before .before .before .before .before .before .before .before .before .before .before .before .before .before .args .ws .now))) (put-both (c .before .before .before .before .before .before .before .before .before .before .before .put-digits .ensures) (put-both (c .before .before .before .before .before .before .put-all-spaced .ensures) (c .before .before .put2 .ensures)))
 
 pub put-line-spec : {M : Type 1} → statement M
 put-line-spec =
