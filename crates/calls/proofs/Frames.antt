@@ -80,9 +80,6 @@ env-map g w w′ f (s ∷ ss) (x ∷ env) e = (f s x (e .0), env-map g w w′ f 
 pub env-up : (g : Grammar) (w : Words) (a b : ℕ) → a ≤ b → (ss : List ℕ) (env : Env) → EnvAt g (take a w) ss env → EnvAt g (take b w) ss env
 env-up g w a b h = env-map g (take a w) (take b w) (λ s ws. stands-up w a b h)
 
-pub env-whole : (g : Grammar) (w : Words) (a : ℕ) (ss : List ℕ) (env : Env) → EnvAt g (take a w) ss env → EnvAt g w ss env
-env-whole g w a = env-map g (take a w) w (λ s ws. stands-whole w a)
-
 pub env-kept : (g : Grammar) (w w′ : Words) (a : ℕ) → take a w′ ≡ take a w → (ss : List ℕ) (env : Env) → EnvAt g (take a w) ss env → EnvAt g (take a w′) ss env
 env-kept g w w′ a e ss env x = rw e x
 
