@@ -11,7 +11,7 @@ use Rattle.grammar.specs.Kinds.{allowed, children}
 use Rattle.tree.specs.Tree as T
 use Rattle.tree.specs.Tree.{Trees, first, after}
 use Rattle.tree.specs.Forest.{Forest, none, node, OfTypes, written}
-use Rattle.tree.proofs.Trees.{tells, trees-append, split, first-after, first-append, after-append}
+use Rattle.tree.proofs.Trees.{tells, trees-append, Split, split, first-after, first-append, after-append}
 
 pub forest-trees : {g : Grammar} (f : Forest) (ts : List ℕ) → OfTypes g f ts → Trees g ts (written f)
 unfolding written
@@ -34,6 +34,17 @@ join {g} {t} {v} fine k o = record {
   same = rw (k .same, o .same);
 }
 
+-- .. where shorter words stand for forests. It stands apart: as a clause of `stands`, which splits on types and words, its check took 3 seconds and 0.4 GB more
+stands-node : {g : Grammar} (bound t v : ℕ) (ts : List ℕ) (ws : Words) → length ws < bound → ((xs : List ℕ) (us : Words) → length us < bound → Trees g xs us → Stands g xs us)
+    → allowed g t v ≡ true → Trees g (children g t v ++ ts) ws → Stands g (t ∷ ts) (t ∷ v ∷ ws)
+stands-node {g} bound t v ts ws h shorter fine r =
+    let s : Split g (children g t v) ts ws = split ws (children g t v) ts r in
+    let u = first g ws (length (children g t v)) in
+    let b = after g ws (length (children g t v)) in
+    let e : u ++ b ≡ ws = first-after g ws (length (children g t v)) in
+    let l : length ws ≡ length u + length b = ap length (sym e) ∙ length-append u b in
+    subst (λ us. Stands g (t ∷ ts) (t ∷ v ∷ us)) e (join fine (shorter (children g t v) u (omega arith) (s .front)) (shorter ts b (omega arith) (s .back)))
+
 -- by the number of the words, which is under a bound
 stands : {g : Grammar} (bound : ℕ) (ts : List ℕ) (ws : Words) → length ws < bound → Trees g ts ws → Stands g ts ws
 unfolding written
@@ -42,15 +53,7 @@ stands (suc bound) [] [] h r = record { forest = none; typed = tt; same = refl }
 stands (suc bound) [] (w ∷ ws) h r = absurd (tells r)
 stands (suc bound) (t ∷ ts) [] h r = absurd (tells r)
 stands (suc bound) (t ∷ ts) (w ∷ []) h r = absurd (tells r)
-stands {g} (suc bound) (t ∷ ts) (w ∷ v ∷ ws) h r =
-    let q = tells r in
-    let s = split ws (children g t v) ts (q .2) in
-    let u = first g ws (length (children g t v)) in
-    let b = after g ws (length (children g t v)) in
-    let e : u ++ b ≡ ws = first-after g ws (length (children g t v)) in
-    let l : length ws ≡ length u + length b = ap length (sym e) ∙ length-append u b in
-    let done : Stands g (t ∷ ts) (t ∷ v ∷ (u ++ b)) = join (q .1) (stands bound (children g t v) u (omega arith) (s .front)) (stands bound ts b (omega arith) (s .back)) in
-    rw (q .0, sym e) done
+stands (suc bound) (t ∷ ts) (w ∷ v ∷ ws) h r = rw (tells r .0) (stands-node bound t v ts ws (omega arith) (stands bound) (tells r .1) (tells r .2))
 
 pub trees-forest : {g : Grammar} (ts : List ℕ) (ws : Words) → Trees g ts ws → Stands g ts ws
 trees-forest ts ws r = stands (suc (length ws)) ts ws (omega arith) r

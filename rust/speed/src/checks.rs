@@ -4,6 +4,7 @@ use std::hint::black_box;
 
 use generate::Random;
 
+use crate::inputs::{numbers, sequence};
 use crate::timing::times;
 
 /// Rule books with their grammars, as bench inputs.
@@ -73,11 +74,6 @@ fn print_row(check: &str, input: &str, words: usize, (proved, reference): (f64, 
     println!("| {check} | {input} | {words} | {proved:.0} | {reference:.0} | {ratio:.2} |");
 }
 
-/// The paper's grammar: a program of a sequence of numbers.
-fn numbers() -> Vec<u32> {
-    vec![3, 8, 1, 1, 1, 4, 2, 1, 2]
-}
-
 /// So many rules of 990 words, each of which builds four sequences of 60 numbers.
 fn long_book(count: u32) -> Vec<u32> {
     let mut built = vec![4, 1, 121];
@@ -128,12 +124,8 @@ fn grammars() -> Vec<(&'static str, Vec<u32>)> {
 /// A grammar and a tree of it: small, a sequence of 1,023 elements, 1,535 nodes
 /// in forms of two children, and nesting 64.
 fn trees() -> Vec<(&'static str, Vec<u32>, Vec<u32>)> {
-    let small = vec![0, 0, 1, 0, 2, 200, 1, 0, 2, 500, 1, 1];
-    let mut long = vec![0, 0];
-    for value in 0..1_023 {
-        long.extend([1, 0, 2, value]);
-    }
-    long.extend([1, 1]);
+    let small = sequence([200, 500]);
+    let long = sequence(0..1_023);
     // Form 0 is a name, form 1 two trees: a full tree of ten levels.
     let pairs = vec![2, 8, 2, 1, 1, 2, 0, 0, 1, 1];
     let full = full_tree(9);

@@ -43,24 +43,30 @@ pub fn print_table() {
         "| run | ending | attempts | replacements | nodes before | nodes after | proved ns | reference ns | ratio |"
     );
     println!("|---|---|---|---|---|---|---|---|---|");
-    // Dirty before the first run, and never cleared from outside.
-    let mut memories = Memories {
-        result: vec![u32::MAX; tamarind::RESULT_WORDS],
-        work: vec![u32::MAX; tamarind::WORK_WORDS],
-    };
+    let mut memories = Memories::dirty();
     for (name, text) in WORKLOADS {
         let input = reference::bench::parse(text).expect("a bench input");
         print_row(name, &input, &mut memories);
     }
 }
 
-struct Memories {
+/// The two memories that a run is lent, never cleared from outside.
+pub struct Memories {
     result: Vec<u32>,
     work: Vec<u32>,
 }
 
 impl Memories {
-    fn run(&mut self, input: &Input) -> tamarind::Outcome {
+    /// Memories of the least lengths, as no run leaves them.
+    pub fn dirty() -> Memories {
+        Memories {
+            result: vec![u32::MAX; tamarind::RESULT_WORDS],
+            work: vec![u32::MAX; tamarind::WORK_WORDS],
+        }
+    }
+
+    /// Runs an input on the proved core.
+    pub fn run(&mut self, input: &Input) -> tamarind::Outcome {
         tamarind::run(
             &input.grammar,
             &input.rules,
@@ -72,12 +78,17 @@ impl Memories {
     }
 }
 
-/// Times one input and prints its row. Only the same work can be compared, so
-/// the cores must agree first.
-fn print_row(name: &str, input: &Input, memories: &mut Memories) {
+/// Panics if the cores do not run an input alike: only the same work can be
+/// compared.
+pub fn assert_alike(name: &str, input: &Input) {
     if let Err(disagreement) = compare_run(input, &mut Counts::new()) {
         panic!("{name}: {disagreement}");
     }
+}
+
+/// Times one input and prints its row.
+fn print_row(name: &str, input: &Input, memories: &mut Memories) {
+    assert_alike(name, input);
     let (proved, reference) = times(
         || _ = black_box(memories.run(black_box(input))),
         || _ = black_box(reference_outcome(black_box(input))),
@@ -98,9 +109,14 @@ fn outcome_cells(input: &Input) -> String {
             replacements,
             words,
         } => {
-            let ending = stop.map_or("done".to_string(), |number| format!("stopped {number}"));
+            let ending = ending(stop);
             let (before, after) = (input.tree.len() / 2, words.len() / 2);
             format!("{ending} | {attempts} | {replacements} | {before} | {after}")
         }
     }
+}
+
+/// The ending of a run that nothing refuses, as the bench has it.
+pub fn ending(stop: Option<u32>) -> String {
+    stop.map_or("done".to_string(), |number| format!("stopped {number}"))
 }

@@ -1,0 +1,272 @@
+//! Times runs of which one thing is doubled twice, to show that the cost grows
+//! with it and no faster: the nodes that one search goes over, and the attempts
+//! of a run.
+//!
+//! Nothing is subtracted. Each time of the proved core includes the clearing of
+//! 16,384 words of work memory, about 1.3 microseconds whatever the input, and
+//! each time of either core the checks of the inputs, of which only that of the
+//! tree grows with the nodes and none with the budget. So where runs are short
+//! the factor is under 2; what doubles there is the growth from one size to the
+//! next.
+
+use std::hint::black_box;
+
+use generate::{reference_outcome, Input};
+use reference::Outcome;
+
+use crate::inputs::{numbers, sequence};
+use crate::runs::{assert_alike, ending, Memories};
+use crate::timing::medians;
+
+/// The nodes of the trees that one search goes over, up to the most that a tree
+/// may have.
+const NODES: [u32; 3] = [512, 1_024, 2_048];
+/// Whole searches of `search_heavy`, which has 1,023 attempts to each.
+const SEARCH_BUDGETS: [u32; 3] = [25 * 1_023, 50 * 1_023, 100 * 1_023];
+/// Whole searches where the 26th amount counts down. `replace_heavy` needs more
+/// attempts than these to end.
+const REPLACE_BUDGETS: [u32; 3] = [100 * 26, 200 * 26, 400 * 26];
+
+const SEARCH_HEAVY: &[u8] = include_bytes!("../workloads/search_heavy.txt");
+const REPLACE_HEAVY: &[u8] = include_bytes!("../workloads/replace_heavy.txt");
+
+/// What grows, and an input for each of its sizes.
+struct Series {
+    name: &'static str,
+    inputs: [(u32, Input); 3],
+}
+
+/// Prints the table of growth.
+pub fn print_table() {
+    println!(
+        "| what grows | size | ending | attempts | replacements | proved ns | times the size before | reference ns | times the size before |"
+    );
+    println!("|---|---|---|---|---|---|---|---|---|");
+    let mut memories = Memories::dirty();
+    for series in all_series() {
+        print_rows(&series, &mut memories);
+    }
+}
+
+/// Times the inputs of a series and prints a row for each, with the factors by
+/// which the times have grown.
+fn print_rows(series: &Series, memories: &mut Memories) {
+    let times = series_times(series, memories);
+    for (index, (size, input)) in series.inputs.iter().enumerate() {
+        let (name, cells) = (series.name, outcome_cells(input));
+        let [proved, reference] = times.map(|times| time_cells(&times, index));
+        println!("| {name} | {size} | {cells} | {proved} | {reference} |");
+    }
+}
+
+/// The times of both cores at each size, the proved core's first. All six are
+/// measured in turn, as the factors compare them all.
+fn series_times(series: &Series, memories: &mut Memories) -> [[f64; 3]; 2] {
+    for (_, input) in &series.inputs {
+        assert_alike(series.name, input);
+    }
+    let [p0, r0, p1, r1, p2, r2] = medians(|number| {
+        let input = black_box(&series.inputs[number / 2].1);
+        match number % 2 {
+            0 => _ = black_box(memories.run(input)),
+            _ => _ = black_box(reference_outcome(input)),
+        }
+    });
+    [[p0, p1, p2], [r0, r1, r2]]
+}
+
+/// The time at a size, and how many times the one at the size before it is.
+fn time_cells(times: &[f64; 3], index: usize) -> String {
+    let time = times[index];
+    match index {
+        0 => format!("{time:.0} |"),
+        _ => format!("{time:.0} | {:.2}", time / times[index - 1]),
+    }
+}
+
+/// How the run ends, its attempts and its replacements.
+fn outcome_cells(input: &Input) -> String {
+    let (stop, attempts, replacements) = counts(input);
+    format!("{} | {attempts} | {replacements}", ending(stop))
+}
+
+/// The number of the stop, if it was stopped, the attempts and the replacements
+/// of a run that nothing refuses.
+fn counts(input: &Input) -> (Option<u32>, u32, u32) {
+    match reference_outcome(input) {
+        Outcome::Refused(refusal) => panic!("refused: {refusal:?}"),
+        Outcome::Ended {
+            stop,
+            attempts,
+            replacements,
+            ..
+        } => (stop, attempts, replacements),
+    }
+}
+
+fn all_series() -> [Series; 5] {
+    [
+        Series {
+            name: "nodes of one search",
+            inputs: NODES.map(|nodes| (nodes, one_search(fails_at_once(), nodes))),
+        },
+        Series {
+            name: "nodes of one search, attempts that bind",
+            inputs: NODES.map(|nodes| (nodes, one_search(fails_in_condition(), nodes))),
+        },
+        Series {
+            name: "attempts of search_heavy",
+            inputs: SEARCH_BUDGETS.map(|budget| (budget, with_budget(search_heavy(), budget))),
+        },
+        Series {
+            name: "attempts of replace_heavy",
+            inputs: REPLACE_BUDGETS.map(|budget| (budget, with_budget(replace_heavy(), budget))),
+        },
+        Series {
+            name: "attempts of replace_heavy, one amount counts down",
+            inputs: REPLACE_BUDGETS.map(|budget| (budget, with_budget(replace_evenly(), budget))),
+        },
+    ]
+}
+
+/// Rules that search a tree of so many nodes once and find nothing, with more
+/// budget than they need.
+fn one_search(rules: Vec<u32>, nodes: u32) -> Input {
+    let count = (nodes - 2) / 2;
+    Input {
+        budget: tamarind::GREATEST_BUDGET,
+        grammar: numbers(),
+        rules,
+        tree: sequence(300..300 + count),
+    }
+}
+
+/// The first 2.00 is replaced by itself: an attempt at each number, which fails
+/// at its only pair where there is no 2.00.
+fn fails_at_once() -> Vec<u32> {
+    let rule = [9, 2, 1];
+    let pattern = [1, 2, 200];
+    let replacement = [1, 2, 200];
+    [&[1], &rule[..], &pattern, &replacement].concat()
+}
+
+/// The first sequence whose first number is under 2.50 is replaced by itself:
+/// each attempt binds that number and the rest of the sequence, builds 2.50 and
+/// fails where that is not greater.
+fn fails_in_condition() -> Vec<u32> {
+    let rule = [13, 1, 1];
+    let pattern = [3, 1, 0, 64, 2, 64, 1];
+    let construct = [4, 2, 1, 2, 250];
+    let condition = [8, 4, 66, 2, 1, 0, 1_009, 1, 65, 0];
+    let replacement = [3, 1, 0, 65, 0, 65, 1];
+    let parts = [&[2], &construct[..], &condition].concat();
+    [&[1], &rule[..], &pattern, &parts, &replacement].concat()
+}
+
+fn search_heavy() -> Input {
+    workload(SEARCH_HEAVY)
+}
+
+/// Fifty amounts that count down, one after the other. Each search passes over
+/// those that are at 0, so a longer run has fewer replacements to its attempts.
+fn replace_heavy() -> Input {
+    workload(REPLACE_HEAVY)
+}
+
+/// The same with one amount that counts down, past any budget, so that each
+/// search takes equally many attempts and attempts and replacements double
+/// together. It is the one in the middle, which takes as many attempts as
+/// `replace_heavy` takes on average.
+fn replace_evenly() -> Input {
+    let mut input = replace_heavy();
+    let amounts = amounts(&input.tree);
+    for &at in &amounts {
+        input.tree[at] = 0;
+    }
+    input.tree[amounts[amounts.len() / 2]] = 999_999_999;
+    input
+}
+
+/// The places of the amounts in a tree of `replace_heavy`, in which a node of
+/// type 3 has one child, its amount.
+fn amounts(tree: &[u32]) -> Vec<usize> {
+    let nodes = tree.chunks_exact(2).enumerate();
+    nodes
+        .filter(|(_, node)| node[0] == 3)
+        .map(|(index, _)| 2 * (index + 1) + 1)
+        .collect()
+}
+
+fn workload(text: &[u8]) -> Input {
+    reference::bench::parse(text).expect("a bench input")
+}
+
+fn with_budget(input: Input, budget: u32) -> Input {
+    Input { budget, ..input }
+}
+
+#[cfg(test)]
+mod tests {
+    use compare::{compare_run, Counts};
+
+    use super::*;
+
+    /// The outcomes of a series, as size, stop, attempts and replacements.
+    fn outcomes(series: &Series) -> [(u32, Option<u32>, u32, u32); 3] {
+        series.inputs.each_ref().map(|(size, input)| {
+            let (stop, attempts, replacements) = counts(input);
+            (*size, stop, attempts, replacements)
+        })
+    }
+
+    #[test]
+    fn both_cores_run_each_input_alike() {
+        for series in all_series() {
+            for (size, input) in &series.inputs {
+                let compared = compare_run(input, &mut Counts::new());
+                assert_eq!(compared, Ok(()), "{} at {size}", series.name);
+            }
+        }
+    }
+
+    #[test]
+    fn each_size_is_twice_the_one_before() {
+        for series in all_series() {
+            let sizes = series.inputs.map(|(size, _)| size);
+            assert_eq!(sizes, [1, 2, 4].map(|times| times * sizes[0]));
+        }
+    }
+
+    #[test]
+    fn one_search_tries_each_node_of_its_type_once() {
+        let [numbers, sequences, ..] = all_series();
+        for series in [&numbers, &sequences] {
+            for (nodes, input) in &series.inputs {
+                assert_eq!(input.tree.len(), 2 * *nodes as usize);
+            }
+        }
+        let tried = |ends| NODES.map(|nodes| (nodes, None, (nodes - 2) / 2 + ends, 0));
+        assert_eq!(outcomes(&numbers), tried(0));
+        assert_eq!(outcomes(&sequences), tried(1));
+    }
+
+    #[test]
+    fn a_run_spends_its_budget() {
+        let [_, _, search_heavy, replace_heavy, replace_evenly] = all_series();
+        let spent = |budgets: [u32; 3], replacements: [u32; 3]| {
+            [0, 1, 2].map(|i| (budgets[i], Some(40), budgets[i], replacements[i]))
+        };
+        assert_eq!(
+            outcomes(&search_heavy),
+            spent(SEARCH_BUDGETS, [25, 50, 100])
+        );
+        assert_eq!(
+            outcomes(&replace_heavy),
+            spent(REPLACE_BUDGETS, [920, 1_342, 1_940])
+        );
+        assert_eq!(
+            outcomes(&replace_evenly),
+            spent(REPLACE_BUDGETS, [100, 200, 400])
+        );
+    }
+}
