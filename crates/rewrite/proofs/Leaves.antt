@@ -5,7 +5,7 @@ use mathlib.Core.List.{List, [], _∷_, _++_, append-assoc, append-nil}
 use mathlib.Core.Option.{Option, none, some}
 use native.Mathlib.Omega.{arith}
 use native.Mathlib.Numerals.{add-one}
-use lib.ListN.{length, getD, take, drop, set, getElem?, length-take, take-append-drop}
+use lib.ListN.{length, getD, take, drop, set, replicate, getElem?, length-take, take-append-drop}
 use lib.Seq.{sets-eq, drop-drop, getD-drop, getD-take}
 use borrow.Author.Tests.{le-leb, lt-leb}
 use Rattle.words.specs.Reader.{Words}
@@ -218,3 +218,13 @@ module _ (w pairs : Words) (at n : ℕ) (vars args : Vars) (count i : ℕ) (go :
             counted = omega (arith, r .counted, nodes, total-more (r .done) u);
             due = t .3;
           }
+
+-- the first argument
+pub gathering-first : (w pairs : Words) (at n : ℕ) (vars : Vars) → Sound vars → 0 < n → {x start y m : ℕ} → x ≡ getD pairs (at + 1) 0 → start ≡ startAt vars x → y ≡ getD w start 0 → m ≡ sizeIn y → m < 4096
+    → Gathering w pairs at n vars (record { n = 1; starts = replicate 16 start }) m 1
+gathering-first w pairs at n vars s h {x} {start} {y} {m} ex es ey em few =
+    let z : at + 1 ≡ at + 2 * 0 + 1 = omega arith in
+    let t : 0 + m ≡ m = omega arith in
+    let go = gathering-start w pairs at n vars (replicate 16 start) refl in
+    let more : Gathering w pairs at n vars (record { n = 1; starts = replicate 16 start }) (0 + m) (0 + 1) = gathering-more w pairs at n vars (record { n = 0; starts = replicate 16 start }) 0 0 go s h (omega arith) (ex ∙ ap (λ k. getD pairs k 0) z) es refl ey em few in
+    rw t at more

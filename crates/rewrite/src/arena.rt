@@ -10,7 +10,7 @@ use tree::limits::MOST_NODES;
 ghost use mathlib.Core.Path.{_≡_};
 ghost use mathlib.Core.List.{_∷_, _++_};
 ghost use Prim.Native.Nat.{ℕ, _+_, _*_, _<_, _≤_, _^_};
-ghost use lib.ListN.{length, getD, take, drop};
+ghost use lib.ListN.{length, getD, take, drop, replicate};
 ghost use Rattle.rewrite.specs.Vars.{Sound, startAt};
 ghost use Rattle.rewrite.specs.Arena.{NodesAt, overBy, Gathered, Closed, TooDeep, Replaced, Computed};
 
@@ -83,6 +83,19 @@ pub fn over(n: usize, live: usize) -> u32
     0
 }
 
+fn no_args() -> Args
+    ensures { λ r. ⌜ r ≡ record { vars = record { n = 0; starts = replicate 16 0 }; total = 0 } ⌝ }
+{
+    let args = Vars {
+        n: 0,
+        starts: [0u32; MOST_VARIABLES],
+    };
+    Args {
+        vars: args,
+        total: 0,
+    }
+}
+
 // The n variables that stand in the pairs from `at` on, at most 16.
 pub fn gather(w: &[u32], pairs: &[u32], at: usize, n: u32, vars: Vars) -> Args
     requires { ⌜ (at < 2 ^ 40) × Sound vars ⌝ }
@@ -90,10 +103,15 @@ pub fn gather(w: &[u32], pairs: &[u32], at: usize, n: u32, vars: Vars) -> Args
 {
     let bound = vars.n;
     let places = vars.starts;
-    let mut starts = [0u32; MOST_VARIABLES];
-    let mut total: usize = 0;
     let count = words::wide(n);
-    let mut i: usize = 0;
+    if count == 0 {
+        return no_args();
+    }
+    // One argument is most often all: stored alone, it would be waited for when the array is copied.
+    let first = crate::start_in(&places, bound, words::word(pairs, at + 1));
+    let mut starts = [first as u32; MOST_VARIABLES];
+    let mut total = crate::size_in(words::word(w, first));
+    let mut i: usize = 1;
     while i < count {
         if MOST_VARIABLES <= i {
             let args = Vars { n: i, starts };
