@@ -315,6 +315,16 @@ fn differs(vars: Vars, live: usize) -> Matched
     }
 }
 
+fn matches(vars: Vars, live: usize) -> Matched
+    ensures { λ r. ⌜ r ≡ record { verdict = Verdict.Matches; vars = vars; live = live } ⌝ }
+{
+    Matched {
+        verdict: Verdict::Matches,
+        vars,
+        live,
+    }
+}
+
 fn place(x: u32) -> usize
     ensures { λ r. ⌜ (r ≡ x) × (r < 2 ^ 32) ⌝ }
 {
@@ -448,13 +458,8 @@ pub fn match_pattern(
             i = i + 2;
         }
     }
-    let verdict = Verdict::Matches;
-    let vars = Vars { n, starts };
-    Matched {
-        verdict,
-        vars,
-        live,
-    }
+    let env = Vars { n, starts };
+    matches(env, live)
 }
 
 // The first node of the type, parent first and left to right, that the pattern matches: a deconstruct that searches.

@@ -93,8 +93,11 @@ loop-less-2 c = omega (arith, c .before .before .before .before .before .before 
 loop-again-2 : tie.Need-loop-again-2 Inv-loop μ-loop
 loop-again-2 c = pair-on (c .before .before .before .before .before .before .before .before .before .before .before .before .before .args .pairs .now) (c .before .before .before .before .before .before .before .before .before .before .before .before .before .args .arena .now) (c .before .before .before .before .before .before .before .before .before .before .before .before .before .args .part .now) (c .before .before .before .before .before .before .before .before .before .before .before .before .before .args .at) (c .before .before .before .before .before .before .before .before .before .before .before .before .before .args .vars) (c .before .before .before .before .before .before .before .before .before .before .before .before .before .args .held) (record { n = c .before .before .before .before .before .before .before .before .loop .n; starts = c .before .before .before .before .before .before .before .before .loop .starts }) (c .before .before .before .before .before .before .before .before .loop .live) (c .before .before .before .before .before .before .before .before .loop .i) (c .before .before .before .before .before .before .before .before .loop .p) (c .before .before .before .before .before .before .before .before .loop .inv) (c .before .before .before .before .before .before .before .loop-test .taken) _ _ _ _ refl refl (c .before .before .before .start-in .ensures .0) (c .before .before .pair-words .ensures .0) (c .if2 .left) (c .before .if1 .left)
 
+matches-requires : tie.Need-matches-requires Inv-loop μ-loop
+matches-requires c κs = search needs
+
 returns-2 : tie.Need-returns-2 Inv-loop μ-loop
-returns-2 c = going-end (c .before .before .before .before .before .before .args .pairs .now) (c .before .before .before .before .before .before .args .arena .now) (c .before .before .before .before .before .before .args .part .now) (c .before .before .before .before .before .before .args .at) (c .before .before .before .before .before .before .args .vars) (c .before .before .before .before .before .before .args .held) (record { n = c .before .loop .n; starts = c .before .loop .starts }) (c .before .loop .live) (c .before .loop .i) (c .before .loop .p) (c .before .loop .inv) (omega (arith, c .loop-test .left))
+returns-2 c = rw (c .matches .ensures) (going-end (c .before .before .before .before .before .before .before .args .pairs .now) (c .before .before .before .before .before .before .before .args .arena .now) (c .before .before .before .before .before .before .before .args .part .now) (c .before .before .before .before .before .before .before .args .at) (c .before .before .before .before .before .before .before .args .vars) (c .before .before .before .before .before .before .before .args .held) (record { n = c .before .before .loop .n; starts = c .before .before .loop .starts }) (c .before .before .loop .live) (c .before .before .loop .i) (c .before .before .loop .p) (c .before .before .loop .inv) (omega (arith, c .before .loop-test .left)))
 
 pub match-pattern-spec : {M : Type 1} → statement M
 match-pattern-spec =
@@ -127,4 +130,5 @@ match-pattern-spec =
     add-i-2
     loop-less-2
     loop-again-2
+    matches-requires
     returns-2)
