@@ -26,9 +26,9 @@ use Rattle.meaning.specs.Computation.{Result, ok, stop, stuck, Comp, thenOf, st
 use Rattle.meaning.specs.Operations.{rounded, truncated, inRange, divisor, withOne, withNone, compute, compare}
 use Rattle.meaning.specs.Meaning.{Env, live, start, fits, begin, liveWithin, variables, valueOf, valuesOf, withValue, isNumberToken}
 use Rattle.meaning.proofs.Level.{values-length, number-tree}
-use Rattle.rewrite.specs.Marked.{markOf, marked}
-use Rattle.rewrite.specs.Vars.{Stands, EnvAt, startsOf, startAt, Sound}
-use Rattle.rewrite.specs.Operating.{argumentsOf}
+use Rattle.operations.specs.Operating.{argumentsOf}
+use Rattle.marks.specs.Marked.{markOf, marked, Stands}
+use Rattle.rewrite.specs.Vars.{EnvAt, startsOf, startAt, Sound}
 use Rattle.rewrite.specs.declared.Vars.{Vars}
 use Rattle.rewrite.proofs.Matcher.{starts-length, start-is}
 use Rattle.rewrite.specs.Arena.{Standing, Gathered}

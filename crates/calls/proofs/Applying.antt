@@ -20,8 +20,8 @@ use Rattle.meaning.specs.Computation.{Result, ok, stop, stuck, Comp, thenOf, ch
 use Rattle.meaning.specs.Operations.{compute}
 use Rattle.meaning.specs.Meaning as M
 use Rattle.meaning.specs.Meaning.{Env, total, variables, valueOf, valuesOf, withValue, isNumberToken, areNumberTokens, done, cannotGoOn, resultAs, resultOf, opened, begin, calls}
+use Rattle.operations.specs.Operating.{argumentsOf}
 use Rattle.rewrite.specs.Vars.{EnvAt, startsOf, startAt, Sound}
-use Rattle.rewrite.specs.Operating.{argumentsOf}
 use Rattle.rewrite.specs.declared.Vars.{Vars}
 use Rattle.rewrite.specs.Arena.{Standing, Gathered, ComputedAs, Computed}
 use Rattle.calls.specs.Engine.{Sure, Says, EndedAs, Tree, Setting, countOf, applyAt, chainAt, Applies, Chains, Calls}

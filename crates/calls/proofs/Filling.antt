@@ -23,10 +23,10 @@ use Rattle.rules.specs.Rules.{Piece, write, copy, chain, Application, applicati
 use Rattle.meaning.specs.Limits.{mostLive}
 use Rattle.meaning.specs.Computation.{Result, ok, stop, stuck, Comp, thenOf, _>>=_, _>>_, return, stopUnless, present}
 use Rattle.meaning.specs.Meaning.{Env, Bindings, live, variable, variables, nodesWithin, liveWithin, apply, applyChain, fill, calls}
-use Rattle.rewrite.specs.Marked.{typeIn, marked, unmarked}
-use Rattle.rewrite.specs.Vars.{Stands, startsOf, startAt}
-use Rattle.rewrite.proofs.Marking.{type-there}
-use Rattle.rewrite.proofs.Same.{unmark}
+use Rattle.marks.specs.Marked.{typeIn, marked, unmarked, Stands}
+use Rattle.marks.proofs.Marking.{type-there}
+use Rattle.marks.proofs.Same.{unmark}
+use Rattle.rewrite.specs.Vars.{startsOf, startAt}
 use Rattle.rewrite.specs.Arena.{NodesAt, overBy, Standing}
 use Rattle.rules.specs.Views.{pairsAt}
 use Rattle.calls.specs.Engine.{Room, Held, Setting, Sure, Says, Tree, chainAt, chainPiece, Chains, FillsChain, Fills}

@@ -19,7 +19,7 @@ use Rattle.rules.specs.Rules.{construct, pieces}
 use Rattle.meaning.specs.Limits.{mostLive}
 use Rattle.meaning.specs.Computation.{Result, ok, stop, Comp, thenOf, _>>=_, _>>_, return, stopUnless, check}
 use Rattle.meaning.specs.Meaning.{Bindings, live, nestingWithin, bind, fill, finish, part, calls}
-use Rattle.rewrite.specs.Marked.{marked}
+use Rattle.marks.specs.Marked.{marked}
 use Rattle.rewrite.specs.Vars.{startsOf, bound, Sound}
 use Rattle.rewrite.specs.Matching.{bindings}
 use Rattle.rewrite.specs.declared.Vars.{Vars}

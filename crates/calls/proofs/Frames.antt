@@ -12,12 +12,12 @@ use Rattle.tree.specs.Tree.{Tree, size}
 use Rattle.tree.proofs.Trees.{tells, trees-even}
 use Rattle.meaning.specs.Limits.{mostLive}
 use Rattle.meaning.specs.Meaning.{Env, Bindings}
-use Rattle.rewrite.specs.Marked.{marked}
-use Rattle.rewrite.specs.Vars.{Stands, EnvAt, startsOf, startAt, Sound}
+use Rattle.marks.specs.Marked.{marked, Stands}
+use Rattle.marks.proofs.Marks.{marked-length}
+use Rattle.marks.proofs.Spans.{drop-take}
+use Rattle.rewrite.specs.Vars.{EnvAt, startsOf, startAt, Sound}
 use Rattle.rewrite.specs.declared.Vars.{Vars}
 use Rattle.rewrite.specs.declared.arena.Frame.{Frame}
-use Rattle.rewrite.proofs.Marks.{marked-length}
-use Rattle.rewrite.proofs.Spans.{drop-take}
 use Rattle.rewrite.proofs.Matcher.{env-length, env-get, starts-length, start-is}
 use Rattle.calls.specs.Engine.{Room, Grown, Held}
 use Rattle.rewrite.specs.Arena.{Standing}

@@ -27,11 +27,11 @@ use Rattle.rules.proofs.Laid.{Told, part-tells}
 use Rattle.meaning.specs.Computation.{Result, Comp}
 use Rattle.meaning.specs.Meaning as M
 use Rattle.meaning.specs.Meaning.{Bindings, variable, match, matchFirst}
+use Rattle.marks.specs.Marked.{marked, Stands}
+use Rattle.marks.proofs.Marks.{marked-length}
 use Rattle.rewrite.specs.Arena.{NodesAt}
-use Rattle.rewrite.specs.Marked.{marked}
-use Rattle.rewrite.specs.Vars.{Stands, startAt}
+use Rattle.rewrite.specs.Vars.{startAt}
 use Rattle.rewrite.specs.Matching.{Stage, Means, Answers}
-use Rattle.rewrite.proofs.Marks.{marked-length}
 use Rattle.rewrite.specs.declared.Vars.{Vars}
 use Rattle.rewrite.specs.declared.Verdict.{Verdict}
 use Rattle.rewrite.specs.declared.Verdict.the-variants.{Matches, Differs, Stops}

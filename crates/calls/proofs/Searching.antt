@@ -30,14 +30,14 @@ use Rattle.meaning.specs.Limits.{mostLive}
 use Rattle.meaning.specs.Computation.{Result, ok, stop, stuck, Comp, thenOf, spend, choose, whether, return}
 use Rattle.meaning.specs.Meaning as M
 use Rattle.meaning.specs.Meaning.{Env, Bindings, Found, calls, match}
-use Rattle.rewrite.specs.Marked.{marked, typeIn}
+use Rattle.marks.specs.Marked.{marked, typeIn}
+use Rattle.marks.specs.Post.{span}
+use Rattle.marks.proofs.Marks.{marked-length}
+use Rattle.marks.proofs.Spans.{drop-take}
 use Rattle.rewrite.specs.Vars.{Sound}
 use Rattle.rewrite.specs.Matching.{Stage, Means, Answers, bindings}
-use Rattle.rewrite.specs.Post.{span}
 use Rattle.rewrite.specs.Candidates.{Clashes, Passed, NextCandidate}
 use Rattle.rewrite.specs.declared.candidates.Candidate.{Candidate}
-use Rattle.rewrite.proofs.Marks.{marked-length}
-use Rattle.rewrite.proofs.Spans.{drop-take}
 use Rattle.rewrite.proofs.Matcher.{Node, node-of, two-marked}
 use Rattle.rewrite.specs.declared.Verdict.the-variants.{Matches, Differs, Stops}
 use Rattle.rewrite.specs.declared.Matched.{Matched}

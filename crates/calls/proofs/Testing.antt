@@ -18,9 +18,10 @@ use Rattle.meaning.specs.Computation.{Result, ok, stop, stuck, Comp, thenOf, ch
 use Rattle.meaning.specs.Operations.{compare}
 use Rattle.meaning.specs.Meaning as M
 use Rattle.meaning.specs.Meaning.{Env, Bindings, live, total, start, begin, liveWithin, variables, valueOf, valuesOf, isNumberToken, areNumberTokens, calls}
-use Rattle.rewrite.specs.Vars.{Stands, startsOf, startAt, Sound}
+use Rattle.operations.specs.Operating.{argumentsOf, Compared}
+use Rattle.marks.specs.Marked.{Stands}
+use Rattle.rewrite.specs.Vars.{startsOf, startAt, Sound}
 use Rattle.rewrite.specs.Matching.{bindings}
-use Rattle.rewrite.specs.Operating.{argumentsOf, Compared}
 use Rattle.rewrite.specs.declared.Verdict.{Verdict}
 use Rattle.rewrite.specs.declared.Verdict.the-variants.{Matches, Differs, Stops}
 use Rattle.rewrite.specs.Arena.{NodesAt, Gathered, Standing}

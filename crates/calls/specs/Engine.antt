@@ -25,7 +25,7 @@ use Rattle.meaning.specs.Limits.{mostLive}
 use Rattle.meaning.specs.Computation.{Result, ok, stop, stuck, Comp, _>>=_, _>>_, return, never}
 use Rattle.meaning.specs.Meaning as M
 use Rattle.meaning.specs.Meaning.{Env, Bindings, live, total, variable, variables, liveWithin, nodesWithin, Ending, done, stopped, cannotGoOn, Found, calls}
-use Rattle.rewrite.specs.Marked.{unmarked}
+use Rattle.marks.specs.Marked.{unmarked}
 use Rattle.rewrite.specs.Arena.{Standing}
 use Rattle.rewrite.specs.Vars.{EnvAt, startsOf, Sound}
 use Rattle.rewrite.specs.Matching.{bindings}

@@ -436,7 +436,7 @@ fn seek(
             break 'nodes seeking(Found::Nowhere, frame, fuel, 0);
         }
         let p = base + 2 * i;
-        if rewrite::type_in(w[p]) != plan.target {
+        if marks::type_in(w[p]) != plan.target {
             i = i + 1;
             continue 'nodes;
         }
@@ -607,7 +607,7 @@ fn succeeds(
         );
     }
     let b = arena::value_of(w, pairs, at + 3, vars);
-    if rewrite::operations::holds(a, words::word(w, start + 1), b) {
+    if operations::holds(a, words::word(w, start + 1), b) {
         return Tested {
             verdict: Verdict::Matches,
             left,

@@ -8,8 +8,8 @@ use lib.ListN.{length, getD}
 use lib.Dec.{ltb}
 use borrow.Author.Tests.{ltb-true, ltb-false}
 use Rattle.words.specs.Reader.{Words}
-use Rattle.rewrite.specs.Marked.{typeIn, sizeIn}
-use Rattle.rewrite.specs.Post.{span}
+use Rattle.marks.specs.Marked.{typeIn, sizeIn}
+use Rattle.marks.specs.Post.{span}
 use Rattle.rewrite.specs.Vars.{Sound, bound}
 use Rattle.rewrite.specs.Matching.{MatchAnswers}
 use Rattle.rewrite.specs.Candidates.{Clashes, Passed, NextCandidate}

@@ -11,13 +11,13 @@ use Rattle.words.specs.Reader.{Words, pick}
 use Rattle.grammar.specs.Grammar.{Grammar}
 use Rattle.tree.specs.Tree.{Trees, size, nesting}
 use Rattle.tree.proofs.Trees.{trees-even, tree-some}
-use Rattle.rewrite.specs.Marked.{nestingIn, marked, unmarked}
-use Rattle.rewrite.specs.Post.{Unfinished, TreeMarked}
+use Rattle.marks.specs.Marked.{nestingIn, marked, unmarked}
+use Rattle.marks.specs.Post.{Unfinished, TreeMarked}
+use Rattle.marks.proofs.Marks.{marked-length}
+use Rattle.marks.proofs.Marking.{child-of}
+use Rattle.marks.proofs.Spans.{word-there}
+use Rattle.marks.proofs.Same.{whole-first}
 use Rattle.rewrite.specs.Arena.{Closed}
-use Rattle.rewrite.proofs.Marks.{marked-length}
-use Rattle.rewrite.proofs.Marking.{child-of}
-use Rattle.rewrite.proofs.Spans.{word-there}
-use Rattle.rewrite.proofs.Same.{whole-first}
 
 -- the nesting of a tree that stands at a place
 pub nesting-there : {g : Grammar} {t : ℕ} (w ws : Words) (at n : ℕ) → length g ≤ 64 → Trees g (t ∷ []) ws → size ws ≡ n → n ≤ 2048 → take (2 * n) (drop at w) ≡ marked g ws → nestingIn (getD w at 0) ≡ nesting g ws

@@ -21,14 +21,14 @@ use Rattle.meaning.specs.Computation.{Result, ok, stop, stuck, Comp, thenOf, ch
 use Rattle.meaning.specs.Meaning.{Env, Bindings, match, matchFirst}
 use Rattle.tree.specs.Rest.{Rest}
 use Rattle.tree.proofs.Rest.{rest-node}
+use Rattle.marks.specs.Marked.{typeIn, marked}
+use Rattle.marks.proofs.Marks.{marked-length}
 use Rattle.rewrite.specs.declared.Vars.{Vars}
 use Rattle.rewrite.specs.declared.Verdict.{Verdict}
 use Rattle.rewrite.specs.declared.Verdict.the-variants.{Matches, Differs, Stops}
 use Rattle.rewrite.specs.declared.Matched.{Matched}
-use Rattle.rewrite.specs.Marked.{typeIn, marked}
 use Rattle.rewrite.specs.Vars.{Sound}
 use Rattle.rewrite.specs.Matching.{Stage, bindings, Means, Answers, MatchAnswers, FirstAnswers}
-use Rattle.rewrite.proofs.Marks.{marked-length}
 use Rattle.rewrite.proofs.Matcher.{Node, node-of, stage-on, moved, two-marked, due-as, node-as}
 
 -- THE DEFINITION, one law a way

@@ -1,11 +1,11 @@
--- Laws of the stack of trees: how many nodes a tree on it has, what is pushed, and the arguments that are gathered. Assumes nothing.
+-- Laws of the stack of trees: how many nodes a tree on it has, what is pushed, the arguments that are gathered, and what an operation writes. Assumes nothing.
 use Prim.Native.Nat.{ℕ, zero, suc, _+_, _-_, _*_, _<_, _≤_}
 use mathlib.Core.Path.{_≡_, refl, sym, ap, ap₂, _∙_}
 use mathlib.Core.List.{List, [], _∷_, _++_, append-assoc, append-nil}
 use mathlib.Core.Option.{Option, none, some}
 use native.Mathlib.Omega.{arith}
 use native.Mathlib.Numerals.{add-one}
-use lib.ListN.{length, getD, take, drop, set, replicate, getElem?, length-take, take-append-drop}
+use lib.ListN.{length, getD, take, drop, set, replicate, getElem?, length-set, length-take, take-append-drop}
 use lib.Seq.{sets-eq, drop-drop, getD-drop, getD-take}
 use borrow.Author.Tests.{le-leb, lt-leb}
 use Rattle.words.specs.Reader.{Words}
@@ -17,11 +17,14 @@ use Rattle.tree.proofs.Trees.{trees-even, tree-some}
 use Rattle.rules.specs.Rules.{arguments}
 use Rattle.meaning.specs.Computation.{Result, ok, stop, stuck, thenOf, present, return}
 use Rattle.meaning.specs.Meaning.{Env, total, variable, variables}
-use Rattle.rewrite.specs.Marked.{sizeIn}
-use Rattle.rewrite.specs.Vars.{Stands, EnvAt, startsOf, bound, startAt, Sound}
-use Rattle.rewrite.specs.Arena.{NodesAt, overBy, Gathered}
+use Rattle.operations.specs.declared.Number.{Number}
+use Rattle.operations.specs.declared.Number.the-variants.{Is, OutOfRange}
+use Rattle.operations.specs.Operating.{Operated}
+use Rattle.marks.specs.Marked.{sizeIn, Stands}
+use Rattle.marks.proofs.Same.{stands-size}
+use Rattle.rewrite.specs.Vars.{EnvAt, startsOf, bound, startAt, Sound}
+use Rattle.rewrite.specs.Arena.{NodesAt, overBy, Gathered, Computed}
 use Rattle.rewrite.specs.declared.Vars.{Vars}
-use Rattle.rewrite.proofs.Same.{stands-size}
 use Rattle.rewrite.proofs.Matcher.{env-length, env-more, env-get, env-as, stands-as, total-more, starts-length, starts-more, sound-more, start-is}
 
 -- THE NODES OF A TREE
@@ -228,3 +231,12 @@ gathering-first w pairs at n vars s h {x} {start} {y} {m} ex es ey em few =
     let go = gathering-start w pairs at n vars (replicate 16 start) refl in
     let more : Gathering w pairs at n vars (record { n = 1; starts = replicate 16 start }) (0 + m) (0 + 1) = gathering-more w pairs at n vars (record { n = 0; starts = replicate 16 start }) 0 0 go s h (omega arith) (ex ∙ ap (λ k. getD pairs k 0) z) es refl ey em few in
     rw t at more
+
+-- WHAT AN OPERATION WRITES
+
+module _ (w : Words) (base op b a : ℕ) (r : Number) (ea : a ≡ getD w (base + 1) 0) (f : Operated op a b r) where
+  pub computed-is : (v : ℕ) → r ≡ Is v → Computed w (set w (base + 1) v) base op b 0
+  computed-is v e = record { long = length-set w (base + 1) v; computed = λ o left eo ns. (v, (rw (ea, e) at f) o left eo ns, refl) }
+
+  pub computed-out : r ≡ OutOfRange → Computed w w base op b 45
+  computed-out e = record { long = refl; computed = λ o left eo ns. ((rw (ea, e) at f) o left eo ns, refl) }

@@ -23,20 +23,20 @@ use Rattle.meaning.specs.Computation.{Result, ok, stop, stuck}
 use Rattle.meaning.specs.Meaning.{Env, Bindings, total, live, match}
 use Rattle.tree.specs.Rest.{Rest}
 use Rattle.tree.proofs.Rest.{rest-node, onward}
+use Rattle.marks.specs.Marked.{typeIn, sizeIn, mark, markOf, marked, Stands}
+use Rattle.marks.specs.Post.{SameTree}
+use Rattle.marks.proofs.Marks.{mark-type, mark-size, marked-length, marked-append}
+use Rattle.marks.proofs.Marking.{type-there}
+use Rattle.marks.proofs.Spans.{first-size, drop-take}
+use Rattle.marks.proofs.Same.{marked-first}
 use Rattle.rewrite.specs.declared.Vars.{Vars}
 use Rattle.rewrite.specs.declared.Verdict.{Verdict}
 use Rattle.rewrite.specs.declared.Verdict.the-variants.{Matches, Differs, Stops}
 use Rattle.rewrite.specs.declared.Matched.{Matched}
-use Rattle.rewrite.specs.Marked.{typeIn, sizeIn, mark, markOf, marked}
-use Rattle.rewrite.specs.Vars.{Stands, EnvAt, startsOf, bound, startAt, Sound}
-use Rattle.rewrite.specs.Post.{SameTree}
+use Rattle.rewrite.specs.Vars.{EnvAt, startsOf, bound, startAt, Sound}
 use Rattle.rewrite.specs.Matching.{Stage, bindings, Means, Answers, matchOf, MatchAnswers, NewTold, PairTold, failedBy}
 use Rattle.rewrite.specs.Matching.NewTold.{other, over, past, taken}
 use Rattle.rewrite.specs.Matching.PairTold.{short, new, unlike, like, type, value, node}
-use Rattle.rewrite.proofs.Marks.{mark-type, mark-size, marked-length, marked-append}
-use Rattle.rewrite.proofs.Marking.{type-there}
-use Rattle.rewrite.proofs.Spans.{first-size, drop-take}
-use Rattle.rewrite.proofs.Same.{marked-first}
 use Rattle.rewrite.proofs.Steps.{pair-new, pair-same, pair-node, no-pair, match-end, match-short, node-type, node-value, node-both, new-type, new-full, new-seventeenth, new-bound, same-unbound, same-other, same-there}
 
 -- THE VARIABLES

@@ -15,12 +15,12 @@ use Rattle.tree.specs.Tree.{Trees, Tree, size, nestingFrom, nesting, nodeNestin
 use Rattle.tree.proofs.Trees.{tells, trees-even, first-after}
 use Rattle.tree.proofs.Places.{node-at, spliced, subtree-size, splice-trees, splice-size, splice-nesting, node-nested}
 use Rattle.meaning.specs.Meaning.{put}
-use Rattle.rewrite.specs.Marked.{sizeIn, nestingIn, marked}
-use Rattle.rewrite.specs.Post.{span, NestingOf, Ready, InPlace}
+use Rattle.marks.specs.Marked.{sizeIn, nestingIn, marked}
+use Rattle.marks.specs.Post.{span, NestingOf, Ready, InPlace}
+use Rattle.marks.proofs.Marks.{marked-drop, tree-deeper}
+use Rattle.marks.proofs.Marking.{first-one, Child, child-of}
+use Rattle.marks.proofs.Spans.{suffix-some, suffix-size, first-size}
 use Rattle.rewrite.specs.Arena.{Standing, TooDeep, Replaced}
-use Rattle.rewrite.proofs.Marks.{marked-drop, tree-deeper}
-use Rattle.rewrite.proofs.Marking.{first-one, Child, child-of}
-use Rattle.rewrite.proofs.Spans.{suffix-some, suffix-size, first-size}
 use Rattle.rewrite.proofs.Closing.{nesting-there}
 
 -- a tree that stands at the nesting k nests no deeper than so much exactly if k and its own nesting are at most one more

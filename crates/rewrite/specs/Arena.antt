@@ -16,9 +16,9 @@ use Rattle.meaning.specs.Limits.{mostLive}
 use Rattle.meaning.specs.Computation.{Result, ok, stop, stuck}
 use Rattle.meaning.specs.Operations.{compute}
 use Rattle.meaning.specs.Meaning.{Env, total, variables, put}
-use Rattle.rewrite.specs.Marked.{marked, unmarked}
-use Rattle.rewrite.specs.Vars.{Stands, EnvAt, startsOf, Sound}
-use Rattle.rewrite.specs.Operating.{argumentsOf}
+use Rattle.operations.specs.Operating.{argumentsOf}
+use Rattle.marks.specs.Marked.{marked, unmarked, Stands}
+use Rattle.rewrite.specs.Vars.{EnvAt, startsOf, Sound}
 use Rattle.rewrite.specs.declared.Vars.{Vars}
 use Rattle.rewrite.specs.declared.arena.Args.{Args}
 use Rattle.rewrite.specs.declared.arena.Placed.{Placed}

@@ -4,8 +4,8 @@ use mathlib.Core.Path.{_≡_}
 use mathlib.Core.Logic.{_⊎_}
 use lib.ListN.{getD, take, drop}
 use Rattle.words.specs.Reader.{Words}
-use Rattle.rewrite.specs.Marked.{typeIn}
-use Rattle.rewrite.specs.Post.{span}
+use Rattle.marks.specs.Marked.{typeIn}
+use Rattle.marks.specs.Post.{span}
 use Rattle.rewrite.specs.Vars.{Sound}
 use Rattle.rewrite.specs.Matching.{MatchAnswers}
 use Rattle.rewrite.specs.declared.Vars.{Vars}

@@ -15,9 +15,9 @@ use Rattle.meaning.specs.Limits.{mostLive}
 use Rattle.meaning.specs.Computation.{Result, ok, stop, stuck, Comp}
 use Rattle.meaning.specs.Meaning.{Env, Bindings, total, match, matchFirst}
 use Rattle.tree.specs.Rest.{Rest}
-use Rattle.rewrite.specs.Marked.{marked, typeIn, sizeIn}
+use Rattle.marks.specs.Marked.{marked, typeIn, sizeIn}
+use Rattle.marks.specs.Post.{SameTree}
 use Rattle.rewrite.specs.Vars.{EnvAt, startsOf, Sound}
-use Rattle.rewrite.specs.Post.{SameTree}
 use Rattle.rewrite.specs.declared.Vars.{Vars}
 use Rattle.rewrite.specs.declared.Verdict.{Verdict}
 use Rattle.rewrite.specs.declared.Verdict.the-variants.{Matches, Differs, Stops}

@@ -2,20 +2,12 @@
 use Prim.Native.Nat.{ℕ, _+_, _≤_}
 use mathlib.Core.Path.{_≡_}
 use mathlib.Core.List.{List, [], _∷_}
-use lib.ListN.{length, getD, take, drop, set}
+use lib.ListN.{length, getD, take, set}
 use lib.Dec.{ltb}
 use Rattle.words.specs.Reader.{Words, pick, and}
 use Rattle.grammar.specs.Grammar.{Grammar}
-use Rattle.tree.specs.Tree.{Tree}
-use Rattle.rewrite.specs.Marked.{marked}
+use Rattle.marks.specs.Marked.{Stands}
 use Rattle.rewrite.specs.declared.Vars.{Vars}
-
--- the tree stands at the place
-pub record Stands (g : Grammar) (arena : Words) (start : ℕ) (ws : Words) : Type 0 where
-  pub type : ℕ
-  pub tree : Tree g type ws
-  pub inside : start + length ws ≤ length arena
-  pub words : take (length ws) (drop start arena) ≡ marked g ws
 
 -- each tree stands at its place
 abbrev pub EnvAt : Grammar → Words → List ℕ → List Words → Type 0

@@ -1,9 +1,9 @@
 // Work memory as a stack of trees: what stands on it, what is pushed, finished and put in place.
 use crate::MOST_LIVE;
 use crate::Vars;
-use crate::operations::Number;
 use grammar::limits::HEADS;
 use grammar::limits::ROWS;
+use operations::Number;
 use rules::limits::MOST_VARIABLES;
 use tree::limits::MOST_NESTING;
 use tree::limits::MOST_NODES;
@@ -38,7 +38,7 @@ pub fn nodes_at(w: &[u32], start: usize, top: usize) -> usize
     requires { ⌜ start < 2 ^ 32 ⌝ }
     ensures { λ r. ⌜ NodesAt (now (w .entry)) start top r ⌝ }
 {
-    let n = crate::size_in(words::word(w, start));
+    let n = marks::size_in(words::word(w, start));
     if MOST_NODES < n {
         return 0;
     }
@@ -110,7 +110,7 @@ pub fn gather(w: &[u32], pairs: &[u32], at: usize, n: u32, vars: Vars) -> Args
     // One argument is most often all: stored alone, it would be waited for when the array is copied.
     let first = crate::start_in(&places, bound, words::word(pairs, at + 1));
     let mut starts = [first as u32; MOST_VARIABLES];
-    let mut total = crate::size_in(words::word(w, first));
+    let mut total = marks::size_in(words::word(w, first));
     let mut i: usize = 1;
     while i < count {
         if MOST_VARIABLES <= i {
@@ -119,7 +119,7 @@ pub fn gather(w: &[u32], pairs: &[u32], at: usize, n: u32, vars: Vars) -> Args
         }
         let start = crate::start_in(&places, bound, words::word(pairs, at + 2 * i + 1));
         starts[i] = start as u32;
-        total = total + crate::size_in(words::word(w, start));
+        total = total + marks::size_in(words::word(w, start));
         i = i + 1;
     }
     let args = Vars { n: i, starts };
@@ -140,8 +140,8 @@ pub fn close(heads: &[u32; HEADS], rows: &[u8; ROWS], w: &mut [u32], top: usize,
     ensures { λ r. ⌜ Closed (now (heads .entry)) (now (rows .entry)) (now (w .entry)) (now (w .exit)) top n r ⌝ }
 {
     let end = top + 2 * n;
-    crate::mark_tree(heads, rows, w, top, end, end);
-    let deepest = crate::nesting_in(words::word(w, top));
+    marks::mark_tree(heads, rows, w, top, end, end);
+    let deepest = marks::nesting_in(words::word(w, top));
     if MOST_NESTING < deepest {
         return 43;
     }
@@ -156,11 +156,11 @@ fn too_deep(heads: &[u32; HEADS], w: &[u32], base: usize, n: usize, i: usize, fr
 {
     let place = base + 2 * i;
     let end = base + 2 * n;
-    let deepest = crate::nesting_in(words::word(w, from));
-    if deepest <= crate::nesting_in(words::word(w, place)) {
+    let deepest = marks::nesting_in(words::word(w, from));
+    if deepest <= marks::nesting_in(words::word(w, place)) {
         return false;
     }
-    let above = crate::nesting_at(heads, &w[base..end], place - base);
+    let above = marks::nesting_at(heads, &w[base..end], place - base);
     MOST_NESTING + 1 < above + deepest
 }
 
@@ -180,7 +180,7 @@ pub fn replace_tree(
 {
     let place = base + 2 * i;
     let end = base + 2 * n;
-    let old = crate::size_in(words::word(w, place));
+    let old = marks::size_in(words::word(w, place));
     if n < old {
         return Placed { stop: 0, nodes: n };
     }
@@ -191,7 +191,7 @@ pub fn replace_tree(
     if too_deep(heads, w, base, n, i, from) {
         return Placed { stop: 43, nodes };
     }
-    crate::put_in_place(heads, rows, w, base, place, end, from, 2 * m);
+    marks::put_in_place(heads, rows, w, base, place, end, from, 2 * m);
     Placed { stop: 0, nodes }
 }
 
@@ -201,7 +201,7 @@ pub fn compute_at(w: &mut [u32], base: usize, op: u32, b: u32) -> u32
     ensures { λ r. ⌜ Computed (now (w .entry)) (now (w .exit)) base op b r ⌝ }
 {
     let a = words::word(w, base + 1);
-    let r = crate::operations::operate(op, a, b);
+    let r = operations::operate(op, a, b);
     match r {
         Number::OutOfRange => 45,
         Number::Is(v) => {

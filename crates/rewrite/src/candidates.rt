@@ -30,10 +30,10 @@ fn clashes(pairs: &[u32], part: &[u32], live: usize) -> bool
         let v = pairs[i + 1];
         let w = part[p];
         if t == MARK_NEW {
-            if crate::type_in(w) != v {
+            if marks::type_in(w) != v {
                 return true;
             }
-            let n = crate::size_in(w);
+            let n = marks::size_in(w);
             if MOST_LIVE < total + n {
                 return false;
             }
@@ -43,7 +43,7 @@ fn clashes(pairs: &[u32], part: &[u32], live: usize) -> bool
         } else if t == MARK_VARIABLE {
             return false;
         } else {
-            if crate::type_in(w) != t {
+            if marks::type_in(w) != t {
                 return true;
             }
             if part[p + 1] != v {
@@ -76,7 +76,7 @@ pub fn next_candidate(
     let mut left = fuel;
     while node < last {
         let p = base + 2 * node;
-        if crate::type_in(w[p]) != target {
+        if marks::type_in(w[p]) != target {
             node = node + 1;
         } else {
             if left == 0 {

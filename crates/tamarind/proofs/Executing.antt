@@ -20,12 +20,12 @@ use Rattle.meaning.specs.Meaning.{Ending, done, stopped, cannotGoOn, total, cal
 use Rattle.meaning.specs.Outcome.{Inputs, ended, endedAs, outcomeOf, outcome, resultAfter, workAfter, filledBy}
 use Rattle.meaning.specs.Sound.{WellEnded, Sound}
 use Rattle.meaning.proofs.FromWords.{Read-all, read-all, read-tree, read-typed, read-sound}
-use Rattle.rewrite.specs.Marked.{marked, unmarked}
-use Rattle.rewrite.specs.Post.{Written}
+use Rattle.marks.specs.Marked.{marked, unmarked}
+use Rattle.marks.specs.Post.{Written}
+use Rattle.marks.proofs.Marks.{marked-length}
+use Rattle.marks.proofs.Same.{unmark}
 use Rattle.rewrite.specs.Vars.{EnvAt, startsOf}
 use Rattle.rewrite.specs.declared.Vars.{Vars}
-use Rattle.rewrite.proofs.Marks.{marked-length}
-use Rattle.rewrite.proofs.Same.{unmark}
 use Rattle.calls.specs.Engine.{Setting, EndedAs, Tree, Left, Calls}
 use Rattle.calls.specs.declared.Called.{Called}
 use Rattle.tamarind.specs.declared.Stop.{Stop}

@@ -13,11 +13,11 @@ use Rattle.grammar.specs.Grammar.{Grammar}
 use Rattle.grammar.specs.Tables.{Tables}
 use Rattle.tree.specs.Tree.{Tree, size}
 use Rattle.tree.proofs.Trees.{trees-even}
-use Rattle.rewrite.specs.Marked.{marked, unmarked}
-use Rattle.rewrite.specs.Post.{Unfinished, TreeMarked}
+use Rattle.marks.specs.Marked.{marked, unmarked}
+use Rattle.marks.specs.Post.{Unfinished, TreeMarked}
+use Rattle.marks.proofs.Marks.{marked-length}
+use Rattle.marks.proofs.Same.{unmarked-same}
 use Rattle.rewrite.specs.Arena.{Standing}
-use Rattle.rewrite.proofs.Marks.{marked-length}
-use Rattle.rewrite.proofs.Same.{unmarked-same}
 use Rattle.rewrite.proofs.Closing.{none-marked}
 use Rattle.tamarind.specs.Run.{Laid}
 

@@ -198,7 +198,7 @@ fn lay_tree(heads: &[u32; HEADS], rows: &[u8; ROWS], tree: &[u32], work: &mut [u
 {
     let end = tree.len();
     load(tree, work);
-    rewrite::mark_tree(heads, rows, work, 0, end, end);
+    marks::mark_tree(heads, rows, work, 0, end, end);
 }
 
 // The answer that the first call gives, with so many words filled.
@@ -262,7 +262,7 @@ fn execute(
     );
     let filled = 2 * c.nodes;
     let scope = &work[..];
-    rewrite::write_result(&scope[..filled], result);
+    marks::write_result(&scope[..filled], result);
     words::clear(work);
     answer_of(c, budget, filled)
 }

@@ -11,7 +11,7 @@ use Rattle.rewrite.proofs.match_first.Reads as reads
 use Rattle.rewrite.proofs.match_first.Lts as lts
 use Rattle.rewrite.proofs.differs.Reads as differs-reads
 use Rattle.rewrite.proofs.match_pattern.Reads as match-pattern-reads
-use Rattle.rewrite.proofs.type_in.Reads as type-in-reads
+use Rattle.marks.proofs.type_in.Reads as type-in-reads
 
 abbrev Inv-loop : tie.InvT-loop
 Inv-loop ty pairs arena part at vars live p₀ p = Finding ty pairs arena part at vars live p

@@ -7,8 +7,8 @@ use Rattle.rewrite.proofs.new_words.Statement.{statement}
 use Rattle.rewrite.proofs.new_words.Tie as tie
 use Rattle.rewrite.proofs.new_words.Reads as reads
 use Rattle.rewrite.proofs.new_words.Lts as lts
-use Rattle.rewrite.proofs.size_in.Reads as size-in-reads
-use Rattle.rewrite.proofs.type_in.Reads as type-in-reads
+use Rattle.marks.proofs.size_in.Reads as size-in-reads
+use Rattle.marks.proofs.type_in.Reads as type-in-reads
 
 type-in-requires : tie.Need-type-in-requires
 type-in-requires c κs = search needs

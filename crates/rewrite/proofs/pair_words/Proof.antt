@@ -10,9 +10,9 @@ use Rattle.rewrite.proofs.pair_words.Tie as tie
 use Rattle.rewrite.proofs.pair_words.Reads as reads
 use Rattle.rewrite.proofs.pair_words.Lts as lts
 use Rattle.rewrite.proofs.new_words.Reads as new-words-reads
-use Rattle.rewrite.proofs.same_tree.Reads as same-tree-reads
-use Rattle.rewrite.proofs.size_in.Reads as size-in-reads
-use Rattle.rewrite.proofs.type_in.Reads as type-in-reads
+use Rattle.marks.proofs.same_tree.Reads as same-tree-reads
+use Rattle.marks.proofs.size_in.Reads as size-in-reads
+use Rattle.marks.proofs.type_in.Reads as type-in-reads
 
 add-if1 : tie.Need-add-if1
 add-if1 c = search needs

@@ -16,7 +16,7 @@ use Rattle.calls.proofs.seeking.Reads as seeking-reads
 use Rattle.calls.proofs.tried.Reads as tried-reads
 use Rattle.rewrite.proofs.candidates.next_candidate.Reads as next-candidate-reads
 use Rattle.rewrite.proofs.match_pattern.Reads as match-pattern-reads
-use Rattle.rewrite.proofs.type_in.Reads as type-in-reads
+use Rattle.marks.proofs.type_in.Reads as type-in-reads
 use Rattle.calls.proofs.+any_succeeds+apply+call+chain+condition+construct+fill+fill_chain+finish+matches+replace+seek+step+succeeds.Proof.Common.{seek-at, step-below}
 
 abbrev pub seek-claims : ℕ → seek-lts.Claims

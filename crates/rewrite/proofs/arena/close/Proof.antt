@@ -1,4 +1,4 @@
-use Rattle.rewrite.specs.Marked.{nestingIn}
+use Rattle.marks.specs.Marked.{nestingIn}
 use mathlib.Core.Path.{ap, _∙_}
 use Rattle.rewrite.proofs.Closing.{closed-deep, closed-flat}
 use borrow.Author.Needs.{needs}
@@ -6,8 +6,8 @@ use Rattle.rewrite.proofs.arena.close.Statement.{statement}
 use Rattle.rewrite.proofs.arena.close.Tie as tie
 use Rattle.rewrite.proofs.arena.close.Reads as reads
 use Rattle.rewrite.proofs.arena.close.Lts as lts
-use Rattle.rewrite.proofs.mark_tree.Reads as mark-tree-reads
-use Rattle.rewrite.proofs.nesting_in.Reads as nesting-in-reads
+use Rattle.marks.proofs.mark_tree.Reads as mark-tree-reads
+use Rattle.marks.proofs.nesting_in.Reads as nesting-in-reads
 use Rattle.words.proofs.word.Reads as word-reads
 
 mul-end : tie.Need-mul-end

@@ -1,10 +1,10 @@
-use Rattle.rewrite.proofs.Numbers.{computed-is, computed-out}
+use Rattle.rewrite.proofs.Leaves.{computed-is, computed-out}
 use borrow.Author.Needs.{needs}
 use Rattle.rewrite.proofs.arena.compute_at.Statement.{statement}
 use Rattle.rewrite.proofs.arena.compute_at.Tie as tie
 use Rattle.rewrite.proofs.arena.compute_at.Reads as reads
 use Rattle.rewrite.proofs.arena.compute_at.Lts as lts
-use Rattle.rewrite.proofs.operations.operate.Reads as operate-reads
+use Rattle.operations.proofs.operate.Reads as operate-reads
 use Rattle.words.proofs.word.Reads as word-reads
 
 add-word : tie.Need-add-word

@@ -9,7 +9,7 @@ use Rattle.rewrite.proofs.arena.gather.Tie as tie
 use Rattle.rewrite.proofs.arena.gather.Reads as reads
 use Rattle.rewrite.proofs.arena.gather.Lts as lts
 use Rattle.rewrite.proofs.arena.no_args.Reads as no-args-reads
-use Rattle.rewrite.proofs.size_in.Reads as size-in-reads
+use Rattle.marks.proofs.size_in.Reads as size-in-reads
 use Rattle.rewrite.proofs.start_in.Reads as start-in-reads
 use Rattle.words.proofs.wide.Reads as wide-reads
 use Rattle.words.proofs.word.Reads as word-reads

@@ -1,5 +1,5 @@
+use Rattle.marks.specs.Marked.{sizeIn}
 use Rattle.rewrite.proofs.Placing.{replaced-none, replaced-many, replaced-deep, replaced-done}
-use Rattle.rewrite.specs.Marked.{sizeIn}
 use mathlib.Core.Path.{ap, _∙_}
 use borrow.Author.Needs.{needs}
 use Rattle.rewrite.proofs.arena.replace_tree.Statement.{statement}
@@ -7,8 +7,8 @@ use Rattle.rewrite.proofs.arena.replace_tree.Tie as tie
 use Rattle.rewrite.proofs.arena.replace_tree.Reads as reads
 use Rattle.rewrite.proofs.arena.replace_tree.Lts as lts
 use Rattle.rewrite.proofs.arena.too_deep.Reads as too-deep-reads
-use Rattle.rewrite.proofs.put_in_place.Reads as put-in-place-reads
-use Rattle.rewrite.proofs.size_in.Reads as size-in-reads
+use Rattle.marks.proofs.put_in_place.Reads as put-in-place-reads
+use Rattle.marks.proofs.size_in.Reads as size-in-reads
 use Rattle.words.proofs.word.Reads as word-reads
 
 mul-place : tie.Need-mul-place

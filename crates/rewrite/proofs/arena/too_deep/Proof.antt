@@ -1,13 +1,13 @@
+use Rattle.marks.specs.Marked.{nestingIn}
 use Rattle.rewrite.proofs.Placing.{deep-not, deep-by}
-use Rattle.rewrite.specs.Marked.{nestingIn}
 use mathlib.Core.Path.{ap, _∙_}
 use borrow.Author.Needs.{needs}
 use Rattle.rewrite.proofs.arena.too_deep.Statement.{statement}
 use Rattle.rewrite.proofs.arena.too_deep.Tie as tie
 use Rattle.rewrite.proofs.arena.too_deep.Reads as reads
 use Rattle.rewrite.proofs.arena.too_deep.Lts as lts
-use Rattle.rewrite.proofs.nesting_at.Reads as nesting-at-reads
-use Rattle.rewrite.proofs.nesting_in.Reads as nesting-in-reads
+use Rattle.marks.proofs.nesting_at.Reads as nesting-at-reads
+use Rattle.marks.proofs.nesting_in.Reads as nesting-in-reads
 use Rattle.words.proofs.word.Reads as word-reads
 
 mul-place : tie.Need-mul-place

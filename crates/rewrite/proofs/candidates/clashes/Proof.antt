@@ -8,8 +8,8 @@ use Rattle.rewrite.proofs.candidates.clashes.Statement.{statement}
 use Rattle.rewrite.proofs.candidates.clashes.Tie as tie
 use Rattle.rewrite.proofs.candidates.clashes.Reads as reads
 use Rattle.rewrite.proofs.candidates.clashes.Lts as lts
-use Rattle.rewrite.proofs.size_in.Reads as size-in-reads
-use Rattle.rewrite.proofs.type_in.Reads as type-in-reads
+use Rattle.marks.proofs.size_in.Reads as size-in-reads
+use Rattle.marks.proofs.type_in.Reads as type-in-reads
 
 abbrev Inv-loop : tie.InvT-loop
 Inv-loop pairs part live total₀ i₀ p₀ total i p = Clashing pairs part live total i p

@@ -10,7 +10,7 @@ use Rattle.rewrite.proofs.candidates.next_candidate.Tie as tie
 use Rattle.rewrite.proofs.candidates.next_candidate.Reads as reads
 use Rattle.rewrite.proofs.candidates.next_candidate.Lts as lts
 use Rattle.rewrite.proofs.candidates.clashes.Reads as clashes-reads
-use Rattle.rewrite.proofs.type_in.Reads as type-in-reads
+use Rattle.marks.proofs.type_in.Reads as type-in-reads
 
 abbrev Inv-loop : tie.InvT-loop
 Inv-loop pairs w target base end from last live fuel node₀ left₀ node left = Passing pairs w target base end from last live fuel node left

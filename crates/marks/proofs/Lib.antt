@@ -1,0 +1,10 @@
+pub mod Marks
+pub mod Marking
+pub mod Spans
+pub mod Same
+pub mod Above
+pub mod Swapping
+pub mod Resizing
+pub mod Putting
+pub mod Writing
+pub mod Descent

@@ -1,0 +1,201 @@
+-- The operations on numbers. Assumes nothing.
+use Prim.Native.Nat.{ℕ, zero, suc, _+_, _-_, _*_, _/_, _<_, _≤_}
+use mathlib.Core.Path.{_≡_, refl, sym, ap, _∙_}
+use mathlib.Core.Bool.{Bool, true, false, not}
+use mathlib.Core.List.{List, [], _∷_}
+use native.Mathlib.Omega.{arith}
+use native.Mathlib.Nat.{mul-div-le, div-le-self}
+use lib.ListN.{getD}
+use lib.Dec.{ltb, leb, eqb}
+use borrow.Author.Tests.{le-leb, lt-leb, eq-eqb, ne-eqb, leb-true, leb-false, ltb-true, ltb-false}
+use Rattle.words.specs.Reader.{pick}
+use Rattle.grammar.specs.Limits.{greatestNumber}
+use Rattle.rules.specs.Rules.{Operation, add, subtract, quotient, remainder, round, truncate, equal, greater, Applied, rule, operation, nothing, applied, operations}
+use Rattle.meaning.specs.Computation.{Result, ok, stop, stuck, thenOf, stopUnless}
+use Rattle.meaning.specs.Operations.{rounded, truncated, inRange, divisor, withOne, withNone, compute, compare}
+use Rattle.operations.specs.declared.Number.{Number}
+use Rattle.operations.specs.declared.Number.the-variants.{Is, OutOfRange}
+use Rattle.operations.specs.Operating.{inRangeAs, argumentsOf, MeansNumber, Operated, Compared}
+
+-- THE NUMBERS OF THE OPERATIONS
+
+numberOf : Operation → ℕ
+numberOf add = 1000
+numberOf subtract = 1001
+numberOf quotient = 1002
+numberOf remainder = 1003
+numberOf round = 1004
+numberOf truncate = 1005
+numberOf equal = 1008
+numberOf greater = 1009
+
+no-operation : {o : Operation} → nothing ≡ operation o → ⊥
+no-operation e = let z : _≡_ {A = ℕ} 0 1 = cc in omega arith
+
+is-operation : {o p : Operation} → operation p ≡ operation o → p ≡ o
+is-operation e = cc
+
+listed : (k : ℕ) (o : Operation) → getD operations k nothing ≡ operation o → 1000 + k ≡ numberOf o
+unfolding operations numberOf
+listed zero o e = rw (← is-operation e)
+listed (suc zero) o e = rw (← is-operation e)
+listed (suc (suc zero)) o e = rw (← is-operation e)
+listed (suc (suc (suc zero))) o e = rw (← is-operation e)
+listed (suc (suc (suc (suc zero)))) o e = rw (← is-operation e)
+listed (suc (suc (suc (suc (suc zero))))) o e = rw (← is-operation e)
+listed (suc (suc (suc (suc (suc (suc zero)))))) o e = absurd (no-operation e)
+listed (suc (suc (suc (suc (suc (suc (suc zero))))))) o e = absurd (no-operation e)
+listed (suc (suc (suc (suc (suc (suc (suc (suc zero)))))))) o e = rw (← is-operation e)
+listed (suc (suc (suc (suc (suc (suc (suc (suc (suc zero))))))))) o e = rw (← is-operation e)
+listed (suc (suc (suc (suc (suc (suc (suc (suc (suc (suc k)))))))))) o e = absurd (no-operation e)
+
+numbered : (op : ℕ) (o : Operation) → applied op ≡ operation o → op ≡ numberOf o
+unfolding applied
+numbered op o e = go (ltb op 1000) refl e
+  where
+    go : (b : Bool) → ltb op 1000 ≡ b → elim b [ true ↦ rule op | false ↦ getD operations (op - 1000) nothing ] ≡ operation o → op ≡ numberOf o
+    go true h e = let z : _≡_ {A = ℕ} 0 1 = cc in absurd (omega arith)
+    go false h e = omega (arith, ltb-false op 1000 h, listed (op - 1000) o e)
+
+-- IN RANGE
+
+pub range-over : (n : ℕ) → 999999999 < n → OutOfRange ≡ inRangeAs n
+range-over n h = rw (lt-leb n 999999999 h)
+
+pub range-in : (n : ℕ) → n ≤ 999999999 → Is n ≡ inRangeAs n
+range-in n h = rw (le-leb n 999999999 h)
+
+range-means : (n left : ℕ) (r : Number) → r ≡ inRangeAs n → MeansNumber r left (inRange n left)
+unfolding inRange thenOf stopUnless
+range-means n left r e = rw e (go (leb n 999999999))
+  where
+    go : (b : Bool) → MeansNumber (pick b (Is n) OutOfRange) left (thenOf (stopUnless 45 b left) (λ u l. ok n l))
+    go true = refl
+    go false = refl
+
+-- THE OPERATIONS, one law a way. x and y are the numbers a and b
+module _ (op a b x y : ℕ) (ex : x ≡ a) (ey : y ≡ b) where
+  pub adds : op ≡ 1000 → (r : Number) → r ≡ inRangeAs (x + y) → Operated op a b r
+  unfolding compute withOne numberOf
+  adds h r e add left k ns = range-means (a + b) left r (e ∙ rw (ex, ey))
+  adds h r e subtract left k ns = absurd (omega (arith, numbered op subtract k))
+  adds h r e quotient left k ns = absurd (omega (arith, numbered op quotient k))
+  adds h r e remainder left k ns = absurd (omega (arith, numbered op remainder k))
+  adds h r e round left k ns = absurd (omega (arith, numbered op round k))
+  adds h r e truncate left k ns = absurd (omega (arith, numbered op truncate k))
+  adds h r e equal left k ns = absurd (omega (arith, numbered op equal k))
+  adds h r e greater left k ns = absurd (omega (arith, numbered op greater k))
+
+  pub below-zero : op ≡ 1001 → x < y → Operated op a b OutOfRange
+  unfolding compute withOne numberOf thenOf stopUnless
+  below-zero h l add left k ns = absurd (omega (arith, numbered op add k))
+  below-zero h l subtract left k ns = rw (lt-leb b a (omega arith))
+  below-zero h l quotient left k ns = absurd (omega (arith, numbered op quotient k))
+  below-zero h l remainder left k ns = absurd (omega (arith, numbered op remainder k))
+  below-zero h l round left k ns = absurd (omega (arith, numbered op round k))
+  below-zero h l truncate left k ns = absurd (omega (arith, numbered op truncate k))
+  below-zero h l equal left k ns = absurd (omega (arith, numbered op equal k))
+  below-zero h l greater left k ns = absurd (omega (arith, numbered op greater k))
+
+  pub subtracts : op ≡ 1001 → y ≤ x → (r : Number) → r ≡ inRangeAs (x - y) → Operated op a b r
+  unfolding compute withOne numberOf thenOf stopUnless
+  subtracts h l r e add left k ns = absurd (omega (arith, numbered op add k))
+  subtracts h l r e subtract left k ns = rw (le-leb b a (omega arith)) (range-means (a - b) left r (e ∙ rw (ex, ey)))
+  subtracts h l r e quotient left k ns = absurd (omega (arith, numbered op quotient k))
+  subtracts h l r e remainder left k ns = absurd (omega (arith, numbered op remainder k))
+  subtracts h l r e round left k ns = absurd (omega (arith, numbered op round k))
+  subtracts h l r e truncate left k ns = absurd (omega (arith, numbered op truncate k))
+  subtracts h l r e equal left k ns = absurd (omega (arith, numbered op equal k))
+  subtracts h l r e greater left k ns = absurd (omega (arith, numbered op greater k))
+
+  pub rounds : op ≡ 1004 → (r : Number) → r ≡ inRangeAs ((x + 50) / 100 * 100) → Operated op a b r
+  unfolding compute withNone numberOf rounded
+  rounds h r e add left k ns = absurd (omega (arith, numbered op add k))
+  rounds h r e subtract left k ns = absurd (omega (arith, numbered op subtract k))
+  rounds h r e quotient left k ns = absurd (omega (arith, numbered op quotient k))
+  rounds h r e remainder left k ns = absurd (omega (arith, numbered op remainder k))
+  rounds h r e round left k ns = range-means ((a + 50) / 100 * 100) left r (e ∙ rw ex)
+  rounds h r e truncate left k ns = absurd (omega (arith, numbered op truncate k))
+  rounds h r e equal left k ns = absurd (omega (arith, numbered op equal k))
+  rounds h r e greater left k ns = absurd (omega (arith, numbered op greater k))
+
+  pub truncates : op ≡ 1005 → (r : Number) → r ≡ inRangeAs (x / 100 * 100) → Operated op a b r
+  unfolding compute withNone numberOf truncated
+  truncates h r e add left k ns = absurd (omega (arith, numbered op add k))
+  truncates h r e subtract left k ns = absurd (omega (arith, numbered op subtract k))
+  truncates h r e quotient left k ns = absurd (omega (arith, numbered op quotient k))
+  truncates h r e remainder left k ns = absurd (omega (arith, numbered op remainder k))
+  truncates h r e round left k ns = absurd (omega (arith, numbered op round k))
+  truncates h r e truncate left k ns = range-means (a / 100 * 100) left r (e ∙ rw ex)
+  truncates h r e equal left k ns = absurd (omega (arith, numbered op equal k))
+  truncates h r e greater left k ns = absurd (omega (arith, numbered op greater k))
+
+  module _ (not-add : op ≡ 1000 → ⊥) (not-subtract : op ≡ 1001 → ⊥) (not-round : op ≡ 1004 → ⊥) (not-truncate : op ≡ 1005 → ⊥) where
+    pub by-zero : y ≡ 0 → Operated op a b OutOfRange
+    unfolding compute withOne numberOf thenOf stopUnless divisor
+    by-zero h add left k ns = absurd (not-add (numbered op add k))
+    by-zero h subtract left k ns = absurd (not-subtract (numbered op subtract k))
+    by-zero h quotient left k ns = rw (eq-eqb b 0 (omega arith))
+    by-zero h remainder left k ns = rw (eq-eqb b 0 (omega arith))
+    by-zero h round left k ns = absurd (not-round (numbered op round k))
+    by-zero h truncate left k ns = absurd (not-truncate (numbered op truncate k))
+    by-zero h equal left k ns = absurd (ns refl)
+    by-zero h greater left k ns = absurd (ns refl)
+
+    module _ (some : y ≡ 0 → ⊥) where
+      nonzero : b ≡ 0 → ⊥
+      nonzero e = some (ey ∙ e)
+
+      pub divides : op ≡ 1002 → (r : Number) → r ≡ inRangeAs (x / y * 100) → Operated op a b r
+      unfolding compute withOne numberOf thenOf stopUnless divisor
+      divides h r e add left k ns = absurd (not-add (numbered op add k))
+      divides h r e subtract left k ns = absurd (not-subtract (numbered op subtract k))
+      divides h r e quotient left k ns = rw (ne-eqb b 0 nonzero) (range-means (a / b * 100) left r (e ∙ rw (ex, ey)))
+      divides h r e remainder left k ns = absurd (omega (arith, numbered op remainder k))
+      divides h r e round left k ns = absurd (not-round (numbered op round k))
+      divides h r e truncate left k ns = absurd (not-truncate (numbered op truncate k))
+      divides h r e equal left k ns = absurd (ns refl)
+      divides h r e greater left k ns = absurd (ns refl)
+
+      pub remains : (op ≡ 1002 → ⊥) → (r : Number) → r ≡ inRangeAs (x - y * (x / y)) → Operated op a b r
+      unfolding compute withOne numberOf thenOf stopUnless divisor
+      remains h r e add left k ns = absurd (not-add (numbered op add k))
+      remains h r e subtract left k ns = absurd (not-subtract (numbered op subtract k))
+      remains h r e quotient left k ns = absurd (h (numbered op quotient k))
+      remains h r e remainder left k ns = rw (ne-eqb b 0 nonzero) (range-means (a - b * (a / b)) left r (e ∙ rw (ex, ey)))
+      remains h r e round left k ns = absurd (not-round (numbered op round k))
+      remains h r e truncate left k ns = absurd (not-truncate (numbered op truncate k))
+      remains h r e equal left k ns = absurd (ns refl)
+      remains h r e greater left k ns = absurd (ns refl)
+
+-- THE COMPARISONS
+
+module _ (op a b : ℕ) where
+  pub equals : op ≡ 1008 → Compared op a b (eqb a b)
+  unfolding compare withOne numberOf
+  equals h add left k ns = absurd (ns refl)
+  equals h subtract left k ns = absurd (ns refl)
+  equals h quotient left k ns = absurd (ns refl)
+  equals h remainder left k ns = absurd (ns refl)
+  equals h round left k ns = absurd (ns refl)
+  equals h truncate left k ns = absurd (ns refl)
+  equals h equal left k ns = refl
+  equals h greater left k ns = absurd (omega (arith, numbered op greater k))
+
+  pub exceeds : (op ≡ 1008 → ⊥) → Compared op a b (ltb b a)
+  unfolding compare withOne numberOf
+  exceeds h add left k ns = absurd (ns refl)
+  exceeds h subtract left k ns = absurd (ns refl)
+  exceeds h quotient left k ns = absurd (ns refl)
+  exceeds h remainder left k ns = absurd (ns refl)
+  exceeds h round left k ns = absurd (ns refl)
+  exceeds h truncate left k ns = absurd (ns refl)
+  exceeds h equal left k ns = absurd (h (numbered op equal k))
+  exceeds h greater left k ns = refl
+
+-- what the whole quotient takes away is there
+pub quotient-fits : (x y : ℕ) → y * (x / y) ≤ x
+quotient-fits x y = mul-div-le x y
+
+pub quotient-small : (x y : ℕ) → x / y ≤ x
+quotient-small x y = div-le-self x y
