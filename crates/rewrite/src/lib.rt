@@ -14,10 +14,11 @@ pub mod candidates;
 
 pub const MOST_LIVE: usize = 6144;
 
-// The variables of an open call: where their trees stand, the first n of 16.
+// The variables of an open call: where their trees stand, the first n of 16. The places stand first: the pieces in which the struct is
+// copied are then those in which it was stored.
 pub struct Vars {
-    pub n: usize,
     pub starts: [u32; MOST_VARIABLES],
+    pub n: usize,
 }
 
 pub enum Verdict {
