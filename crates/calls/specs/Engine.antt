@@ -53,6 +53,7 @@ triedOf RootOnly (suc n) = 1
 triedOf FirstMatch n = n
 triedOf Exhaustive n = n
 
+-- does the search begin again after a replacement?
 abbrev pub againOf : Strategy → Bool
 againOf RootOnly = false
 againOf FirstMatch = false
@@ -62,6 +63,7 @@ againOf Exhaustive = true
 abbrev pub countOf : Words → ℕ → ℕ
 countOf pairs at = pick (leb (getD pairs at 0) mostApplications) (getD pairs at 0) 0
 
+-- the other verdict, if the condition is negated; a stop stays
 abbrev pub turnedBy : Bool → Verdict → Verdict
 turnedBy negated (Stops n) = Stops n
 turnedBy true Matches = Differs
@@ -168,6 +170,7 @@ abbrev pub deconstructIn : Words → Bool → ℕ → ℕ → ℕ → Rules.Part
 deconstructIn book true s x p = Rules.search s (getD book x 0) (shapes (pairsAt book p))
 deconstructIn book false s x p = Rules.deconstruct (getD book x 0) (shapes (pairsAt book p))
 
+-- what a part that takes a variable apart comes to
 pub record Deconstructs (book w : Words) (d : Deconstruct) (next : ℕ) (frame : Frame) (left : ℕ) (r : Taken) : Type 0 where
   pub next-is : r .next ≡ next
   pub takes : (deep : ℕ) → Takes w w frame left r (λ g rules. length g ≤ mostTypes) (partOn deep (deconstructIn book (d .searches) (d .searched) (d .variable) (d .pattern)))

@@ -79,6 +79,7 @@ pub struct Called {
     pub replacements: u32,
 }
 
+// A part's answer, by its parts.
 fn taking(verdict: Verdict, frame: Frame, left: u32, next: usize) -> Taken
     ensures { λ r. ⌜ r ≡ record { verdict = verdict; frame = frame; left = left; next = next } ⌝ }
 {
@@ -90,6 +91,7 @@ fn taking(verdict: Verdict, frame: Frame, left: u32, next: usize) -> Taken
     }
 }
 
+// A search's answer, by its parts.
 fn seeking(found: Found, frame: Frame, left: u32, next: usize) -> Sought
     ensures { λ r. ⌜ r ≡ record { found = found; frame = frame; left = left; next = next } ⌝ }
 {
@@ -101,6 +103,7 @@ fn seeking(found: Found, frame: Frame, left: u32, next: usize) -> Sought
     }
 }
 
+// What was built, by its parts.
 fn building(stop: u32, nodes: usize, left: u32) -> Built
     ensures { λ r. ⌜ r ≡ record { stop = stop; nodes = nodes; left = left } ⌝ }
 {
@@ -1049,6 +1052,7 @@ pub fn call(
     }
 }
 
+// What a call left, by its parts.
 fn calling(stop: u32, nodes: usize, left: u32, replacements: u32) -> Called
     ensures { λ r. ⌜ r ≡ record { stop = stop; nodes = nodes; left = left; replacements = replacements } ⌝ }
 {

@@ -19,9 +19,11 @@ use Rattle.decimal.specs.declared.input.Found.the-variants.{Length, Noth
 abbrev pub mostGrammar : ℕ
 mostGrammar = 4097
 
+-- .. of a rule book
 abbrev pub mostRules : ℕ
 mostRules = 16385
 
+-- .. of a tree
 abbrev pub mostTree : ℕ
 mostTree = 4097
 
@@ -50,6 +52,7 @@ inputAt Unread ns = none
 inputAt Between ns = input ns
 inputAt (Within v) ns = none
 
+-- the input that a reading found
 abbrev pub inputOf : Numbers → Option Inputs
 inputOf s = inputAt (s .place) (s .found)
 
@@ -71,6 +74,7 @@ lengthAt most ns at = pick (and (ltb at (length ns)) (and (leb (getD ns at 0) mo
 abbrev pub partsAt : Words → ℕ → ℕ → ℕ → Inputs
 partsAt ns g r t = record { budget = getD ns 0 0; grammar = take g (drop 2 ns); rules = take r (drop (3 + g) ns); tree = take t (drop (4 + g + r) ns) }
 
+-- the input by its lengths
 abbrev pub said : Parts → Words → Option Inputs
 said Parts.Unread ns = none
 said (Parts.Read l) ns = some (partsAt ns (l .grammar) (l .rules) (l .tree))
@@ -80,6 +84,7 @@ abbrev pub Fit : Parts → Words → Type 0
 Fit Parts.Unread ns = Unit {0}
 Fit (Parts.Read l) ns = 4 + l .grammar + l .rules + l .tree ≡ length ns
 
+-- the parts are those of the input
 pub record Parted (ns : Words) (r : Parts) : Type 0 where
   pub same : said r ns ≡ input ns
   pub fit : Fit r ns

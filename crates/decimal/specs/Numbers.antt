@@ -10,6 +10,7 @@ use Rattle.decimal.specs.declared.numbers.Place.{Place}
 use Rattle.decimal.specs.declared.numbers.Place.the-variants.{Unread, Between, Within}
 use Rattle.decimal.specs.declared.numbers.Reading.{Reading}
 
+-- a text
 abbrev pub Bytes : Type 0
 Bytes = List ℕ
 
@@ -30,6 +31,7 @@ pub record Numbers : Type 0 where
   pub place : Place
   pub found : Words
 
+-- a reading at a place
 abbrev pub at : Place → Words → Numbers
 at p ns = record { place = p; found = ns }
 
@@ -51,6 +53,7 @@ byteAt room Unread ns b = at Unread ns
 byteAt room Between ns b = at (outside b) ns
 byteAt room (Within v) ns b = pick (isDigit b) (at (grown (10 * v + (b - 48))) ns) (pick (isWhite b) (added room ns v) (at Unread ns))
 
+-- one byte, wherever the reading stands
 abbrev pub byte : ℕ → Numbers → ℕ → Numbers
 byte room s b = byteAt room (s .place) (s .found) b
 
@@ -65,6 +68,7 @@ lastAt room Unread ns = at Unread ns
 lastAt room Between ns = at Between ns
 lastAt room (Within v) ns = added room ns v
 
+-- the end, wherever the reading stands
 abbrev pub last : ℕ → Numbers → Numbers
 last room s = lastAt room (s .place) (s .found)
 

@@ -18,6 +18,7 @@ digits (suc k) n = pick (ltb n 10) ((48 + n) ∷ []) (digits k (n / 10) ++ ((48 
 abbrev pub mostDigits : ℕ
 mostDigits = 20
 
+-- a number in digits
 abbrev pub decimal : ℕ → Bytes
 decimal n = digits mostDigits n
 
@@ -25,10 +26,12 @@ decimal n = digits mostDigits n
 abbrev pub spaced : ℕ → Bytes
 spaced n = 32 ∷ decimal n
 
+-- each number after a blank
 unfoldable pub allSpaced : Words → Bytes
 allSpaced [] = []
 allSpaced (w ∷ ws) = spaced w ++ allSpaced ws
 
+-- the end of a line
 abbrev pub lineEnd : Bytes
 lineEnd = 10 ∷ []
 

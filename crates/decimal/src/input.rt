@@ -16,6 +16,7 @@ pub struct Lengths {
     pub tree: usize,
 }
 
+// The lengths of an input's parts; or other input.
 pub enum Parts {
     Unread,
     Read(Lengths),

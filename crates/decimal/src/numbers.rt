@@ -24,6 +24,7 @@ pub struct Reading {
     pub count: usize,
 }
 
+// Is the byte a digit?
 fn is_digit(b: u8) -> bool
     ensures { λ r. ⌜ r ≡ isDigit b ⌝ }
 {
@@ -123,6 +124,7 @@ fn take_byte(s: Reading, b: u8, words: &mut [u32]) -> Reading
     }
 }
 
+// The less of two.
 pub fn least(a: usize, b: usize) -> usize
     ensures { λ r. ⌜ r ≡ min a b ⌝ }
 {

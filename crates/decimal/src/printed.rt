@@ -9,6 +9,7 @@ ghost use Rattle.decimal.specs.Printed.{digits, decimal, spaced, allSpac
 
 const MOST_DIGITS: usize = 20;
 
+// Writes one byte, and gives the next place.
 fn put(b: u8, out: &mut [u8], at: usize) -> usize
     requires { ⌜ at ≤ length (now out) ⌝ }
     ensures { λ r. ⌜ Put (now (out .entry)) at (b ∷ []) r (now (out .exit)) ⌝ }
@@ -20,6 +21,7 @@ fn put(b: u8, out: &mut [u8], at: usize) -> usize
     at
 }
 
+// Writes bytes.
 fn put_text(text: &[u8], out: &mut [u8], at: usize) -> usize
     requires { ⌜ at ≤ length (now out) ⌝ }
     ensures { λ r. ⌜ Put (now (out .entry)) at (now (text .entry)) r (now (out .exit)) ⌝ }
@@ -57,6 +59,7 @@ fn put_spaced(n: usize, out: &mut [u8], at: usize) -> usize
     put_digits(MOST_DIGITS, n, out, p)
 }
 
+// Writes each number after a blank.
 fn put_all_spaced(ws: &[u32], out: &mut [u8], at: usize) -> usize
     requires { ⌜ at ≤ length (now out) ⌝ }
     ensures { λ r. ⌜ Put (now (out .entry)) at (allSpaced (now (ws .entry))) r (now (out .exit)) ⌝ }

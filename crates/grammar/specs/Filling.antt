@@ -13,10 +13,12 @@ abbrev pub listOf : {A : Type 0} → Read (List A) → List A
 listOf (value xs next) = xs
 listOf (refused n p) = []
 
+-- the kind that was read
 abbrev pub kindRead : Read Kind → Kind
 kindRead (value k next) = k
 kindRead (refused n p) = forms []
 
+-- where the next word stands
 abbrev pub nextOf : {A : Type 0} → Read A → ℕ
 nextOf (value a next) = next
 nextOf (refused n p) = p

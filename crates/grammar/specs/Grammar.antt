@@ -78,6 +78,7 @@ unfoldable pub all : List Bool → List ℕ → Bool
 all known [] = true
 all known (t ∷ ts) = and (getD known t false) (all known ts)
 
+-- has one of the forms a finite tree?
 unfoldable pub any : List Bool → List (List ℕ) → Bool
 any known [] = false
 any known (f ∷ fs) = or (all known f) (any known fs)
@@ -89,10 +90,12 @@ finishes known (opt e) = true
 finishes known (sequence e) = true
 finishes known (forms fs) = any known fs
 
+-- one round over all types
 unfoldable pub round : List Bool → Grammar → List Bool
 round known [] = []
 round known (k ∷ ks) = finishes known k ∷ round known ks
 
+-- n rounds, from none known
 unfoldable pub rounds : ℕ → Grammar → List Bool
 rounds zero g = []
 rounds (suc n) g = round (rounds n g) g

@@ -32,6 +32,7 @@ childrenOf (opt e) t v = pick (eqb v 0) (e ∷ []) []
 childrenOf (sequence e) t v = pick (eqb v 0) (e ∷ t ∷ []) []
 childrenOf (forms fs) t v = getD fs v []
 
+-- the same for a type of the grammar
 unfoldable pub children : Grammar → ℕ → ℕ → List ℕ
 children g t v = childrenOf (kindOf g t) t v
 
@@ -42,6 +43,7 @@ isSequenceKind (opt e) = false
 isSequenceKind (sequence e) = true
 isSequenceKind (forms fs) = false
 
+-- is the type a sequence?
 unfoldable pub isSequence : Grammar → ℕ → Bool
 isSequence g t = isSequenceKind (kindOf g t)
 
@@ -52,5 +54,6 @@ isNumberKind (opt e) = false
 isNumberKind (sequence e) = false
 isNumberKind (forms fs) = false
 
+-- is the type a number token?
 unfoldable pub isNumber : Grammar → ℕ → Bool
 isNumber g t = isNumberKind (kindOf g t)

@@ -21,6 +21,7 @@ mostElements = 8
 abbrev pub firstLiteral : ℕ
 firstLiteral = 65536
 
+-- the last of them
 abbrev pub lastLiteral : ℕ
 lastLiteral = 131071
 

@@ -54,6 +54,7 @@ pub record Rows (g : Grammar) (rows : List ℕ) : Type 0 where
 abbrev pub InHeads : List ℕ → (Grammar → Type 0) → Type 0
 InHeads heads P = (g : Grammar) → Heads g heads → P g
 
+-- .. whose rows these are
 abbrev pub InRows : List ℕ → (Grammar → Type 0) → Type 0
 InRows rows P = (g : Grammar) → Rows g rows → P g
 

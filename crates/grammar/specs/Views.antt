@@ -16,18 +16,22 @@ abbrev pub seenElement : List Bool → Read ℕ → Seen
 seenElement known (value e next) = Whole next (pick (isLiteral e) true (getD known e false))
 seenElement known (refused n p) = Fault n p
 
+-- elements that were read, after others
 abbrev pub seenElements : List Bool → Bool → Read (List ℕ) → Seen
 seenElements known acc (value es next) = Whole next (and acc (all known (typesOf es)))
 seenElements known acc (refused n p) = Fault n p
 
+-- a form that was read
 abbrev pub seenForm : List Bool → Read (List ℕ) → Seen
 seenForm known (value ts next) = Whole next (all known ts)
 seenForm known (refused n p) = Fault n p
 
+-- forms that were read, after others
 abbrev pub seenForms : List Bool → Bool → Read (List (List ℕ)) → Seen
 seenForms known acc (value fs next) = Whole next (or acc (any known fs))
 seenForms known acc (refused n p) = Fault n p
 
+-- a kind that was read
 abbrev pub seenKind : List Bool → Read Kind → Seen
 seenKind known (value k next) = Whole next (finishes known k)
 seenKind known (refused n p) = Fault n p

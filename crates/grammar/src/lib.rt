@@ -27,12 +27,14 @@ pub enum Seen {
     Fault(u32, usize),
 }
 
+// Do both hold?
 fn both(a: bool, b: bool) -> bool
     ensures { λ r. ⌜ r ≡ and a b ⌝ }
 {
     if a { b } else { false }
 }
 
+// Does either hold?
 fn either(a: bool, b: bool) -> bool
     ensures { λ r. ⌜ r ≡ or a b ⌝ }
 {
@@ -54,6 +56,7 @@ fn flag(known: &[bool], i: u32) -> bool
     if j < known.len() { known[j] } else { false }
 }
 
+// One element of a form.
 fn element(ws: &[u32], known: &[bool], n: u32, at: usize) -> Seen
     requires { ⌜ n ≤ mostTypes ⌝ }
     ensures { λ r. ⌜ r ≡ seenElement (now (known .entry)) (Grammar.element (now (ws .entry)) n at) ⌝ }
@@ -77,6 +80,7 @@ fn element(ws: &[u32], known: &[bool], n: u32, at: usize) -> Seen
     }
 }
 
+// k elements, one after the other.
 fn elements(ws: &[u32], known: &[bool], n: u32, k: u32, start: usize) -> Seen
     requires { ⌜ n ≤ mostTypes ⌝ }
     ensures { λ r. ⌜ r ≡ seenElements (now (known .entry)) true (Reader.many k (Grammar.element (now (ws .entry)) n) start) ⌝ }
@@ -100,6 +104,7 @@ fn elements(ws: &[u32], known: &[bool], n: u32, k: u32, start: usize) -> Seen
     Seen::Whole(at, acc)
 }
 
+// One form.
 fn form(ws: &[u32], known: &[bool], n: u32, at: usize) -> Seen
     requires { ⌜ n ≤ mostTypes ⌝ }
     ensures { λ r. ⌜ r ≡ seenForm (now (known .entry)) (Grammar.form (now (ws .entry)) n at) ⌝ }
@@ -111,6 +116,7 @@ fn form(ws: &[u32], known: &[bool], n: u32, at: usize) -> Seen
     }
 }
 
+// k forms, one after the other.
 fn forms(ws: &[u32], known: &[bool], n: u32, k: u32, start: usize) -> Seen
     requires { ⌜ n ≤ mostTypes ⌝ }
     ensures { λ r. ⌜ r ≡ seenForms (now (known .entry)) false (Reader.many k (Grammar.form (now (ws .entry)) n) start) ⌝ }

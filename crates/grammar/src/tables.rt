@@ -26,6 +26,7 @@ const NUMBERS: u32 = crate::limits::GREATEST_NUMBER + 1;
 
 const NAMES: u32 = crate::limits::GREATEST_NAME + 1;
 
+// A byte as a position.
 fn wide8(x: u8) -> usize
     ensures { λ r. ⌜ (r ≡ x) × (r ≤ 255) ⌝ }
 {
@@ -235,6 +236,7 @@ pub fn child(rows: &[u8; ROWS], t: u32, v: u32, i: usize) -> u32
     narrow(rows[j])
 }
 
+// A byte as a word.
 fn narrow(x: u8) -> u32
     ensures { λ r. ⌜ r ≡ x ⌝ }
 {

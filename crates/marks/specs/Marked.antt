@@ -16,9 +16,11 @@ mark t n k = t + 64 * n + 262144 * k
 abbrev pub typeIn : ℕ → ℕ
 typeIn w = w % 64
 
+-- the size of its tree
 abbrev pub sizeIn : ℕ → ℕ
 sizeIn w = w / 64 % 4096
 
+-- the nesting of its tree
 abbrev pub nestingIn : ℕ → ℕ
 nestingIn w = w / 262144
 

@@ -10,6 +10,7 @@ ghost use lib.ListN.{length};
 ghost use Rattle.marks.specs.Marked.{mark, typeIn, sizeIn, nestingIn};
 ghost use Rattle.marks.specs.Post.{MarkMade, NodeMarked, TreeMarked, AboveMarked, Resized, InPlace, NestingOf, Written, SameTree};
 
+// The type of a marked node.
 pub fn type_in(w: u32) -> u32
     ensures { λ r. ⌜ r ≡ typeIn w ⌝ }
 {
@@ -30,6 +31,7 @@ pub fn nesting_in(w: u32) -> usize
     words::wide(w / 262144)
 }
 
+// The greater of two.
 fn greater(a: usize, b: usize) -> usize
     ensures { λ r. ⌜ r ≡ max a b ⌝ }
 {

@@ -16,20 +16,25 @@ pub data Result (A : Type 0) : Type 0 where
 abbrev pub Comp : Type 0 → Type 0
 Comp A = ℕ → Result A
 
+-- goes on with what was computed; a stop is the end
 unfoldable pub thenOf : {A B : Type 0} → Result A → (A → Comp B) → Result B
 thenOf (ok a left) k = k a left
 thenOf (stop n left) k = stop n left
 thenOf stuck k = stuck
 
+-- one computation after the other, by what the first gave
 abbrev pub _>>=_ : {A B : Type 0} → Comp A → (A → Comp B) → Comp B
 _>>=_ m k left = thenOf (m left) k
 
+-- one computation after the other
 abbrev pub _>>_ : {A B : Type 0} → Comp A → Comp B → Comp B
 _>>_ m k left = thenOf (m left) (λ a. k)
 
+-- computes nothing
 abbrev pub return : {A : Type 0} → A → Comp A
 return a left = ok a left
 
+-- a step that is never reached
 abbrev pub never : {A : Type 0} → Comp A
 never left = stuck
 
@@ -58,10 +63,12 @@ unfoldable pub present : {A : Type 0} → Option A → Comp A
 present none left = stuck
 present (some a) left = ok a left
 
+-- one of two computations, by a test
 unfoldable pub choose : {A : Type 0} → Bool → Comp A → Comp A → Comp A
 choose true m n left = m left
 choose false m n left = n left
 
+-- goes on with what there is, or otherwise
 unfoldable pub whether : {A B : Type 0} → Option A → (A → Comp B) → Comp B → Comp B
 whether (some a) m n left = m a left
 whether none m n left = n left

@@ -56,6 +56,7 @@ live b = b .besides + total (b .env)
 unfoldable pub variable : Env → ℕ → Comp Words
 variable env x = present (getElem? env x)
 
+-- several variables
 unfoldable pub variables : Env → List ℕ → Comp (List Words)
 variables env [] = return []
 variables env (x ∷ xs) = do
@@ -106,6 +107,7 @@ module _ (strict : Bool) (g : Grammar) where
 unfoldable pub valueOf : Words → ℕ
 valueOf ws = getD ws 1 0
 
+-- the values of several
 unfoldable pub valuesOf : List Words → List ℕ
 valuesOf [] = []
 valuesOf (t ∷ ts) = valueOf t ∷ valuesOf ts
@@ -118,6 +120,7 @@ withValue ws n = typeOf ws ∷ n ∷ []
 unfoldable pub isNumberToken : Grammar → Words → Bool
 isNumberToken g ws = and (isNumber g (typeOf ws)) (isTree g (typeOf ws) ws)
 
+-- are all number tokens?
 unfoldable pub areNumberTokens : Grammar → List Words → Bool
 areNumberTokens g [] = true
 areNumberTokens g (t ∷ ts) = and (isNumberToken g t) (areNumberTokens g ts)
@@ -155,6 +158,7 @@ pub record Found : Type 0 where
 unfoldable pub put : Grammar → Words → ℕ → Words → Words
 put g scope place ws = take place scope ++ (ws ++ after g (drop place scope) 1)
 
+-- how a call ends
 pub data Ending : Type 0 where
   done : Ending
   -- by its number
@@ -169,6 +173,7 @@ pub record Called : Type 0 where
   pub left : ℕ
   pub ending : Ending
 
+-- what a call leaves, by its parts
 abbrev pub called : Words → ℕ → Ending → ℕ → Called
 called scope k e left = record { scope = scope; replacements = k; left = left; ending = e }
 
@@ -178,6 +183,7 @@ resultAs done c = ok (c .scope) (c .left)
 resultAs (stopped n) c = stop n (c .left)
 resultAs cannotGoOn c = stuck
 
+-- what a call gives the call above
 unfoldable pub resultOf : Called → Result Words
 resultOf c = resultAs (c .ending) c
 
@@ -367,6 +373,7 @@ calls strict g rules (suc depth) = record {
   matches = callMatches strict g rules (calls strict g rules depth);
 }
 
+-- the first call, on the whole tree, if there is a rule
 unfoldable pub runFrom : Bool → Grammar → Rules → Option Rule → Words → ℕ → Called
 runFrom strict g rules none tree budget = called tree 0 cannotGoOn budget
 runFrom strict g rules (some r) tree budget = call strict g rules (calls strict g rules (mostCalls - 1)) r [] tree 0 budget

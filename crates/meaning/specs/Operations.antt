@@ -31,6 +31,7 @@ withOne [] f = never
 withOne (b ∷ []) f = f b
 withOne (b ∷ c ∷ bs) f = never
 
+-- .. with none
 unfoldable pub withNone : {A : Type 0} → List ℕ → Comp A → Comp A
 withNone [] m = m
 withNone (b ∷ bs) m = never

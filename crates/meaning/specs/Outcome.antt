@@ -56,6 +56,7 @@ decode result work x =
 unfoldable pub endedAs : ℕ → Called → Outcome
 endedAs budget c = ended (c .ending) (budget - c .left) (c .replacements) (c .scope)
 
+-- what comes of inputs as they are read
 unfoldable pub outcomeOf : Inputs → Read Decoded → Outcome
 outcomeOf x (R.refused n p) = refused n p
 outcomeOf x (value d next) = endedAs (x .budget) (run false (d .grammar) (d .rules) (x .tree) (x .budget))

@@ -36,5 +36,6 @@ MeansNumber OutOfRange left m = m ≡ stop 45 left
 abbrev pub Operated : ℕ → ℕ → ℕ → Number → Type 0
 Operated op a b r = (o : Operation) (left : ℕ) → applied op ≡ operation o → (compute o a (argumentsOf o b) left ≡ stuck → ⊥) → MeansNumber r left (compute o a (argumentsOf o b) left)
 
+-- the same for an operation that compares
 abbrev pub Compared : ℕ → ℕ → ℕ → Bool → Type 0
 Compared op a b r = (o : Operation) (left : ℕ) → applied op ≡ operation o → (compare o a (argumentsOf o b) left ≡ stuck → ⊥) → compare o a (argumentsOf o b) left ≡ ok r left

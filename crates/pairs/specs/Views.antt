@@ -29,6 +29,7 @@ use Rattle.pairs.specs.declared.Met.{Met}
 use Rattle.pairs.specs.declared.Met.the-variants.{Bad, Top, New}
 use Rattle.pairs.specs.declared.Typed.{Typed}
 
+-- the place, as the typing has it
 abbrev pub placeAs : Place → Typing.Place
 placeAs Pattern = inPattern
 placeAs Replacement = inReplacement
@@ -110,6 +111,7 @@ pub record Knows (r : Typed) (Γ : Context) : Type 0 where
   pub known : contextOf (r .ctx) ≡ Γ
   pub few : r .ctx .n ≤ 16
 
+-- the answer is that of the reading, and so are the variables
 pub record TypedAs (r : Typed) (q : Read Context) : Type 0 where
   pub check : r .check ≡ answer q
   pub left : IfRead (Knows r) q
@@ -140,6 +142,7 @@ pub record Given (types : ℕ) (heads rows ws starts : Words) : Type 0 where
   pub book : Book types ws starts rules
   pub few : getD ws 0 0 ≤ 64
 
+-- does the strategy search?
 abbrev pub searchesAs : Strategy → Bool
 searchesAs RootOnly = false
 searchesAs FirstMatch = true

@@ -78,6 +78,7 @@ abbrev pub ComputedAs : Words → Words → ℕ → Result ℕ → ℕ → ℕ �
 ComputedAs w w′ base m left zero = (v : ℕ) × (m ≡ ok v left) × (w′ ≡ set w (base + 1) v)
 ComputedAs w w′ base m left (suc k) = (m ≡ stop (suc k) left) × (w′ ≡ w)
 
+-- .. unless the operation is stuck
 pub record Computed (w w′ : Words) (base op b r : ℕ) : Type 0 where
   pub long : length w′ ≡ length w
   pub computed : (o : Operation) (left : ℕ) → applied op ≡ operation o → (compute o (getD w (base + 1) 0) (argumentsOf o b) left ≡ stuck → ⊥)

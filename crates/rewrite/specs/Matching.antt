@@ -55,6 +55,7 @@ pub record Stage (g : Grammar) (arena part : Words) (at : ℕ) (vars : Vars) (li
   pub stands : EnvAt g arena (startsOf vars) (b .env)
   pub counted : live ≡ b .besides + total (b .env)
 
+-- variables, with so many nodes live besides
 abbrev pub bindings : Env → ℕ → Bindings
 bindings env besides = record { env = env; besides = besides }
 

@@ -83,6 +83,7 @@ pub fn over(n: usize, live: usize) -> u32
     0
 }
 
+// No arguments.
 fn no_args() -> Args
     ensures { λ r. ⌜ r ≡ record { vars = record { n = 0; starts = replicate 16 0 }; total = 0 } ⌝ }
 {

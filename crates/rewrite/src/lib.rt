@@ -21,6 +21,7 @@ pub struct Vars {
     pub n: usize,
 }
 
+// What setting a pattern against a tree, or a part's step, comes to; a stop by its number.
 pub enum Verdict {
     Matches,
     Differs,
@@ -46,6 +47,7 @@ pub fn bind(vars: Vars, start: u32) -> Vars
     v
 }
 
+// No match, with the variables as they are.
 fn differs(vars: Vars, live: usize) -> Matched
     ensures { λ r. ⌜ r ≡ record { verdict = Verdict.Differs; vars = vars; live = live } ⌝ }
 {
@@ -56,6 +58,7 @@ fn differs(vars: Vars, live: usize) -> Matched
     }
 }
 
+// A match.
 fn matches(vars: Vars, live: usize) -> Matched
     ensures { λ r. ⌜ r ≡ record { verdict = Verdict.Matches; vars = vars; live = live } ⌝ }
 {
@@ -66,6 +69,7 @@ fn matches(vars: Vars, live: usize) -> Matched
     }
 }
 
+// A place of work memory, as it is kept.
 fn place(x: u32) -> usize
     ensures { λ r. ⌜ (r ≡ x) × (r < 2 ^ 32) ⌝ }
 {

@@ -19,6 +19,7 @@ Passes g ws rules = (next : ℕ) × (readRules g ws ≡ value rules next)
 abbrev pub LaidOut : Grammar → Words → Rules → Type 0
 LaidOut g ws rules = (next : ℕ) × (readLayout (length g) ws ≡ value rules next)
 
+-- what passes is exactly what is laid out rightly and well typed
 pub record Exactly (g : Grammar) (ws : Words) (rules : Rules) : Type 0 where
   -- what passes is laid out rightly and well typed
   pub sound : Passes g ws rules → LaidOut g ws rules × WellTyped g rules

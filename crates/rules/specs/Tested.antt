@@ -12,19 +12,23 @@ use Rattle.rules.specs.Limits.{mostVariables}
 use Rattle.rules.specs.Rules.{Operation, add, subtract, quotient, remainder, round, truncate, equal, greater, Applied, rule, operation, nothing, Shape, node, new, same, Application, Piece, write, copy, chain, Part, deconstruct, search, construct, condition, searches, Rule, Rules}
 use Rattle.rules.specs.WellTyped.{Types, Role, replacing, testing, patternNesting, pieceNesting}
 
+-- goes on with what there is
 unfoldable pub onSome : {A B : Type 0} → Option A → (A → Option B) → Option B
 onSome none f = none
 onSome (some a) f = f a
 
+-- is there one, and does it pass?
 unfoldable pub isSome : {A : Type 0} → Option A → (A → Bool) → Bool
 isSome none f = false
 isSome (some a) f = f a
 
+-- is the variable there, and of the type?
 unfoldable pub hasType : Types → ℕ → ℕ → Bool
 hasType [] x t = false
 hasType (u ∷ Γ) zero t = eqb u t
 hasType (u ∷ Γ) (suc x) t = hasType Γ x t
 
+-- are the variables there, and of the types, one for one?
 unfoldable pub argumentsOf : Types → List ℕ → Types → Bool
 argumentsOf Γ [] [] = true
 argumentsOf Γ [] (t ∷ ts) = false
@@ -40,6 +44,7 @@ patternOf g Γ (node t v ∷ ps) (d ∷ due) = cond (eqb t d && allowed g t v) (
 patternOf g Γ (new t ∷ ps) (d ∷ due) = cond (eqb t d) (patternOf g (Γ ++ t ∷ []) ps due) none
 patternOf g Γ (same x ∷ ps) (d ∷ due) = cond (hasType Γ x d) (patternOf g Γ ps due) none
 
+-- may the operation stand here, with so many arguments?
 unfoldable pub operatesOf : Role → Operation → ℕ → Bool
 operatesOf replacing add n = eqb n 1
 operatesOf replacing subtract n = eqb n 1
@@ -58,23 +63,28 @@ operatesOf testing truncate n = false
 operatesOf testing equal n = eqb n 1
 operatesOf testing greater n = eqb n 1
 
+-- may the rule stand here? A replacement wants one that replaces
 unfoldable pub usableOf : Role → Rule → Bool
 usableOf replacing r = isSome (r .replacement) (λ ps. true)
 usableOf testing r = true
 
+-- are the variables there, and number tokens?
 unfoldable pub numbersOf : Grammar → Types → List ℕ → Bool
 numbersOf g Γ [] = true
 numbersOf g Γ (x ∷ xs) = isSome (getElem? Γ x) (isNumber g) && numbersOf g Γ xs
 
+-- do the arguments and the scope fit the rule?
 unfoldable pub fitsOf : Types → ℕ → List ℕ → Rule → Bool
 fitsOf Γ t xs r = argumentsOf Γ xs (r .parameters) && (searches (r .strategy) || eqb t (r .target))
 
 module _ (g : Grammar) (rules : Rules) (Γ : Types) (role : Role) (t : ℕ) where
+  -- does the application fit?
   unfoldable pub appliesOf : List ℕ → Applied → Bool
   appliesOf xs (rule n) = isSome (getElem? rules n) (λ r. usableOf role r && fitsOf Γ t xs r)
   appliesOf xs (operation o) = operatesOf role o (length xs) && (isNumber g t && numbersOf g Γ xs)
   appliesOf xs nothing = false
 
+  -- do all?
   unfoldable pub allApplyOf : List Application → Bool
   allApplyOf [] = true
   allApplyOf (a ∷ more) = appliesOf (a .arguments) (a .applied) && allApplyOf more
@@ -92,6 +102,7 @@ piecesOf g rules Γ (chain x apps ∷ ps) (d ∷ due) = hasType Γ x d && (allAp
 unfoldable pub onePattern : Grammar → Types → List Shape → ℕ → Option Types
 onePattern g Γ ps t = cond (leb (patternNesting g ps (1 ∷ [])) mostNesting) (patternOf g Γ ps (t ∷ [])) none
 
+-- are the pieces one tree of type t?
 unfoldable pub oneReplacement : Grammar → Rules → Types → List Piece → ℕ → Bool
 oneReplacement g rules Γ ps t = leb (pieceNesting g ps (1 ∷ [])) mostNesting && piecesOf g rules Γ ps (t ∷ [])
 
@@ -102,30 +113,37 @@ partOf g rules Γ (search ty x ps) = onSome (getElem? Γ x) (λ t. onePattern g 
 partOf g rules Γ (construct ty ps) = cond (oneReplacement g rules Γ ps ty) (some (Γ ++ ty ∷ [])) none
 partOf g rules Γ (condition b x apps) = onSome (getElem? Γ x) (λ t. cond (allApplyOf g rules Γ testing t apps) (some Γ) none)
 
+-- the variables after the parts, if each fits
 unfoldable pub partsOf : Grammar → Rules → Types → List Part → Option Types
 partsOf g rules Γ [] = some Γ
 partsOf g rules Γ (p ∷ ps) = onSome (partOf g rules Γ p) (λ Γ′. partsOf g rules Γ′ ps)
 
+-- is the replacement, if there is one, a tree of the target?
 unfoldable pub replacementOf : Grammar → Rules → Types → ℕ → Option (List Piece) → Bool
 replacementOf g rules Γ target none = true
 replacementOf g rules Γ target (some ps) = oneReplacement g rules Γ ps target
 
+-- does the rule fit?
 unfoldable pub ruleOf : Grammar → Rules → Rule → Bool
 ruleOf g rules r =
     isSome (onePattern g (r .parameters) (r .pattern) (r .target)) λ matched.
     isSome (partsOf g rules matched (r .parts)) λ all.
     leb (length all) mostVariables && replacementOf g rules all (r .target) (r .replacement)
 
+-- do all rules fit?
 unfoldable pub rulesOf : Grammar → Rules → Rules → Bool
 rulesOf g rules [] = true
 rulesOf g rules (r ∷ rs) = ruleOf g rules r && rulesOf g rules rs
 
+-- has the list nothing?
 unfoldable pub isNil : List ℕ → Bool
 isNil [] = true
 isNil (x ∷ xs) = false
 
+-- does the main rule fit?
 unfoldable pub mainOf : Rule → Bool
 mainOf r = usableOf replacing r && (isNil (r .parameters) && (searches (r .strategy) || eqb 0 (r .target)))
 
+-- is the book well typed?
 unfoldable pub wellTyped : Grammar → Rules → Bool
 wellTyped g rules = rulesOf g rules rules && isSome (getElem? rules 0) mainOf

@@ -49,6 +49,7 @@ mayStand inPattern d t = or (eqb t d) (or (eqb t markNew) (eqb t markVariable))
 mayStand inReplacement d t = or (eqb t d) (or (eqb t markVariable) (eqb t markChain))
 mayStand inCondition d t = false
 
+-- is there one?
 unfoldable pub isSome : {A : Type 0} → Option A → Bool
 isSome none = false
 isSome (some a) = true
@@ -59,6 +60,7 @@ appliesRule inCondition r = true
 appliesRule inReplacement r = isSome (r .replacement)
 appliesRule inPattern r = false
 
+-- may the operation of this number stand here?
 unfoldable pub appliesOperation : Place → ℕ → Bool
 appliesOperation inCondition o = between 1008 1009 o
 appliesOperation inReplacement o = between 1000 1005 o
@@ -68,6 +70,7 @@ appliesOperation inPattern o = false
 unfoldable pub fitsScope : Rule → ℕ → Bool
 fitsScope r s = or (searches (r .strategy)) (eqb (r .target) s)
 
+-- what stands for a rule that is not there
 abbrev pub noRule : Rule
 noRule = record { target = 0; strategy = rootOnly; parameters = []; pattern = []; parts = []; replacement = none }
 

@@ -24,6 +24,7 @@ use Rattle.rules.specs.declared.Part.the-variants.{Deconstruct, Construc
 use Rattle.rules.specs.declared.PartRead.{PartRead}
 use Rattle.rules.specs.declared.PartRead.the-variants.{Found, NoPart}
 
+-- the strategy, as the code has it
 abbrev pub strategyAs : Rules.Strategy → Strategy
 strategyAs rootOnly = RootOnly
 strategyAs firstMatch = FirstMatch
@@ -52,6 +53,7 @@ partAs (deconstructAt (some s) x p) = Deconstruct (record { searches = true; sea
 partAs (constructAt s p) = Construct (record { built = s; replacement = p })
 partAs (conditionAt negated p) = Condition (record { negated = negated; chain = p })
 
+-- a part that is read, or its refusal
 abbrev pub partRead : Read PartAt → PartRead
 partRead (value a next) = Found (record { part = partAs a; next = next })
 partRead (refused n p) = NoPart n p

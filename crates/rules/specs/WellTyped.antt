@@ -13,6 +13,7 @@ use Rattle.tree.specs.Tree.{levels}
 use Rattle.rules.specs.Limits.{mostVariables}
 use Rattle.rules.specs.Rules.{Operation, add, subtract, quotient, remainder, round, truncate, equal, greater, Applied, rule, operation, Shape, node, new, same, Application, Piece, write, copy, chain, Part, deconstruct, search, construct, condition, searches, Rule, Rules}
 
+-- the types of variables, or of trees that are due
 abbrev pub Types : Type 0
 Types = List ℕ
 
@@ -94,6 +95,7 @@ pub data Replacement (g : Grammar) (rules : Rules) (Γ : Types) : Types → List
   aCopy : {due : Types} {x t : ℕ} {ps : List Piece} → Has Γ x t → Replacement g rules Γ due ps → Replacement g rules Γ (t ∷ due) (copy x ∷ ps)
   aChain : {due : Types} {x t : ℕ} {apps : List Application} {ps : List Piece} → Has Γ x t → AllApply g rules Γ replacing t apps → Replacement g rules Γ due ps → Replacement g rules Γ (t ∷ due) (chain x apps ∷ ps)
 
+-- how deep the pieces nest, each level given
 unfoldable pub pieceNesting : Grammar → List Piece → List ℕ → ℕ
 pieceNesting g [] ks = 0
 pieceNesting g (p ∷ ps) [] = 0
@@ -113,6 +115,7 @@ pub data PartFits (g : Grammar) (rules : Rules) : Types → Part → Types → T
   constructs : {Γ : Types} {ty : ℕ} {ps : List Piece} → ReplacementOf g rules Γ ty ps → PartFits g rules Γ (construct ty ps) (Γ ++ ty ∷ [])
   tests : {Γ : Types} {b : Bool} {x t : ℕ} {apps : List Application} → Has Γ x t → AllApply g rules Γ testing t apps → PartFits g rules Γ (condition b x apps) Γ
 
+-- the parts fit one after the other
 pub data PartsFit (g : Grammar) (rules : Rules) : Types → List Part → Types → Type 0 where
   noPart : {Γ : Types} → PartsFit g rules Γ [] Γ
   aPart : {Γ Γ′ Γ″ : Types} {p : Part} {ps : List Part} → PartFits g rules Γ p Γ′ → PartsFit g rules Γ′ ps Γ″ → PartsFit g rules Γ (p ∷ ps) Γ″
@@ -132,6 +135,7 @@ pub record Main (r : Rule) : Type 0 where
   pub bare : r .parameters ≡ []
   pub scope : searches (r .strategy) ≡ false → 0 ≡ r .target
 
+-- "A book passes if ..": every rule fits, and the first is a main rule
 pub record WellTyped (g : Grammar) (rules : Rules) : Type 0 where
   pub each : (n : ℕ) (r : Rule) → getElem? rules n ≡ some r → RuleFits g rules r
   pub first : Rule

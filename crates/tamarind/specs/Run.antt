@@ -64,6 +64,7 @@ wasDone (Stopped s c) = false
 abbrev pub inputsOf : ℕ → Words → Words → Words → Inputs
 inputsOf budget grammar rules tree = record { budget = budget; grammar = grammar; rules = rules; tree = tree }
 
+-- the two memories
 abbrev pub memories : Words → Words → Memories
 memories result work = record { result = result; work = work }
 

@@ -217,6 +217,7 @@ fn answer_of(c: Called, budget: u32, filled: usize) -> Outcome
     Outcome::Stopped(cause(c.stop), counts)
 }
 
+// The main rule has no arguments.
 fn no_variables() -> Vars
     ensures { λ r. ⌜ Sound r × (r .n ≡ 0) ⌝ }
 {
@@ -346,6 +347,7 @@ fn export_counts(ending: u32, number: u32, counts: Counts) -> RunAnswer
     }
 }
 
+// An outcome as it is exported.
 fn export_run(outcome: Outcome) -> RunAnswer
     ensures { λ r. ⌜ r ≡ exportedOutcome outcome ⌝ }
 {

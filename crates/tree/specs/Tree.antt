@@ -30,6 +30,7 @@ levelsOf (opt e) v k = pick (eqb v 0) (suc k ∷ []) []
 levelsOf (sequence e) v k = pick (eqb v 0) (suc k ∷ k ∷ []) []
 levelsOf (forms fs) v k = map (λ e. suc k) (getD fs v [])
 
+-- the same for a node of the grammar
 unfoldable pub levels : Grammar → ℕ → ℕ → ℕ → List ℕ
 levels g t v k = levelsOf (kindOf g t) v k
 
@@ -67,6 +68,7 @@ areTrees g (w ∷ []) ts = false
 areTrees g (w ∷ v ∷ ws) [] = false
 areTrees g (w ∷ v ∷ ws) (t ∷ ts) = and (eqb w t) (and (allowed g t v) (areTrees g ws (children g t v ++ ts)))
 
+-- .. for one tree within its limits
 unfoldable pub isTree : Grammar → ℕ → Words → Bool
 isTree g t ws = and (areTrees g ws (t ∷ [])) (and (leb (size ws) mostNodes) (leb (nesting g ws) mostNesting))
 
@@ -77,6 +79,7 @@ first g (t ∷ []) n = []
 first g (t ∷ v ∷ ws) zero = []
 first g (t ∷ v ∷ ws) (suc n) = t ∷ v ∷ first g ws (length (children g t v) + n)
 
+-- what follows the first n trees
 unfoldable pub after : Grammar → Words → ℕ → Words
 after g [] n = []
 after g (t ∷ []) n = t ∷ []

@@ -21,6 +21,7 @@ AreTablesOf types heads rows = (g : Grammar) × Tables g heads rows × (length g
 
 -- THE FIELDS OF A RULE
 
+-- the part, by the fields that the code has
 abbrev pub deconstructOf : Deconstruct → PartAt
 deconstructOf d = deconstructAt (searchedType (d .searches) (d .searched)) (d .variable) (d .pattern)
 

@@ -10,40 +10,50 @@ use lib.Dec.{ltb, leb, eqb}
 abbrev pub Words : Type 0
 Words = List ℕ
 
+-- one of two, by a test
 abbrev pub pick : {A : Type 0} → Bool → A → A → A
 pick true a b = a
 pick false a b = b
 
+-- both tests
 abbrev pub and : Bool → Bool → Bool
 and true b = b
 and false b = false
 
+-- either test
 abbrev pub or : Bool → Bool → Bool
 or true b = true
 or false b = b
 
+-- is the number from low to high?
 abbrev pub between : ℕ → ℕ → ℕ → Bool
 between low high w = and (leb low w) (leb w high)
 
+-- what a reading comes to
 pub data Read (A : Type 0) : Type 0 where
   -- what was read, and the position of the next word
   value : A → ℕ → Read A
   -- the refusal's number, and its position
   refused : ℕ → ℕ → Read A
 
+-- a reading from a position on
 abbrev pub Reader : Type 0 → Type 0
 Reader A = ℕ → Read A
 
+-- goes on with what was read; a refusal is the end
 abbrev pub andThen : {A B : Type 0} → Read A → (A → Reader B) → Read B
 andThen (value a next) f = f a next
 andThen (refused n p) f = refused n p
 
+-- one reader after the other, by what the first read
 abbrev pub _>>=_ : {A B : Type 0} → Reader A → (A → Reader B) → Reader B
 _>>=_ r f at = andThen (r at) f
 
+-- one reader after the other
 abbrev pub _>>_ : {A B : Type 0} → Reader A → Reader B → Reader B
 _>>_ r s at = andThen (r at) (λ a. s)
 
+-- reads nothing
 abbrev pub return : {A : Type 0} → A → Reader A
 return a at = value a at
 

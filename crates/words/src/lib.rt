@@ -18,6 +18,7 @@ pub enum Got {
     Bad(u32, usize),
 }
 
+// A word as a position or a count.
 pub fn wide(x: u32) -> usize
     ensures { λ r. ⌜ r ≡ x ⌝ }
 {
