@@ -1,3 +1,4 @@
+-- `calls::chain_count` meets its contract. Assumes nothing.
 use native.Mathlib.Omega.{arith}
 use Rattle.calls.proofs.Chains.{count-over, count-is}
 use borrow.Author.Needs.{needs}

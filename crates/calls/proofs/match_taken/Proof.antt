@@ -1,3 +1,4 @@
+-- `calls::match_taken` meets its contract. Assumes nothing.
 use borrow.Author.Needs.{needs}
 use Rattle.calls.proofs.match_taken.Statement.{statement}
 use Rattle.calls.proofs.match_taken.Tie as tie

@@ -1,3 +1,4 @@
+-- `calls::tried` meets its contract. Assumes nothing.
 use Rattle.calls.proofs.Searching.{tried-some, tried-none}
 use native.Mathlib.Omega.{arith}
 use borrow.Author.Needs.{needs}

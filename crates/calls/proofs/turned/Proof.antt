@@ -1,3 +1,4 @@
+-- `calls::turned` meets its contract. Assumes nothing.
 use mathlib.Core.Path.{sym, ap}
 use Rattle.calls.specs.Engine.{turnedBy}
 use borrow.Author.Needs.{needs}

@@ -1,3 +1,4 @@
+-- `grammar::check_grammar` meets its contract. Assumes nothing.
 use borrow.Author.Needs.{needs}
 use Rattle.grammar.proofs.Laws.{check-long, check-short}
 use Rattle.grammar.proofs.check_grammar.Statement.{statement}

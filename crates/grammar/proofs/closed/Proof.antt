@@ -1,3 +1,4 @@
+-- `grammar::closed` meets its contract. Assumes nothing.
 use Rattle.grammar.proofs.Laws.{closed-bad, closed-word}
 use borrow.Author.Needs.{needs}
 use Rattle.grammar.proofs.closed.Statement.{statement}

@@ -1,3 +1,4 @@
+-- `grammar::element` meets its contract. Assumes nothing.
 use Rattle.grammar.proofs.Laws.{element-bad, element-type, element-gap, element-over, element-literal}
 use borrow.Author.Needs.{needs}
 use Rattle.grammar.proofs.element.Statement.{statement}

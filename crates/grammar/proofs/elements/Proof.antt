@@ -1,3 +1,4 @@
+-- `grammar::elements` meets its contract. Assumes nothing.
 use borrow.Author.Needs.{needs}
 use Rattle.grammar.specs.Views.{seenElements}
 use Rattle.grammar.specs.Grammar.{element}

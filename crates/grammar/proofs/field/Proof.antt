@@ -1,3 +1,4 @@
+-- `grammar::field` meets its contract. Assumes nothing.
 use Rattle.grammar.specs.Grammar.{field}
 use mathlib.Core.Path.{_∙_, sym}
 use borrow.Author.Needs.{needs}

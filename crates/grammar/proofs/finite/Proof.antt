@@ -1,3 +1,4 @@
+-- `grammar::finite` meets its contract. Assumes nothing.
 use borrow.Author.Needs.{needs}
 use Rattle.grammar.proofs.Laws.{flags-next, flags-none, flags-settled}
 use mathlib.Core.Path.{_≡_, refl, sym, ap, _∙_}

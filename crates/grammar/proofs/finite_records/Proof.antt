@@ -1,3 +1,4 @@
+-- `grammar::finite_records` meets its contract. Assumes nothing.
 use borrow.Author.Tests.{not-true, not-false}
 use borrow.Author.Needs.{needs}
 use Rattle.words.specs.Views.{answer}

@@ -1,3 +1,4 @@
+-- `grammar::flag` meets its contract. Assumes nothing.
 use native.Mathlib.Omega.{arith}
 use Rattle.grammar.proofs.Laws.{flag-out}
 use borrow.Author.Needs.{needs}

@@ -1,3 +1,4 @@
+-- `grammar::form` meets its contract. Assumes nothing.
 use Rattle.grammar.proofs.Laws.{form-bad, form-there}
 use borrow.Author.Needs.{needs}
 use Rattle.grammar.proofs.form.Statement.{statement}

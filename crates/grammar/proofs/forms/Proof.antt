@@ -1,3 +1,4 @@
+-- `grammar::forms` meets its contract. Assumes nothing.
 use borrow.Author.Needs.{needs}
 use Rattle.grammar.specs.Views.{seenForms}
 use Rattle.grammar.specs.Grammar.{form}

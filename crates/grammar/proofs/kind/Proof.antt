@@ -1,3 +1,4 @@
+-- `grammar::kind` meets its contract. Assumes nothing.
 use Rattle.grammar.proofs.Laws.{kind-bad, kind-token, kind-opt, kind-sequence, kind-forms-bad, kind-forms, kind-none}
 use borrow.Author.Needs.{needs}
 use Rattle.grammar.proofs.kind.Statement.{statement}

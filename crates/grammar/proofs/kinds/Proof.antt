@@ -1,3 +1,4 @@
+-- `grammar::kinds` meets its contract. Assumes nothing.
 use borrow.Author.Needs.{needs}
 use Rattle.words.specs.Views.{answer}
 use Rattle.grammar.specs.Grammar.{kind}

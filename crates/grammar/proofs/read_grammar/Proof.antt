@@ -1,3 +1,4 @@
+-- `grammar::read_grammar` meets its contract. Assumes nothing.
 use native.Mathlib.Omega.{arith}
 use Rattle.grammar.proofs.Laws.{count-next, check-bad, check-fault, check-over, check-finite}
 use borrow.Author.Needs.{needs}

@@ -1,3 +1,4 @@
+-- `grammar::round` meets its contract. Assumes nothing.
 use Rattle.grammar.proofs.Laws.{round-end, round-fault, round-more}
 use borrow.Author.Needs.{needs}
 use Rattle.grammar.specs.Views.{filled}

@@ -1,3 +1,4 @@
+-- `grammar::same_flag` meets its contract. Assumes nothing.
 use borrow.Author.Tests.{not-true}
 use mathlib.Core.Path.{_≡_, refl, sym, ap, _∙_}
 use Rattle.grammar.proofs.same_flag.Statement.{statement}

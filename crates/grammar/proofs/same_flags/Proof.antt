@@ -1,3 +1,4 @@
+-- `grammar::same_flags` meets its contract. Assumes nothing.
 use borrow.Author.Needs.{needs}
 use Rattle.grammar.proofs.Laws.{same-more, same-whole}
 use borrow.Author.Tests.{not-false}

@@ -1,3 +1,4 @@
+-- `marks::level` meets its contract. Assumes nothing.
 use Rattle.marks.proofs.Marking.{level-rest, level-other, level-plain}
 use native.Mathlib.Omega.{arith}
 use borrow.Author.Needs.{needs}

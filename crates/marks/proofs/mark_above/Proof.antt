@@ -1,3 +1,4 @@
+-- `marks::mark_above` meets its contract. Assumes nothing.
 use borrow.Author.Needs.{needs}
 use Rattle.marks.proofs.Above.{AboveLoop, above-skip, above-end}
 use Rattle.marks.proofs.Spans.{mark-start, mark-more}

@@ -1,3 +1,4 @@
+-- `marks::mark_node` meets its contract. Assumes nothing.
 use Rattle.marks.proofs.Spans.{node-marked}
 use borrow.Author.Needs.{needs}
 use Rattle.marks.proofs.mark_node.Statement.{statement}

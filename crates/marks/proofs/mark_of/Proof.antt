@@ -1,3 +1,4 @@
+-- `marks::mark_of` meets its contract. Assumes nothing.
 use borrow.Author.Needs.{needs}
 use Rattle.marks.proofs.Marking.{Marking, marking-start, marking-more, marking-end}
 use native.Mathlib.Omega.{arith}

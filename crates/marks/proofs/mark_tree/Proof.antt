@@ -1,3 +1,4 @@
+-- `marks::mark_tree` meets its contract. Assumes nothing.
 use borrow.Author.Needs.{needs}
 use mathlib.Core.Path.{refl}
 use Rattle.marks.proofs.Spans.{MarkLoop, Whatever, mark-start, mark-more, mark-end}

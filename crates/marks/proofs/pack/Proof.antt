@@ -1,3 +1,4 @@
+-- `marks::pack` meets its contract. Assumes nothing.
 use Rattle.marks.proofs.Marking.{packed}
 use mathlib.Core.Path.{_≡_, refl}
 use borrow.Author.Needs.{needs}

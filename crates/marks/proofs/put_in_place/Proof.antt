@@ -1,3 +1,4 @@
+-- `marks::put_in_place` meets its contract. Assumes nothing.
 use Rattle.marks.proofs.Putting.{put-done, put-resized, put-same, put-not}
 use native.Mathlib.Omega.{arith}
 use Prim.Native.Nat.{ℕ, _+_, _*_, _-_}

@@ -1,3 +1,4 @@
+-- `marks::resize_above` meets its contract. Assumes nothing.
 use borrow.Author.Needs.{needs}
 use Rattle.marks.proofs.Resizing.{ResizeLoop, resize-start, resize-none, resize-over, resize-into, resize-end}
 use native.Mathlib.Omega.{arith}

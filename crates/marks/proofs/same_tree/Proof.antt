@@ -1,3 +1,4 @@
+-- `marks::same_tree` meets its contract. Assumes nothing.
 use lib.ListN.{length-take}
 use Rattle.marks.proofs.Same.{same-sizes, same-arena, same-part, same-words}
 use native.Mathlib.Omega.{arith}

@@ -1,3 +1,4 @@
+-- `operations::holds` meets its contract. Assumes nothing.
 use Rattle.operations.proofs.Numbers.{equals, exceeds}
 use Rattle.operations.proofs.holds.Statement.{statement}
 use Rattle.operations.proofs.holds.Tie as tie

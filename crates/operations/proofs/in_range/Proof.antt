@@ -1,3 +1,4 @@
+-- `operations::in_range` meets its contract. Assumes nothing.
 use Rattle.operations.proofs.Numbers.{range-over, range-in}
 use borrow.Author.Needs.{needs}
 use Rattle.operations.proofs.in_range.Statement.{statement}

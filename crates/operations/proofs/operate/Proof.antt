@@ -1,3 +1,4 @@
+-- `operations::operate` meets its contract. Assumes nothing.
 use Rattle.operations.proofs.Numbers.{adds, below-zero, subtracts, rounds, truncates, by-zero, divides, remains, quotient-fits, quotient-small}
 use native.Mathlib.Omega.{arith}
 use Prim.Native.Nat.{ℕ, _+_, _*_, _-_, _/_, _≤_, _<_}

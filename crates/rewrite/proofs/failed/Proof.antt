@@ -1,3 +1,4 @@
+-- `rewrite::failed` meets its contract. Assumes nothing.
 use mathlib.Core.Path.{_∙_}
 use Rattle.rewrite.proofs.Matcher.{failed-zero, failed-other}
 use borrow.Author.Needs.{needs}

@@ -1,3 +1,4 @@
+-- `rewrite::match_first` meets its contract. Assumes nothing.
 use borrow.Author.Needs.{needs}
 use Rattle.rewrite.proofs.Finding.{Finding, finding-start, finding-none, finding-other, finding-matches, finding-stops, finding-differs}
 use Rattle.words.proofs.Stretches.{part-rest}

@@ -1,3 +1,4 @@
+-- `rewrite::match_pattern` meets its contract. Assumes nothing.
 use Rattle.rewrite.proofs.Matcher.{Going, going-start, going-end, pair-failed, pair-bound, pair-on}
 use mathlib.Core.Path.{_≡_, refl, sym, ap, _∙_}
 use Prim.Native.Nat.{ℕ, _+_, _*_, _-_, _≤_, _<_}

@@ -1,3 +1,4 @@
+-- `rewrite::new_words` meets its contract. Assumes nothing.
 use Rattle.rewrite.specs.Matching.NewTold.{other, over, past, taken}
 use mathlib.Core.Path.{refl, sym, ap, _∙_}
 use Prim.Native.Nat.{_*_}

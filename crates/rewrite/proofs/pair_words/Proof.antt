@@ -1,3 +1,4 @@
+-- `rewrite::pair_words` meets its contract. Assumes nothing.
 use Rattle.rewrite.specs.Matching.PairTold.{short, new, unlike, like, type, value, node}
 use Rattle.rewrite.proofs.Matcher.{same-as}
 use Rattle.words.proofs.Stretches.{part-rest}

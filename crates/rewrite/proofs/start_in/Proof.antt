@@ -1,3 +1,4 @@
+-- `rewrite::start_in` meets its contract. Assumes nothing.
 use Rattle.rewrite.proofs.Matcher.{start-there, start-past, start-over}
 use native.Mathlib.Omega.{arith}
 use Prim.Native.Nat.{ℕ, _+_, _*_, _-_, _≤_, _<_}

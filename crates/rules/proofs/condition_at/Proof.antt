@@ -1,3 +1,4 @@
+-- `rules::condition_at` meets its contract. Assumes nothing.
 use mathlib.Core.Path.{ap}
 use Rattle.rules.specs.declared.Part.the-variants.{Deconstruct, Construct, Condition}
 use borrow.Author.Needs.{needs}

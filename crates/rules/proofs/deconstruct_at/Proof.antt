@@ -1,3 +1,4 @@
+-- `rules::deconstruct_at` meets its contract. Assumes nothing.
 use Prim.Native.Nat.{_+_}
 use mathlib.Core.Path.{ap}
 use Rattle.rules.specs.declared.Part.the-variants.{Deconstruct, Construct, Condition}

@@ -1,3 +1,4 @@
+-- `rules::pairs_end` meets its contract. Assumes nothing.
 use mathlib.Core.Path.{_∙_}
 use Rattle.rules.proofs.Laid.{end-past, end-over, end-there}
 use native.Mathlib.Omega.{arith}

@@ -1,3 +1,4 @@
+-- `words::clear` meets its contract. Assumes nothing.
 use borrow.Author.Needs.{needs}
 use Rattle.words.proofs.Stretches.{zeros, zero-turn, zero-all}
 use lib.Seq.{paste, paste-zero}

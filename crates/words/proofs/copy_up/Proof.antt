@@ -1,3 +1,4 @@
+-- `words::copy_up` meets its contract. Assumes nothing.
 use borrow.Author.Needs.{needs}
 use Rattle.words.proofs.Stretches.{up-turn}
 use lib.Seq.{paste, paste-zero}

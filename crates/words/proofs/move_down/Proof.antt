@@ -1,3 +1,4 @@
+-- `words::move_down` meets its contract. Assumes nothing.
 use borrow.Author.Needs.{needs}
 use Rattle.words.proofs.Stretches.{down-turn}
 use lib.Seq.{paste, paste-zero}

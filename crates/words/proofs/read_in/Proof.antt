@@ -1,3 +1,4 @@
+-- `words::read_in` meets its contract. Assumes nothing.
 use Rattle.words.proofs.Laws.{in-bad, in-low, in-high, in-there}
 use borrow.Author.Needs.{needs}
 use Rattle.words.proofs.read_in.Statement.{statement}

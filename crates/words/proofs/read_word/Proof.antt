@@ -1,3 +1,4 @@
+-- `words::read_word` meets its contract. Assumes nothing.
 use Rattle.words.proofs.Laws.{word-there, word-ends}
 use borrow.Author.Needs.{needs}
 use Rattle.words.proofs.read_word.Statement.{statement}

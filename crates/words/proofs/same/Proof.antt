@@ -1,3 +1,4 @@
+-- `words::same` meets its contract. Assumes nothing.
 use borrow.Author.Needs.{needs}
 use Rattle.words.proofs.Stretches.{equal-lengths, equal-differs, equal-more, equal-end}
 use Rattle.words.specs.Views.{equalWords}

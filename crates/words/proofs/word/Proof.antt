@@ -1,3 +1,4 @@
+-- `words::word` meets its contract. Assumes nothing.
 use lib.ListN.{List·getD-eq-default}
 use lib.ListN.{length, getD, take, drop, length-set}
 use native.Mathlib.Omega.{arith}

@@ -1,3 +1,4 @@
+-- The parts of the proof that `calls::apply` meets its contract. Assumes nothing.
 use Prim.Native.Nat.{_+_}
 use mathlib.Core.Path.{refl}
 use lib.ListN.{getD}

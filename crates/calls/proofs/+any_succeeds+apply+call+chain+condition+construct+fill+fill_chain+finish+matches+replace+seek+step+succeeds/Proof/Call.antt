@@ -1,3 +1,4 @@
+-- The parts of the proof that `calls::call` meets its contract. Assumes nothing.
 use Prim.Native.Nat.{ℕ, _-_}
 use native.Mathlib.Omega.{arith}
 use borrow.Author.Needs.{needs}

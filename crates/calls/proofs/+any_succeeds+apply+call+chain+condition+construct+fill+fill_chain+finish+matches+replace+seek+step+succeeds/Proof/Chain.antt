@@ -1,3 +1,4 @@
+-- The parts of the proof that `calls::chain` meets its contract. Assumes nothing.
 use Rattle.calls.proofs.Applying.{Chaining, chaining-start, chaining-stop, chaining-more, chaining-end}
 use Prim.Native.Nat.{ℕ, _-_}
 use mathlib.Core.Path.{_∙_}

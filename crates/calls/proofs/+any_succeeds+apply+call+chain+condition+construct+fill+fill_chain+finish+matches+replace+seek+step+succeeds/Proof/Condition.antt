@@ -1,3 +1,4 @@
+-- The parts of the proof that `calls::condition` meets its contract. Assumes nothing.
 use Rattle.calls.proofs.Testing.{condition-over, condition-tested}
 use Prim.Native.Nat.{ℕ, _-_}
 use borrow.Author.Needs.{needs}

@@ -1,3 +1,4 @@
+-- The parts of the proof that `calls::fill_chain` meets its contract. Assumes nothing.
 use Prim.Native.Nat.{ℕ}
 use mathlib.Core.Path.{ap, _∙_}
 use native.Mathlib.Omega.{arith}

@@ -1,3 +1,4 @@
+-- The parts of the proof that `calls::finish` meets its contract. Assumes nothing.
 use Prim.Native.Nat.{ℕ}
 use native.Mathlib.Omega.{arith}
 use borrow.Author.Needs.{needs}

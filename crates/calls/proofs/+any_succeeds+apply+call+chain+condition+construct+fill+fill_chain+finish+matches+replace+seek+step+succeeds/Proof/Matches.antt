@@ -1,3 +1,4 @@
+-- The parts of the proof that `calls::matches` meets its contract. Assumes nothing.
 use Rattle.rewrite.specs.declared.Verdict.{Verdict}
 use Rattle.calls.proofs.Testing.{foundVerdict, matches-over, matches-found}
 use Rattle.calls.specs.Engine.{CallMatches}

@@ -1,3 +1,4 @@
+-- The parts of the proof that `calls::seek` meets its contract. Assumes nothing.
 use Rattle.rewrite.specs.Vars.{Sound}
 use Rattle.calls.proofs.Searching.{answers-as, tried-few, tried-inside, Searching, searching-start, searching-next, searching-none, searching-other, searching-spent, searching-differs, searching-stops, Parting, parting-start, parting-on, trying-grown, trying-run, trying-done, trying-differs, trying-stops}
 use lib.ListN.{length-take}

@@ -1,3 +1,4 @@
+-- The parts of the proof that `calls::step` meets its contract. Assumes nothing.
 use Prim.Native.Nat.{ℕ, _-_}
 use mathlib.Core.Path.{refl}
 use borrow.Author.Needs.{needs}

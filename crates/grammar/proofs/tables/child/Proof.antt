@@ -1,3 +1,4 @@
+-- `grammar::tables::child` meets its contract. Assumes nothing.
 use Rattle.grammar.proofs.Lookups.{no-type, child-in, child-out}
 use lib.ListN.{getD}
 use native.Mathlib.Omega.{arith}

@@ -1,3 +1,4 @@
+-- `grammar::tables::child_count` meets its contract. Assumes nothing.
 use Rattle.grammar.proofs.Lookups.{no-type, count-in, none-counted}
 use native.Mathlib.Omega.{arith}
 use mathlib.Core.Path.{_≡_, refl, sym, ap, _∙_}

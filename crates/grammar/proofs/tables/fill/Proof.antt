@@ -1,3 +1,4 @@
+-- `grammar::tables::fill` meets its contract. Assumes nothing.
 use borrow.Author.Needs.{needs}
 use Rattle.grammar.proofs.Shown.{accepted-decoded, fill-start, filled-tables}
 use Rattle.grammar.proofs.Filling.{FillLoop, fill-record, fill-more, fill-end, record-map}

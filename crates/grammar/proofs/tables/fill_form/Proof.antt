@@ -1,3 +1,4 @@
+-- `grammar::tables::fill_form` meets its contract. Assumes nothing.
 use borrow.Author.Needs.{needs}
 use Rattle.grammar.proofs.Filling.{FormLoop, form-start, form-inside, form-element, form-more, form-end}
 use native.Mathlib.Omega.{arith}

@@ -1,3 +1,4 @@
+-- `grammar::tables::fill_forms` meets its contract. Assumes nothing.
 use borrow.Author.Needs.{needs}
 use Rattle.grammar.proofs.Filling.{FormsLoop, forms-start, forms-form, forms-more, forms-end}
 use native.Mathlib.Omega.{arith}

@@ -1,3 +1,4 @@
+-- `grammar::tables::fill_rows` meets its contract. Assumes nothing.
 use Rattle.grammar.proofs.Filling.{record-inside, record-forms, record-opt, record-sequence, put-forms, put-token, put-opt, put-sequence}
 use native.Mathlib.Omega.{arith}
 use Prim.Native.Nat.{ℕ, _+_, _*_, _-_, _≤_, _<_}

@@ -1,3 +1,4 @@
+-- `grammar::tables::is_allowed` meets its contract. Assumes nothing.
 use Rattle.grammar.proofs.Lookups.{allowed-by}
 use borrow.Author.Needs.{needs}
 use Rattle.grammar.proofs.tables.is_allowed.Statement.{statement}

@@ -1,3 +1,4 @@
+-- `grammar::tables::is_literal` meets its contract. Assumes nothing.
 use Rattle.grammar.proofs.Filling.{literal-low, literal-high}
 use Rattle.grammar.proofs.tables.is_literal.Statement.{statement}
 use Rattle.grammar.proofs.tables.is_literal.Tie as tie

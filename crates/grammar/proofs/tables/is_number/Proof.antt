@@ -1,3 +1,4 @@
+-- `grammar::tables::is_number` meets its contract. Assumes nothing.
 use Rattle.grammar.proofs.Lookups.{number-by}
 use borrow.Author.Needs.{needs}
 use Rattle.grammar.proofs.tables.is_number.Statement.{statement}

@@ -1,3 +1,4 @@
+-- `grammar::tables::is_sequence` meets its contract. Assumes nothing.
 use Rattle.grammar.proofs.Lookups.{sequence-by}
 use borrow.Author.Needs.{needs}
 use Rattle.grammar.proofs.tables.is_sequence.Statement.{statement}

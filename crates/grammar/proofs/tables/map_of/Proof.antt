@@ -1,3 +1,4 @@
+-- `grammar::tables::map_of` meets its contract. Assumes nothing.
 use Rattle.grammar.proofs.Lookups.{map-in, map-out}
 use borrow.Author.Needs.{needs}
 use Rattle.grammar.proofs.tables.map_of.Statement.{statement}

@@ -1,3 +1,4 @@
+-- `grammar::tables::put_element` meets its contract. Assumes nothing.
 use Rattle.grammar.proofs.Filling.{put-literal, put-type, type-small}
 use native.Mathlib.Omega.{arith}
 use Prim.Native.Nat.{ℕ, _+_, _*_, _-_, _≤_, _<_}

@@ -1,3 +1,4 @@
+-- `grammar::tables::value_count` meets its contract. Assumes nothing.
 use Rattle.grammar.proofs.Filling.{record-inside, values-forms, values-number, values-name, values-two}
 use native.Mathlib.Omega.{arith}
 use Prim.Native.Nat.{ℕ, _+_, _*_, _-_, _≤_, _<_}

@@ -1,3 +1,4 @@
+-- `grammar::tables::values` meets its contract. Assumes nothing.
 use Rattle.grammar.proofs.Lookups.{values-in, values-out}
 use borrow.Author.Needs.{needs}
 use Rattle.grammar.proofs.tables.values.Statement.{statement}

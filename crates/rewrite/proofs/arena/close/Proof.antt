@@ -1,3 +1,4 @@
+-- `rewrite::arena::close` meets its contract. Assumes nothing.
 use Rattle.marks.specs.Marked.{nestingIn}
 use mathlib.Core.Path.{ap, _∙_}
 use Rattle.rewrite.proofs.Closing.{closed-deep, closed-flat}

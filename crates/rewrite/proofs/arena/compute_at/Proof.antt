@@ -1,3 +1,4 @@
+-- `rewrite::arena::compute_at` meets its contract. Assumes nothing.
 use Rattle.rewrite.proofs.Leaves.{computed-is, computed-out}
 use borrow.Author.Needs.{needs}
 use Rattle.rewrite.proofs.arena.compute_at.Statement.{statement}

@@ -1,3 +1,4 @@
+-- `rewrite::arena::replace_tree` meets its contract. Assumes nothing.
 use Rattle.marks.specs.Marked.{sizeIn}
 use Rattle.rewrite.proofs.Placing.{replaced-none, replaced-many, replaced-deep, replaced-done}
 use mathlib.Core.Path.{ap, _∙_}

@@ -1,3 +1,4 @@
+-- `rewrite::arena::too_deep` meets its contract. Assumes nothing.
 use Rattle.marks.specs.Marked.{nestingIn}
 use Rattle.rewrite.proofs.Placing.{deep-not, deep-by}
 use mathlib.Core.Path.{ap, _∙_}

@@ -1,3 +1,4 @@
+-- `rewrite::candidates::clashes` meets its contract. Assumes nothing.
 use Rattle.rewrite.proofs.Clashing.{Clashing, clashing-start, clashing-type, clashing-value, clashing-node, clashing-other, clashing-new}
 use mathlib.Core.Path.{_≡_, refl, sym, ap, _∙_}
 use Prim.Native.Nat.{ℕ, _+_, _*_, _-_, _≤_, _<_}

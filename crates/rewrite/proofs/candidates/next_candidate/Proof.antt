@@ -1,3 +1,4 @@
+-- `rewrite::candidates::next_candidate` meets its contract. Assumes nothing.
 use Rattle.rewrite.proofs.Clashing.{Passing, passing-start, passing-done, passing-other, passing-clash}
 use borrow.Author.Tests.{not-true, not-false}
 use mathlib.Core.Path.{_≡_, refl, sym, ap, _∙_}
