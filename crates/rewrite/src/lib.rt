@@ -5,7 +5,7 @@ use rules::limits::MOST_VARIABLES;
 ghost use mathlib.Core.Path.{_≡_};
 ghost use Prim.Native.Nat.{ℕ, _+_, _<_, _≤_, _^_};
 ghost use lib.ListN.{length};
-ghost use Rattle.rewrite.specs.Vars.{bound, startAt, Sound};
+ghost use Rattle.rewrite.specs.Vars.{startAt, Sound};
 ghost use Rattle.rewrite.specs.Matching.{NewTold, PairTold, failedBy, MatchAnswers, FirstAnswers};
 ghost use Rattle.rewrite.specs.declared.Verdict as Verdict;
 
@@ -33,18 +33,6 @@ pub struct Matched {
     pub verdict: Verdict,
     pub vars: Vars,
     pub live: usize,
-}
-
-// One variable more.
-pub fn bind(vars: Vars, start: u32) -> Vars
-    requires { ⌜ vars .n < 16 ⌝ }
-    ensures { λ r. ⌜ r ≡ bound vars start ⌝ }
-{
-    let mut v = vars;
-    let n = v.n;
-    v.starts[n] = start;
-    v.n = n + 1;
-    v
 }
 
 // No match, with the variables as they are.
