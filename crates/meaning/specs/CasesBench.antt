@@ -5,9 +5,9 @@ use mathlib.Core.Path.{_≡_, refl}
 use mathlib.Core.List.{List, [], _∷_}
 use mathlib.Core.Bool.{true, false}
 use Rattle.words.specs.Reader.{Words}
-use Rattle.meaning.specs.Limits.{leastResult, leastWork}
 use Rattle.meaning.specs.Meaning.{done, stopped}
 use Rattle.meaning.specs.Outcome.{Outcome, refused, ended, outcome, output}
+use Rattle.meaning.specs.Cases.{Case, case, given, found}
 use Rattle.words.specs.Reader as Reader
 use Rattle.words.specs.Views as Views
 use Rattle.grammar.specs.Grammar as Grammar
@@ -22,10 +22,6 @@ use Rattle.meaning.specs.Computation as Computation
 use Rattle.meaning.specs.Operations as Operations
 use Rattle.meaning.specs.Meaning as Meaning
 use Rattle.meaning.specs.Outcome as Outcome
-
--- budget, grammar, rules, tree, and the outcome
-data Case : Type 0 where
-  case : ℕ → Words → Words → Words → Outcome → Case
 
 -- "Grammar 3 8 1 1 1 4 2 1 2 (program of repeat number). Book 1 9 2 2 1 2 200 1 2 4200. Slip 0 0 1 0 2 200 1 0 2 500 1 1, that is 2.00, 5.00", and "Variants
 -- of it": those with *, and the others of the list
@@ -63,14 +59,6 @@ table =
     -- "1000 quotient 300: 300"
     ∷ case 3 (3 ∷ 8 ∷ 1 ∷ 1 ∷ 1 ∷ 4 ∷ 2 ∷ 1 ∷ 2 ∷ []) (1 ∷ 9 ∷ 1 ∷ 1 ∷ 5 ∷ 1 ∷ 0 ∷ 64 ∷ 2 ∷ 1 ∷ 0 ∷ 64 ∷ 2 ∷ 64 ∷ 1 ∷ 6 ∷ 1 ∷ 0 ∷ 66 ∷ 0 ∷ 1 ∷ 0 ∷ 1002 ∷ 1 ∷ 65 ∷ 1 ∷ 65 ∷ 2 ∷ []) (0 ∷ 0 ∷ 1 ∷ 0 ∷ 2 ∷ 1000 ∷ 1 ∷ 0 ∷ 2 ∷ 300 ∷ 1 ∷ 1 ∷ []) (ended done 1 1 (0 ∷ 0 ∷ 1 ∷ 0 ∷ 2 ∷ 300 ∷ 1 ∷ 1 ∷ []))
     ∷ []
-
-given : List Case → List Outcome
-given [] = []
-given (case b g r t o ∷ more) = o ∷ given more
-
-found : List Case → List Outcome
-found [] = []
-found (case b g r t o ∷ more) = outcome leastResult leastWork (record { budget = b; grammar = g; rules = r; tree = t }) ∷ found more
 
 -- the words to post, with a result of five words and the tree 0 0 1 1: done with four filled, stopped with four, done with five, done with six
 posted : List Words

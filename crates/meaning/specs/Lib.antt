@@ -5,6 +5,7 @@ pub mod Meaning
 pub mod Outcome
 pub mod Sound
 pub mod Runs
+pub mod Cases
 pub mod CasesBench
 pub mod CasesRun
 pub mod CasesLarge

@@ -16,7 +16,7 @@ use Rattle.rules.specs.Limits.{mostRules}
 use Rattle.rules.specs.Rules.{Applied, rule, operation, nothing, searches, Rule, Rules, operations, applied}
 use Rattle.rules.specs.Typing.{isSome as present, Place, inPattern, inReplacement, inCondition, appliesRule, appliesOperation, fitsScope, noRule, usable}
 use Rattle.rules.specs.WellTyped.{Types, Role, replacing, testing}
-use Rattle.rules.specs.Tested.{isSome, argumentsOf, operatesOf, usableOf, numbersOf, fitsOf, appliesOf}
+use Rattle.rules.specs.Tested.{someIs, argumentsOf, operatesOf, usableOf, numbersOf, fitsOf, appliesOf}
 
 -- the role that applications have at a place
 abbrev pub Plays : Place → Role → Type 0
@@ -29,11 +29,11 @@ Plays inCondition testing = Unit {0}
 -- RULES
 
 usable-same : (here : Place) (role : Role) → Plays here role → (r : Rule) → appliesRule here r ≡ usableOf role r
-unfolding appliesRule usableOf present isSome
+unfolding appliesRule usableOf present someIs
 usable-same inPattern role p r = absurd p
 usable-same inReplacement replacing p r = go (r .replacement)
   where
-    go : {A : Type 0} (o : Option A) → present o ≡ isSome o (λ x. true)
+    go : {A : Type 0} (o : Option A) → present o ≡ someIs o (λ x. true)
     go none = refl
     go (some x) = refl
 usable-same inReplacement testing p r = absurd p
@@ -95,7 +95,7 @@ applied-rule a h = rw (lt-ltb a 1000 h, applied)
 
 -- a rule that is not there
 absent : (g : Grammar) (rules : Rules) (Γ : Types) (role : Role) (s : ℕ) (xs : List ℕ) (a : ℕ) → getElem? rules a ≡ none → appliesOf g rules Γ role s xs (rule a) ≡ false
-unfolding appliesOf isSome
+unfolding appliesOf someIs
 absent g rules Γ role s xs a q = rw q
 
 -- do the arguments xs fit what is applied?
@@ -129,7 +129,7 @@ module _ (g : Grammar) (rules : Rules) (here : Place) (role : Role) (Γ : Types)
     -- the number of a rule that is there
     applies-rule : a < length rules
         → appliesOf g rules Γ role s xs (applied a) ≡ and (and (appliesRule here (getD rules a noRule)) (fitsScope (getD rules a noRule) s)) (argumentsOf Γ xs (getD rules a noRule .parameters))
-    unfolding appliesOf isSome fitsOf
+    unfolding appliesOf someIs fitsOf
     applies-rule h =
         rw (applied-rule a (omega arith), there-some rules a noRule h, usable-same here role plays r, scope-same r s)
         (go (usableOf role r) (argumentsOf Γ xs (r .parameters)) (searches (r .strategy) || eqb s (r .target)))

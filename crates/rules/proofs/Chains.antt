@@ -19,7 +19,7 @@ use Rattle.rules.specs.Limits.{mostRules, mostApplications, markVariable
 use Rattle.rules.specs.Rules.{Application, Rules, applied, arguments, applications, pairsIn, argumentsWritten, applicationsWritten, chainWritten, unreadable, chainOf}
 use Rattle.rules.specs.Typing.{Place, Due, applicationCount, application, argument, numberArgument, Context, noRule, usable, argumentsDue, meets}
 use Rattle.rules.specs.WellTyped.{Types, Role}
-use Rattle.rules.specs.Tested.{isSome, hasType, argumentsOf, numbersOf, appliesOf, allApplyOf}
+use Rattle.rules.specs.Tested.{someIs, hasType, argumentsOf, numbersOf, appliesOf, allApplyOf}
 use Rattle.rules.proofs.Accept.{meet, read, leaving, hasType-eq}
 use Rattle.rules.proofs.Applications.{Plays, argumentsFit, applies-same}
 
@@ -31,11 +31,11 @@ both-and false b c d o = refl
 
 -- ARGUMENTS
 
-isNumber-eq : (g : Grammar) (Γ : Types) (v : ℕ) → isSome (getElem? Γ v) (isNumber g) ≡ and (ltb v (length Γ)) (isNumber g (getD Γ v 0))
-unfolding isSome
+isNumber-eq : (g : Grammar) (Γ : Types) (v : ℕ) → someIs (getElem? Γ v) (isNumber g) ≡ and (ltb v (length Γ)) (isNumber g (getD Γ v 0))
+unfolding someIs
 isNumber-eq g Γ v = go (ltb v (length Γ)) refl
   where
-    go : (b : Bool) → ltb v (length Γ) ≡ b → isSome (getElem? Γ v) (isNumber g) ≡ and b (isNumber g (getD Γ v 0))
+    go : (b : Bool) → ltb v (length Γ) ≡ b → someIs (getElem? Γ v) (isNumber g) ≡ and b (isNumber g (getD Γ v 0))
     go true e = rw (there-some Γ v 0 (ltb-true v (length Γ) e))
     go false e = rw (past-none Γ v (ltb-false v (length Γ) e))
 
@@ -69,7 +69,7 @@ module _ (g : Grammar) (rules : Rules) (here : Place) where
       go true false b = refl
       go false a b = refl
 
-  number-meet : (Γ : Context) (t v : ℕ) → meet g rules here numberArgument Γ t v ≡ when (and (eqb t markVariable) (isSome (getElem? Γ v) (isNumber g))) (leaving Γ [])
+  number-meet : (Γ : Context) (t v : ℕ) → meet g rules here numberArgument Γ t v ≡ when (and (eqb t markVariable) (someIs (getElem? Γ v) (isNumber g))) (leaving Γ [])
   unfolding meet meets
   number-meet Γ t v = rw (isNumber-eq g Γ v) (go (eqb t markVariable) (ltb v (length Γ)) (isNumber g (getD Γ v 0)))
     where
@@ -115,7 +115,7 @@ module _ (g : Grammar) (rules : Rules) (here : Place) where
   unfolding exact meet argumentsWritten numbersOf arguments
   number-exact [] ds Γ = refl
   number-exact (w ∷ []) ds Γ = refl
-  number-exact (w ∷ v ∷ ws) ds Γ = rw (number-meet Γ w v) (go (eqb w markVariable) (isSome (getElem? Γ v) (isNumber g)))
+  number-exact (w ∷ v ∷ ws) ds Γ = rw (number-meet Γ w v) (go (eqb w markVariable) (someIs (getElem? Γ v) (isNumber g)))
     where
       go : (a b : Bool) → bind (when (and a b) (leaving Γ [])) (others ws ds) ≡ when (and (and a true) (b && true)) (run ws ds Γ)
       go true true = refl

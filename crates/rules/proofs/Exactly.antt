@@ -19,7 +19,7 @@ use Rattle.rules.specs.Rules.{Rules, Rule, Piece, pieces}
 use Rattle.rules.specs.Layout.{bit, onlyIf, stretch, field, pairs, replacement, mainFits, mainBits, rule, layout, readLayout}
 use Rattle.rules.specs.Typing.{fitsScope, noRule, ruleTyped, mainTarget, rulesTyped, readRules}
 use Rattle.rules.specs.WellTyped.{WellTyped}
-use Rattle.rules.specs.Tested.{isSome, usableOf, isNil, mainOf, ruleOf, rulesOf, wellTyped}
+use Rattle.rules.specs.Tested.{someIs, usableOf, isNil, mainOf, ruleOf, rulesOf, wellTyped}
 use Rattle.rules.specs.Exactly.{Passes, LaidOut, Exactly}
 use Rattle.rules.proofs.Tested.{no-true, tested, well-tested}
 use Rattle.rules.proofs.Applications.{scope-same}
@@ -74,14 +74,14 @@ layout-value types ws rules next e =
 
 -- THE MAIN RULE: its bits say that it has a replacement and no parameters
 
-some-replacement : (ws : Words) (m n next : ℕ) (o : Option (List Piece)) → bit 3 m ≡ true → replacement ws m n ≡ value o next → isSome o (λ ps. true) ≡ true
-unfolding replacement isSome
+some-replacement : (ws : Words) (m n next : ℕ) (o : Option (List Piece)) → bit 3 m ≡ true → replacement ws m n ≡ value o next → someIs o (λ ps. true) ≡ true
+unfolding replacement someIs
 some-replacement ws m n next o = go (bit 3 m)
   where
-    present : (ps : List Piece) → some ps ≡ o → isSome o (λ ps. true) ≡ true
+    present : (ps : List Piece) → some ps ≡ o → someIs o (λ ps. true) ≡ true
     present ps y = rw (← y)
 
-    go : (b : Bool) → b ≡ true → onlyIf b none (replacementReader ws) n ≡ value o next → isSome o (λ ps. true) ≡ true
+    go : (b : Bool) → b ≡ true → onlyIf b none (replacementReader ws) n ≡ value o next → someIs o (λ ps. true) ≡ true
     go true e h =
         let x = then-value (pairs ws n) (λ q. return (some (pieces (stretch ws q)))) h in
         present (pieces (stretch ws (x .0))) (cc (x .3))
@@ -98,7 +98,7 @@ main-bits ws at m h e t =
     let v = and-both (bit 3 (getD ws at 0)) (not (bit 1 (getD ws at 0))) u in
     (rw e (v .0), rw e (not-true (bit 1 (getD ws at 0)) (v .1)))
 
-main-now : (s : Rule) → isSome (s .replacement) (λ ps. true) ≡ true → isNil (s .parameters) ≡ true → mainOf s ≡ fitsScope s 0
+main-now : (s : Rule) → someIs (s .replacement) (λ ps. true) ≡ true → isNil (s .parameters) ≡ true → mainOf s ≡ fitsScope s 0
 unfolding mainOf usableOf
 main-now s p q = rw (p, q, scope-same s 0)
 
@@ -112,8 +112,8 @@ main-same types ws few r next e t =
 -- THE TYPING
 
 module _ (g : Grammar) (ws : Words) (bounded : Bounded g) where
-  main-first : (rules : Rules) → RulesRead (length g) ws rules → isSome (getElem? rules 0) mainOf ≡ fitsScope (getD rules 0 noRule) 0
-  unfolding isSome
+  main-first : (rules : Rules) → RulesRead (length g) ws rules → someIs (getElem? rules 0) mainOf ≡ fitsScope (getD rules 0 noRule) 0
+  unfolding someIs
   main-first [] r = absurd (omega (arith, r .one))
   main-first (s ∷ rs) r =
       let u = many-suc (rule (length g) ws) (length rs) 1 (r .each) in

@@ -20,7 +20,7 @@ use Rattle.rules.specs.Rules.{Rules, Rule, Part, Piece, shapes, pieces}
 use Rattle.rules.specs.Layout.{Head, bit, onlyIf, stretch, field, pairs, replacement, part, head, parts, rule}
 use Rattle.rules.specs.Typing.{inPattern, inReplacement, aTree, Context, typed, partsTyped, ruleTyped}
 use Rattle.rules.specs.WellTyped.{Types}
-use Rattle.rules.specs.Tested.{isSome, onePattern, oneReplacement, partsOf, replacementOf, ruleOf}
+use Rattle.rules.specs.Tested.{someIs, onePattern, oneReplacement, partsOf, replacementOf, ruleOf}
 use Rattle.rules.proofs.Tested.{no-some, onePattern-of}
 use Rattle.rules.proofs.Patterns.{limited, limited-some}
 use Rattle.rules.proofs.Laid.{Stretch, pairs-value, HeadTold, head-value, rule-value, made}
@@ -97,34 +97,34 @@ module _ (g : Grammar) (rules : Rules) (ws : Words) (bounded : Bounded g) (few :
     last Δ = leb (length Δ) mostVariables && replacementOf g rules Δ t o
 
     abbrev fits : Types → Bool
-    fits Γ = isSome (partsOf g rules Γ ps) last
+    fits Γ = someIs (partsOf g rules Γ ps) last
 
     tail-fits : (Γ : Types) → tail Γ ≡ when (fits Γ) (some (tt {0}))
-    unfolding isSome
+    unfolding someIs
     tail-fits Γ = go (partsOf g rules Γ ps)
       where
         again : (Δ : Types) (a : Bool) → bind (when a (some Δ)) (λ Δ. when (replacementOf g rules Δ t o) (some (tt {0}))) ≡ when (a && replacementOf g rules Δ t o) (some (tt {0}))
         again Δ true = refl
         again Δ false = refl
 
-        go : (q : Option Types) → bind (limited q) (λ Δ. when (replacementOf g rules Δ t o) (some (tt {0}))) ≡ when (isSome q last) (some (tt {0}))
+        go : (q : Option Types) → bind (limited q) (λ Δ. when (replacementOf g rules Δ t o) (some (tt {0}))) ≡ when (someIs q last) (some (tt {0}))
         go none = refl
         go (some Δ) = again Δ (leb (length Δ) mostVariables)
 
     over-fails : (Γ : Types) → mostVariables < length Γ → fits Γ ≡ false
-    unfolding isSome
+    unfolding someIs
     over-fails Γ h = go (partsOf g rules Γ ps) (parts-over g rules ps Γ h)
       where
         now : (Δ : Types) (b : Bool) → when b (some Δ) ≡ none → (b && replacementOf g rules Δ t o) ≡ false
         now Δ true e = no-some (sym e)
         now Δ false e = refl
 
-        go : (q : Option Types) → limited q ≡ none → isSome q last ≡ false
+        go : (q : Option Types) → limited q ≡ none → someIs q last ≡ false
         go none e = refl
         go (some Δ) e = now Δ (leb (length Δ) mostVariables) e
 
-    whole-fits : (q : Option Types) → bind (limited q) tail ≡ when (isSome q fits) (some (tt {0}))
-    unfolding isSome
+    whole-fits : (q : Option Types) → bind (limited q) tail ≡ when (someIs q fits) (some (tt {0}))
+    unfolding someIs
     whole-fits none = refl
     whole-fits (some Γ) = go (leb (length Γ) mostVariables) refl
       where

@@ -16,7 +16,7 @@ use Rattle.tree.proofs.Trees.{and-intro}
 use Rattle.rules.specs.Limits.{mostVariables}
 use Rattle.rules.specs.Rules.{Operation, add, subtract, quotient, remainder, round, truncate, equal, greater, Applied, rule, operation, nothing, Shape, node, new, same, Application, Piece, write, copy, chain, Part, deconstruct, search, construct, condition, searches, Rule, Rules}
 use Rattle.rules.specs.WellTyped.{Types, Has, Pattern, patternEnd, aNode, aNew, aSame, patternNesting, PatternOf, Role, replacing, testing, Operates, adds, subtracts, divides, remains, rounds, truncates, equals, exceeds, Usable, Arguments, noArgument, anArgument, Numbers, noNumber, aNumber, Fits, Applies, aRule, anOperation, AllApply, allNone, allMore, Replacement, piecesEnd, aWritten, aCopy, aChain, pieceNesting, ReplacementOf, PartFits, deconstructs, searchesFor, constructs, tests, PartsFit, noPart, aPart, RuleFits, Main, WellTyped}
-use Rattle.rules.specs.Tested.{onSome, isSome, hasType, argumentsOf, patternOf, operatesOf, usableOf, numbersOf, fitsOf, appliesOf, allApplyOf, piecesOf, onePattern, oneReplacement, partOf, partsOf, replacementOf, ruleOf, rulesOf, isNil, mainOf, wellTyped}
+use Rattle.rules.specs.Tested.{onSome, someIs, hasType, argumentsOf, patternOf, operatesOf, usableOf, numbersOf, fitsOf, appliesOf, allApplyOf, piecesOf, onePattern, oneReplacement, partOf, partsOf, replacementOf, ruleOf, rulesOf, isNil, mainOf, wellTyped}
 
 pub no-true : {A : Type 0} → false ≡ true → A
 no-true e = let z : _≡_ {A = ℕ} 0 1 = cc in absurd (omega arith)
@@ -33,10 +33,10 @@ unfolding onSome
 onSome-some none f e = no-some e
 onSome-some (some a) f e = (a, refl, e)
 
-isSome-true : {A : Type 0} (o : Option A) (f : A → Bool) → isSome o f ≡ true → (a : A) × (o ≡ some a) × (f a ≡ true)
-unfolding isSome
-isSome-true none f e = no-true e
-isSome-true (some a) f e = (a, refl, e)
+someIs-true : {A : Type 0} (o : Option A) (f : A → Bool) → someIs o f ≡ true → (a : A) × (o ≡ some a) × (f a ≡ true)
+unfolding someIs
+someIs-true none f e = no-true e
+someIs-true (some a) f e = (a, refl, e)
 
 hasType-has : (Γ : Types) (x t : ℕ) → hasType Γ x t ≡ true → Has Γ x t
 unfolding hasType
@@ -94,15 +94,15 @@ operates-of testing greater n e = rw (eqb-true n 1 e) exceeds
 
 usable-of : (role : Role) (r : Rule) → usableOf role r ≡ true → Usable role r
 unfolding usableOf
-usable-of replacing r e = let p = isSome-true (r .replacement) (λ ps. true) e in (p .0, p .1)
+usable-of replacing r e = let p = someIs-true (r .replacement) (λ ps. true) e in (p .0, p .1)
 usable-of testing r e = tt
 
 numbers-of : (g : Grammar) (Γ : Types) (xs : List ℕ) → numbersOf g Γ xs ≡ true → Numbers g Γ xs (length xs)
 unfolding numbersOf
 numbers-of g Γ [] e = noNumber
 numbers-of g Γ (x ∷ xs) e =
-    let p = and-both (isSome (getElem? Γ x) (isNumber g)) (numbersOf g Γ xs) e in
-    let q = isSome-true (getElem? Γ x) (isNumber g) (p .0) in
+    let p = and-both (someIs (getElem? Γ x) (isNumber g)) (numbersOf g Γ xs) e in
+    let q = someIs-true (getElem? Γ x) (isNumber g) (p .0) in
     aNumber (q .1) (q .2) (numbers-of g Γ xs (p .1))
 
 scope-of : (b : Bool) (t target : ℕ) → b || eqb t target ≡ true → b ≡ false → t ≡ target
@@ -131,7 +131,7 @@ module _ (g : Grammar) (rules : Rules) (Γ : Types) (role : Role) (t : ℕ) wher
   applies-of : (xs : List ℕ) (p : Applied) → appliesOf g rules Γ role t xs p ≡ true → Applies g rules Γ role t xs p
   unfolding appliesOf
   applies-of xs (rule n) e =
-      let p = isSome-true (getElem? rules n) (λ r. usableOf role r && fitsOf Γ t xs r) e in
+      let p = someIs-true (getElem? rules n) (λ r. usableOf role r && fitsOf Γ t xs r) e in
       let q = and-both (usableOf role (p .0)) (fitsOf Γ t xs (p .0)) (p .2) in
       aRule (p .1) (usable-of role (p .0) (q .0)) (fits-of Γ t xs (p .0) (q .1))
   applies-of xs (operation o) e =
@@ -207,8 +207,8 @@ module _ (g : Grammar) (rules : Rules) where
   unfolding ruleOf
   rule-of r e =
       let last : Types → Bool = λ all. leb (length all) mostVariables && replacementOf g rules all (r .target) (r .replacement) in
-      let p = isSome-true (onePattern g (r .parameters) (r .pattern) (r .target)) (λ matched. isSome (partsOf g rules matched (r .parts)) last) e in
-      let q = isSome-true (partsOf g rules (p .0) (r .parts)) last (p .2) in
+      let p = someIs-true (onePattern g (r .parameters) (r .pattern) (r .target)) (λ matched. someIs (partsOf g rules matched (r .parts)) last) e in
+      let q = someIs-true (partsOf g rules (p .0) (r .parts)) last (p .2) in
       let s = and-both (leb (length (q .0)) mostVariables) (replacementOf g rules (q .0) (r .target) (r .replacement)) (q .2) in
       record {
         matched = p .0;
@@ -230,8 +230,8 @@ module _ (g : Grammar) (rules : Rules) where
   pub tested : wellTyped g rules ≡ true → WellTyped g rules
   unfolding wellTyped
   tested e =
-      let p = and-both (rulesOf g rules rules) (isSome (getElem? rules 0) mainOf) e in
-      let q = isSome-true (getElem? rules 0) mainOf (p .1) in
+      let p = and-both (rulesOf g rules rules) (someIs (getElem? rules 0) mainOf) e in
+      let q = someIs-true (getElem? rules 0) mainOf (p .1) in
       record { each = rules-of rules (p .0); first = q .0; there = q .1; main = main-of (q .0) (q .2) }
 
 -- AND ALL OF THEM
@@ -242,9 +242,9 @@ has-test [] x t h = no-some h
 has-test (u ∷ Γ) zero t h = eq-eqb u t (cc)
 has-test (u ∷ Γ) (suc x) t h = has-test Γ x t h
 
-isSome-of : {A : Type 0} {o : Option A} {a : A} (f : A → Bool) → o ≡ some a → f a ≡ true → isSome o f ≡ true
-unfolding isSome
-isSome-of f e h = rw e h
+someIs-of : {A : Type 0} {o : Option A} {a : A} (f : A → Bool) → o ≡ some a → f a ≡ true → someIs o f ≡ true
+unfolding someIs
+someIs-of f e h = rw e h
 
 onSome-of : {A B : Type 0} {o : Option A} {a : A} {r : Option B} (f : A → Option B) → o ≡ some a → f a ≡ r → onSome o f ≡ r
 unfolding onSome
@@ -282,13 +282,13 @@ operates-test exceeds = refl
 
 usable-test : (role : Role) (r : Rule) → Usable role r → usableOf role r ≡ true
 unfolding usableOf
-usable-test replacing r u = isSome-of (λ ps. true) (u .1) refl
+usable-test replacing r u = someIs-of (λ ps. true) (u .1) refl
 usable-test testing r u = refl
 
 numbers-test : {g : Grammar} {Γ : Types} {xs : List ℕ} {n : ℕ} → Numbers g Γ xs n → (numbersOf g Γ xs ≡ true) × (length xs ≡ n)
 unfolding numbersOf
 numbers-test noNumber = (refl, refl)
-numbers-test {g} (aNumber h e r) = let q = numbers-test r in (and-intro (isSome-of (isNumber g) h e) (q .0), ap suc (q .1))
+numbers-test {g} (aNumber h e r) = let q = numbers-test r in (and-intro (someIs-of (isNumber g) h e) (q .0), ap suc (q .1))
 
 scope-test : (b : Bool) (t target : ℕ) → (b ≡ false → t ≡ target) → b || eqb t target ≡ true
 scope-test true t target h = refl
@@ -301,7 +301,7 @@ fits-test {t = t} {r = r} f = and-intro (arguments-test (f .arguments)) (scope-t
 module _ {g : Grammar} {rules : Rules} {Γ : Types} {role : Role} {t : ℕ} where
   applies-test : {xs : List ℕ} {p : Applied} → Applies g rules Γ role t xs p → appliesOf g rules Γ role t xs p ≡ true
   unfolding appliesOf
-  applies-test {xs} (aRule {r = s} there usable f) = isSome-of (λ r. usableOf role r && fitsOf Γ t xs r) there (and-intro (usable-test role s usable) (fits-test f))
+  applies-test {xs} (aRule {r = s} there usable f) = someIs-of (λ r. usableOf role r && fitsOf Γ t xs r) there (and-intro (usable-test role s usable) (fits-test f))
   applies-test {xs} (anOperation {o} operates number ns) =
       let q = numbers-test ns in
       let c : operatesOf role o (length xs) ≡ true = rw (q .1) (operates-test operates) in
@@ -345,8 +345,8 @@ module _ {g : Grammar} {rules : Rules} where
   unfolding ruleOf
   rule-test {r} f =
       let last : Types → Bool = λ all. leb (length all) mostVariables && replacementOf g rules all (r .target) (r .replacement) in
-      isSome-of (λ matched. isSome (partsOf g rules matched (r .parts)) last) (onePattern-test (f .pattern))
-      (isSome-of last (parts-test (f .parts)) (and-intro (le-leb _ _ (f .few)) (replacement-test (f .all) (r .target) (r .replacement) (f .replacement))))
+      someIs-of (λ matched. someIs (partsOf g rules matched (r .parts)) last) (onePattern-test (f .pattern))
+      (someIs-of last (parts-test (f .parts)) (and-intro (le-leb _ _ (f .few)) (replacement-test (f .all) (r .target) (r .replacement) (f .replacement))))
 
   rules-test : (rs : Rules) → ((n : ℕ) (r : Rule) → getElem? rs n ≡ some r → RuleFits g rules r) → rulesOf g rules rs ≡ true
   unfolding rulesOf
@@ -363,4 +363,4 @@ main-test {r} m = and-intro (usable-test replacing r (m .replaces)) (and-intro (
 
 pub well-tested : {g : Grammar} {rules : Rules} → WellTyped g rules → wellTyped g rules ≡ true
 unfolding wellTyped
-well-tested {g} {rules} w = and-intro (rules-test rules (w .each)) (isSome-of mainOf (w .there) (main-test (w .main)))
+well-tested {g} {rules} w = and-intro (rules-test rules (w .each)) (someIs-of mainOf (w .there) (main-test (w .main)))

@@ -18,9 +18,9 @@ onSome none f = none
 onSome (some a) f = f a
 
 -- is there one, and does it pass?
-unfoldable pub isSome : {A : Type 0} → Option A → (A → Bool) → Bool
-isSome none f = false
-isSome (some a) f = f a
+unfoldable pub someIs : {A : Type 0} → Option A → (A → Bool) → Bool
+someIs none f = false
+someIs (some a) f = f a
 
 -- is the variable there, and of the type?
 unfoldable pub hasType : Types → ℕ → ℕ → Bool
@@ -65,13 +65,13 @@ operatesOf testing greater n = eqb n 1
 
 -- may the rule stand here? A replacement wants one that replaces
 unfoldable pub usableOf : Role → Rule → Bool
-usableOf replacing r = isSome (r .replacement) (λ ps. true)
+usableOf replacing r = someIs (r .replacement) (λ ps. true)
 usableOf testing r = true
 
 -- are the variables there, and number tokens?
 unfoldable pub numbersOf : Grammar → Types → List ℕ → Bool
 numbersOf g Γ [] = true
-numbersOf g Γ (x ∷ xs) = isSome (getElem? Γ x) (isNumber g) && numbersOf g Γ xs
+numbersOf g Γ (x ∷ xs) = someIs (getElem? Γ x) (isNumber g) && numbersOf g Γ xs
 
 -- do the arguments and the scope fit the rule?
 unfoldable pub fitsOf : Types → ℕ → List ℕ → Rule → Bool
@@ -80,7 +80,7 @@ fitsOf Γ t xs r = argumentsOf Γ xs (r .parameters) && (searches (r .strategy) 
 module _ (g : Grammar) (rules : Rules) (Γ : Types) (role : Role) (t : ℕ) where
   -- does the application fit?
   unfoldable pub appliesOf : List ℕ → Applied → Bool
-  appliesOf xs (rule n) = isSome (getElem? rules n) (λ r. usableOf role r && fitsOf Γ t xs r)
+  appliesOf xs (rule n) = someIs (getElem? rules n) (λ r. usableOf role r && fitsOf Γ t xs r)
   appliesOf xs (operation o) = operatesOf role o (length xs) && (isNumber g t && numbersOf g Γ xs)
   appliesOf xs nothing = false
 
@@ -126,8 +126,8 @@ replacementOf g rules Γ target (some ps) = oneReplacement g rules Γ ps target
 -- does the rule fit?
 unfoldable pub ruleOf : Grammar → Rules → Rule → Bool
 ruleOf g rules r =
-    isSome (onePattern g (r .parameters) (r .pattern) (r .target)) λ matched.
-    isSome (partsOf g rules matched (r .parts)) λ all.
+    someIs (onePattern g (r .parameters) (r .pattern) (r .target)) λ matched.
+    someIs (partsOf g rules matched (r .parts)) λ all.
     leb (length all) mostVariables && replacementOf g rules all (r .target) (r .replacement)
 
 -- do all rules fit?
@@ -146,4 +146,4 @@ mainOf r = usableOf replacing r && (isNil (r .parameters) && (searches (r .strat
 
 -- is the book well typed?
 unfoldable pub wellTyped : Grammar → Rules → Bool
-wellTyped g rules = rulesOf g rules rules && isSome (getElem? rules 0) mainOf
+wellTyped g rules = rulesOf g rules rules && someIs (getElem? rules 0) mainOf
