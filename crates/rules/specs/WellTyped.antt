@@ -135,7 +135,7 @@ pub record Main (r : Rule) : Type 0 where
   pub bare : r .parameters ≡ []
   pub scope : searches (r .strategy) ≡ false → 0 ≡ r .target
 
--- "A book passes if ..": every rule fits, and the first is a main rule
+-- every rule fits, and the first is a main rule
 pub record WellTyped (g : Grammar) (rules : Rules) : Type 0 where
   pub each : (n : ℕ) (r : Rule) → getElem? rules n ≡ some r → RuleFits g rules r
   pub first : Rule
