@@ -32,7 +32,7 @@ use Rattle.calls.proofs.Frames.{env-kept, standing-stands}
 use Rattle.calls.proofs.Going.{then-ok, then-stop, sure-first, sure-as, says-ok, says-stop, stop-says, says-map, then-then}
 use Rattle.calls.proofs.Applied.{RuleGiven, rule-given, operation-given, rule-few, begin-sure, compute-arguments, compute-range, NumberToken, number-token, value-there, value-written, operand-values}
 use Rattle.calls.proofs.Chains.{nextAt, applications-step, pairs-step}
-use Rattle.rules.proofs.Chains.{arguments-length}
+use Rattle.judgement.proofs.Chains.{arguments-length}
 
 -- A CALL
 

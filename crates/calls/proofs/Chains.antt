@@ -14,7 +14,7 @@ use Rattle.words.proofs.Laws.{and-both}
 use Rattle.rules.specs.Limits.{markChain}
 use Rattle.rules.specs.Rules.{Application, applied, arguments, applications, pairsIn, applicationsWritten, chainWritten, unreadable, chainOf, conditionOf}
 use Rattle.calls.specs.Engine.{countOf, chainAt}
-use Rattle.rules.proofs.Chains.{arguments-length}
+use Rattle.judgement.proofs.Chains.{arguments-length}
 
 -- THE COUNT
 

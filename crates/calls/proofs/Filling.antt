@@ -36,7 +36,7 @@ use Rattle.calls.specs.declared.Chained.{Chained}
 use Rattle.calls.proofs.Frames.{take-less, stretch-kept, tree-length, stands-whole, env-up, env-kept, held-kept}
 use Rattle.rewrite.proofs.Leaves.{variable-stands}
 use Rattle.calls.proofs.Going.{then-ok, then-stop, sure-first, sure-as, variable-sure, live-fits, live-over, nodes-fit, says-ok, says-stop, stop-says, then-nested}
-use Rattle.rules.proofs.Replacements.{pieces-after}
+use Rattle.judgement.proofs.Replacements.{pieces-after}
 
 -- WORDS PUSHED
 

@@ -40,7 +40,7 @@ use Rattle.rewrite.proofs.Leaves.{variable-stands}
 use Rattle.calls.proofs.Going.{sure-first, sure-as, variable-sure, live-fits, live-over, then-then}
 use Rattle.calls.proofs.Applied.{begin-sure, RuleGiven, rule-given, operation-given, rule-few, compare-arguments, value-there, operand-values}
 use Rattle.calls.proofs.Chains.{condition-read, nextAt, applications-step}
-use Rattle.rules.proofs.Chains.{arguments-length}
+use Rattle.judgement.proofs.Chains.{arguments-length}
 
 -- A CALL IN A CONDITION
 

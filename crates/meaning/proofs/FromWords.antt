@@ -13,9 +13,9 @@ use Rattle.tree.specs.Tree.{Tree}
 use Rattle.tree.specs.Reading.{readTree}
 use Rattle.tree.proofs.Trees.{trees-even}
 use Rattle.tree.proofs.Accepted.{accepted-tree, tree-is-accepted}
-use Rattle.rules.specs.Typing.{readRules}
-use Rattle.rules.specs.WellTyped.{WellTyped}
-use Rattle.rules.proofs.Exactly.{passes-exactly}
+use Rattle.judgement.specs.Typing.{readRules}
+use Rattle.judgement.specs.WellTyped.{WellTyped}
+use Rattle.judgement.proofs.Exactly.{passes-exactly}
 use Rattle.meaning.specs.Limits.{leastResult, leastWork}
 use Rattle.meaning.specs.Meaning.{Called, run}
 use Rattle.meaning.specs.Outcome.{Inputs, Decoded, callFits, decode, endedAs, outcomeOf, outcome}

@@ -20,7 +20,7 @@ use Rattle.tree.specs.Tree.{Trees, Tree, size, nestingFrom, nesting, areTrees, 
 use Rattle.tree.proofs.Trees.{tells, trees-append, trees-even, size-append, and-intro, trees-pass, tree-passes, tree-type}
 use Rattle.rules.specs.Limits.{mostVariables}
 use Rattle.rules.specs.Rules.{Operation, Applied, rule, operation, Application, Piece, Part, Strategy, rootOnly, firstMatch, exhaustive, searches, Rule, Rules}
-use Rattle.rules.specs.WellTyped.{Types, Role, replacing, testing, Operates, adds, subtracts, divides, remains, rounds, truncates, equals, exceeds, Usable, Applies, aRule, anOperation, AllApply, allNone, allMore, Replacement, piecesEnd, aWritten, aCopy, aChain, PartFits, deconstructs, searchesFor, constructs, tests, PartsFit, noPart, aPart, RuleFits}
+use Rattle.judgement.specs.WellTyped.{Types, Role, replacing, testing, Operates, adds, subtracts, divides, remains, rounds, truncates, equals, exceeds, Usable, Applies, aRule, anOperation, AllApply, allNone, allMore, Replacement, piecesEnd, aWritten, aCopy, aChain, PartFits, deconstructs, searchesFor, constructs, tests, PartsFit, noPart, aPart, RuleFits}
 use Rattle.meaning.specs.Computation.{Result, thenOf, stopUnless}
 use Rattle.meaning.specs.Operations.{rounded, truncated, inRange, divisor, withOne, withNone, compute, compare}
 use Rattle.meaning.specs.Meaning as M
@@ -30,7 +30,7 @@ use Rattle.tree.specs.Rest.{Rest}
 use Rattle.tree.proofs.Rest.{tree-rest, rest-node, onward}
 use Rattle.meaning.proofs.Safe.{Safe, goes, stops, returns, safe-map, andThen, Any, stopUnless-safe, surely-safe, check-safe, present-safe, choose-safe, Maybe, whether-safe, spend-safe}
 use Rattle.meaning.proofs.Matching.{OfTypes, ofTypes-length, areTreesOf-true, live-safe, nodes-safe, nesting-safe, variable-safe, variables-safe, numbers-safe, isNumberToken-true, Binds, bind-safe, match-safe, matchFirst-safe}
-use Rattle.rules.proofs.Parts.{parts-grow}
+use Rattle.judgement.proofs.Parts.{parts-grow}
 
 -- NUMBERS
 

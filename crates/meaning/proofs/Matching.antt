@@ -18,13 +18,13 @@ use Rattle.tree.specs.Tree.{Tree, size, nesting, isTree, after, firstTree}
 use Rattle.tree.proofs.Trees.{tells, tree-type, and-intro, tree-passes}
 use Rattle.rules.specs.Limits.{mostVariables}
 use Rattle.rules.specs.Rules.{Shape}
-use Rattle.rules.specs.WellTyped.{Types, Has, Arguments, noArgument, anArgument, Pattern, patternEnd, aNode, aNew, aSame, Numbers, noNumber, aNumber}
+use Rattle.judgement.specs.WellTyped.{Types, Has, Arguments, noArgument, anArgument, Pattern, patternEnd, aNode, aNew, aSame, Numbers, noNumber, aNumber}
 use Rattle.meaning.specs.Limits.{mostLive}
 use Rattle.meaning.specs.Meaning.{Env, Bindings, live, nodesWithin, nestingWithin, liveWithin, variable, variables, sameTree, bind, match, matchFirst, isNumberToken, areNumberTokens, areTreesOf}
 use Rattle.tree.specs.Rest.{Rest}
 use Rattle.tree.proofs.Rest.{rest-node, onward}
 use Rattle.meaning.proofs.Safe.{Safe, returns, andThen, Any, stopUnless-safe, surely-safe, check-safe, present-safe, choose-safe, Maybe, whether-safe, safe-map}
-use Rattle.rules.proofs.Patterns.{pattern-grows}
+use Rattle.judgement.proofs.Patterns.{pattern-grows}
 
 -- a tree for each type, in order
 pub data OfTypes (g : Grammar) : Types → Env → Type 0 where

@@ -7,7 +7,7 @@ use native.Mathlib.Omega.{arith}
 use native.Mathlib.Nat.{le-refl}
 use Rattle.grammar.specs.Grammar.{Grammar}
 use Rattle.rules.specs.Rules.{Rules}
-use Rattle.rules.specs.WellTyped.{Types, WellTyped}
+use Rattle.judgement.specs.WellTyped.{Types, WellTyped}
 use Rattle.meaning.specs.Limits.{mostCalls}
 use Rattle.meaning.specs.Meaning.{calls, runFrom, run}
 use Rattle.meaning.specs.Sound.{Soundness}

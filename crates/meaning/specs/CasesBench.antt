@@ -17,7 +17,7 @@ use Rattle.tree.specs.Dues as Dues
 use Rattle.tree.specs.Reading as Reading
 use Rattle.rules.specs.Rules as Rules
 use Rattle.rules.specs.Layout as Layout
-use Rattle.rules.specs.Typing as Typing
+use Rattle.judgement.specs.Typing as Typing
 use Rattle.meaning.specs.Computation as Computation
 use Rattle.meaning.specs.Operations as Operations
 use Rattle.meaning.specs.Meaning as Meaning

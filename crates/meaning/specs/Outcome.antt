@@ -11,7 +11,7 @@ use Rattle.grammar.specs.Grammar.{Grammar, grammarFits, readGrammar}
 use Rattle.tree.specs.Reading.{readTree}
 use Rattle.rules.specs.Rules.{Rules}
 use Rattle.rules.specs.Layout.{rulesFit}
-use Rattle.rules.specs.Typing.{readRules}
+use Rattle.judgement.specs.Typing.{readRules}
 use Rattle.meaning.specs.Limits.{mostBudget, leastResult, leastWork}
 use Rattle.meaning.specs.Meaning.{Ending, done, stopped, cannotGoOn, Called, run}
 

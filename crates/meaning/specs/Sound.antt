@@ -6,7 +6,7 @@ use Rattle.words.specs.Reader.{Words}
 use Rattle.grammar.specs.Grammar.{Grammar}
 use Rattle.tree.specs.Tree.{Tree}
 use Rattle.rules.specs.Rules.{Rules}
-use Rattle.rules.specs.WellTyped.{WellTyped}
+use Rattle.judgement.specs.WellTyped.{WellTyped}
 use Rattle.meaning.specs.Meaning.{Ending, done, stopped, cannotGoOn, Called, run}
 
 -- "the end or a stop 40 to 45", never stuck

@@ -22,7 +22,7 @@ use Rattle.rules.specs.declared.HeadRead.{HeadRead}
 use Rattle.rules.specs.declared.HeadRead.the-variants.{Header, NoHead}
 use Rattle.rules.specs.declared.Strategy.{Strategy}
 use Rattle.rules.specs.declared.Strategy.the-variants.{RootOnly}
-use Rattle.rules.specs.Typing.{Place, inPattern, inReplacement, inCondition, aTree, aChain, applicationCount, application, argument, numberArgument, Context, meets, appliesRule, appliesOperation, fitsScope, usable, noRule}
+use Rattle.judgement.specs.Typing.{Place, inPattern, inReplacement, inCondition, aTree, aChain, applicationCount, application, argument, numberArgument, Context, meets, appliesRule, appliesOperation, fitsScope, usable, noRule}
 use Rattle.pairs.specs.declared.Met.{Met}
 use Rattle.pairs.specs.declared.Met.the-variants.{Bad, Top}
 use Rattle.pairs.specs.Views.{dueOf, Pushed, Meets, wordsAt, Headed, Book, searchesAs, appliesMap, ruleUsable, argumentsCounted}

@@ -12,7 +12,7 @@ use Rattle.words.specs.Reader.{Words, pick, Read, value, refused, Reader, andTh
 use Rattle.words.specs.declared.Check.the-variants.{Passed, Refused}
 use Rattle.tree.specs.Dues.{Next, pairs, whole}
 use Rattle.tree.proofs.Dues.{Steady, steady-next, none-due}
-use Rattle.rules.specs.Typing.{Due, Context}
+use Rattle.judgement.specs.Typing.{Due, Context}
 use Rattle.pairs.specs.declared.Ctx.{Ctx}
 use Rattle.pairs.specs.declared.Met.{Met}
 use Rattle.pairs.specs.declared.Met.the-variants.{Bad, Top, New}

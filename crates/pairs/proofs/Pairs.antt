@@ -18,7 +18,7 @@ use Rattle.grammar.specs.Kinds.{allowed, isNumber}
 use Rattle.grammar.specs.Tables.{Tables}
 use Rattle.tree.specs.Reading.{tree}
 use Rattle.rules.specs.Rules.{Rules}
-use Rattle.rules.specs.Typing.{Place, Due, aTree, aChain, applicationCount, application, argument, numberArgument, Context, mayStand, appliesOperation, usable, argumentsDue, noRule, there, ofType, newVariable, variable, chain, node, meets}
+use Rattle.judgement.specs.Typing.{Place, Due, aTree, aChain, applicationCount, application, argument, numberArgument, Context, mayStand, appliesOperation, usable, argumentsDue, noRule, there, ofType, newVariable, variable, chain, node, meets}
 use Rattle.pairs.specs.declared.Place.{Place as Here}
 use Rattle.pairs.specs.declared.Place.the-variants.{Pattern, Replacement, Condition}
 use Rattle.pairs.specs.declared.Met.{Met}

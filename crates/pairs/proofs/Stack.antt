@@ -21,7 +21,7 @@ use Rattle.grammar.specs.Tables.{Counted, Tables}
 use Rattle.tree.specs.Tree.{levels}
 use Rattle.tree.specs.Reading.{tree, duesOf}
 use Rattle.tree.proofs.Reading.{children-dues, sequence-some, sequence-none}
-use Rattle.rules.specs.Typing.{Due, aTree, aChain, applicationCount, application, argument, numberArgument, Context, there, ofType}
+use Rattle.judgement.specs.Typing.{Due, aTree, aChain, applicationCount, application, argument, numberArgument, Context, there, ofType}
 use Rattle.pairs.specs.Views.{Known, dueOf, stackOf, Pushed, childrenDue, nodeDue, wordsAt, AreRows}
 
 -- A TEST'S ANSWER

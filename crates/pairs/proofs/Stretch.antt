@@ -14,7 +14,7 @@ use Rattle.tree.specs.Dues.{whole}
 use Rattle.rules.specs.Limits.{mostPairs}
 use Rattle.rules.specs.Rules.{Rules}
 use Rattle.rules.specs.Layout.{stretch, field, pairs}
-use Rattle.rules.specs.Typing.{Place, Due, Context, meets, typed}
+use Rattle.judgement.specs.Typing.{Place, Due, Context, meets, typed}
 use Rattle.pairs.specs.declared.Typed.{Typed}
 use Rattle.pairs.specs.Views.{TypedAs}
 

@@ -20,8 +20,8 @@ use Rattle.rules.specs.Layout as Layout
 use Rattle.rules.specs.Layout.{bit}
 use Rattle.rules.specs.declared.Strategy.{Strategy}
 use Rattle.rules.specs.declared.Strategy.the-variants.{RootOnly, FirstMatch, Exhaustive}
-use Rattle.rules.specs.Typing as Typing
-use Rattle.rules.specs.Typing.{Due, aTree, aChain, applicationCount, application, argument, numberArgument, Context, inPattern, inReplacement, inCondition, noRule, isSome, appliesRule, fitsScope}
+use Rattle.judgement.specs.Typing as Typing
+use Rattle.judgement.specs.Typing.{Due, aTree, aChain, applicationCount, application, argument, numberArgument, Context, inPattern, inReplacement, inCondition, noRule, isSome, appliesRule, fitsScope}
 use Rattle.pairs.specs.declared.Place.{Place}
 use Rattle.pairs.specs.declared.Place.the-variants.{Pattern, Replacement, Condition}
 use Rattle.pairs.specs.declared.Ctx.{Ctx}

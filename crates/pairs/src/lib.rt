@@ -43,7 +43,7 @@ ghost use Rattle.tree.specs.Reading.{tree};
 ghost use Rattle.tree.specs.Views.{InTables, AreTables};
 ghost use Rattle.rules.specs.Layout as Layout;
 ghost use Rattle.rules.specs.Rules.{Rule, Rules};
-ghost use Rattle.rules.specs.Typing as Typing;
+ghost use Rattle.judgement.specs.Typing as Typing;
 ghost use Rattle.pairs.specs.Views.{placeAs, contextOf, Known, dueOf, dueAt, Pushed, childrenDue, nodeDue, wordsAt, AreRows, Meets, TypedAs, Headed, Book, Given, searchesAs, appliesMap, ruleUsable, operationDue, argumentsCounted};
 
 pub mod limits;

@@ -18,7 +18,9 @@ use Rattle.rules.specs.Rules.{Piece, Part, Rule, shapes}
 use Rattle.rules.specs.Layout.{Head, PartAt, deconstructAt, constructAt, conditionAt, bit, onlyIf, strategyOf, stretch, field, pairs, variableAt, deconstructFields, conditionFields, partOf, reach, replacement, typeField, searchFields, constructFields, partAt, part, parameters, headFields, head, parts, rule}
 use Rattle.rules.specs.Views.{pairsAt, pairsEnd, partAs}
 use Rattle.rules.specs.declared.FoundPart.{FoundPart}
-use Rattle.rules.proofs.Tested.{no-true}
+
+pub no-true : {A : Type 0} → false ≡ true → A
+no-true e = let z : _≡_ {A = ℕ} 0 1 = cc in absurd (omega arith)
 
 -- PAIRS
 

@@ -2,10 +2,4 @@ pub mod Limits
 pub mod Rules
 pub mod Layout
 pub mod Views
-pub mod Whole
 pub mod CasesLayout
-pub mod Typing
-pub mod WellTyped
-pub mod Tested
-pub mod Exactly
-pub mod CasesTested

@@ -19,7 +19,7 @@ use Rattle.tree.specs.Reading.{readTree}
 use Rattle.rules.specs.Limits.{mostRuleWords}
 use Rattle.rules.specs.Rules.{Rules}
 use Rattle.rules.specs.Layout.{rulesFit}
-use Rattle.rules.specs.Typing.{readRules}
+use Rattle.judgement.specs.Typing.{readRules}
 use Rattle.meaning.specs.Limits.{mostBudget, leastResult, leastWork}
 use Rattle.meaning.specs.Outcome.{Inputs, Decoded, callFits, decode, outcomeOf, outcome, resultAfter, workAfter, filledBy}
 use Rattle.meaning.specs.Runs.{Memories}

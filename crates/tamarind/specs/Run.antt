@@ -10,7 +10,7 @@ use Rattle.grammar.specs.Grammar.{Grammar, readGrammar}
 use Rattle.grammar.specs.Tables.{Tables, readOf}
 use Rattle.tree.specs.Tree.{Tree}
 use Rattle.tree.specs.Reading.{readTree}
-use Rattle.rules.specs.Typing.{readRules}
+use Rattle.judgement.specs.Typing.{readRules}
 use Rattle.meaning.specs.Meaning.{Ending, done, stopped}
 use Rattle.meaning.specs.Sound.{WellEnded}
 use Rattle.meaning.specs.Outcome.{Inputs, Outcome, refused, ended, Decoded, decode, filledBy}

@@ -12,7 +12,7 @@ ghost use Rattle.words.specs.Reader.{Words};
 ghost use Rattle.words.specs.Views.{answer};
 ghost use Rattle.grammar.specs.Grammar.{checkGrammar};
 ghost use Rattle.tree.specs.Reading.{checkTree};
-ghost use Rattle.rules.specs.Typing.{checkRules};
+ghost use Rattle.judgement.specs.Typing.{checkRules};
 ghost use Rattle.meaning.specs.Outcome.{callFits, output};
 ghost use Rattle.rewrite.specs.Vars.{Sound};
 ghost use Rattle.tamarind.specs.Run.{numberOf, inputsOf, memories, Runs, Named, InputsRead, Laid, Answered, Accepted};

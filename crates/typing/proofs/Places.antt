@@ -19,9 +19,9 @@ use Rattle.rules.specs.Limits.{mostParts}
 use Rattle.rules.specs.Rules.{Rule, Rules, Part, Piece, shapes, pieces}
 use Rattle.rules.specs.Layout as Layout
 use Rattle.rules.specs.Layout.{Head, PartAt, deconstructAt, constructAt, conditionAt, bit, onlyIf, stretch, field, pairs, variableAt, deconstructFields, conditionFields, partOf, replacement, typeField, searchFields, constructFields, partAt, part, parts, rule}
-use Rattle.rules.specs.Typing.{Place, inPattern, inReplacement, inCondition, Due, aTree, aChain, Context, meets, typed, variableThere, partTyped, partsTyped, ruleTyped}
+use Rattle.judgement.specs.Typing.{Place, inPattern, inReplacement, inCondition, Due, aTree, aChain, Context, meets, typed, variableThere, partTyped, partsTyped, ruleTyped}
 use Rattle.typing.specs.Views.{partsFor, replacementFor}
-use Rattle.rules.proofs.Accept.{meets-steady}
+use Rattle.judgement.proofs.Accept.{meets-steady}
 use Rattle.pairs.proofs.Stretch.{Stretch, pairs-shape, stretch-length}
 
 module _ (g : Grammar) (rules : Rules) (ws : Words) where

@@ -31,7 +31,7 @@ use Rattle.rules.specs.declared.Part.the-variants.{Deconstruct, Construct, Cond
 use Rattle.rules.specs.declared.FoundPart.{FoundPart}
 use Rattle.rules.specs.declared.PartRead.{PartRead}
 use Rattle.rules.specs.declared.PartRead.the-variants.{Found, NoPart}
-use Rattle.rules.specs.Typing.{inPattern, inReplacement, inCondition, aTree, Context, typed, variableThere, partTyped, partsTyped, ruleTyped}
+use Rattle.judgement.specs.Typing.{inPattern, inReplacement, inCondition, aTree, Context, typed, variableThere, partTyped, partsTyped, ruleTyped}
 use Rattle.pairs.specs.declared.Ctx.{Ctx}
 use Rattle.pairs.specs.declared.Typed.{Typed}
 use Rattle.pairs.specs.Views.{contextOf, dueOf, TypedAs, wordsAt}

@@ -13,7 +13,7 @@ use Rattle.tree.specs.Dues.{pairs as pairsRead, whole}
 use Rattle.tree.specs.Reading.{duesOf}
 use Rattle.rules.specs.Rules.{operations, applied, shapes, arguments, applications, pairsIn, argumentsWritten, applicationsWritten, chainWritten, unreadable, chainOf, conditionOf, piecesAfter, pieces}
 use Rattle.rules.specs.Layout.{strategyOf, stretch, field, pairs, variableAt, deconstructFields, conditionFields, partOf, reach, replacement, mainFits, mainBits, typeField, searchFields, constructFields, partAt, part, parameters, headFields, head, parts, rule, layout, readLayout, rulesFit}
-use Rattle.rules.specs.Typing.{mayStand, isSome, appliesRule, appliesOperation, fitsScope, usable, argumentsDue, newVariable, variable, chain, node, meets, typed, variableThere, partTyped, partsTyped, ruleTyped, mainTarget, rulesTyped, readRules, checkRules}
+use Rattle.judgement.specs.Typing.{mayStand, isSome, appliesRule, appliesOperation, fitsScope, usable, argumentsDue, newVariable, variable, chain, node, meets, typed, variableThere, partTyped, partsTyped, ruleTyped, mainTarget, rulesTyped, readRules, checkRules}
 
 -- program of repeat number: the root, the sequence, the number
 numbers : Words

@@ -13,7 +13,7 @@ use Rattle.rules.specs.Layout as Layout
 use Rattle.rules.specs.Layout.{PartAt, deconstructAt, bit, onlyIf, field}
 use Rattle.rules.specs.Views.{searchedType}
 use Rattle.rules.specs.declared.Deconstruct.{Deconstruct}
-use Rattle.rules.specs.Typing.{aTree, Context, inReplacement, typed, partsTyped}
+use Rattle.judgement.specs.Typing.{aTree, Context, inReplacement, typed, partsTyped}
 
 -- the tables are those of a grammar of so many types
 abbrev pub AreTablesOf : ℕ → Words → Words → Type 0

@@ -28,7 +28,7 @@ ghost use Rattle.words.specs.Views.{answer};
 ghost use Rattle.tree.specs.Views.{InTables};
 ghost use Rattle.rules.specs.Layout as Layout;
 ghost use Rattle.rules.specs.Rules.{Rule, Rules};
-ghost use Rattle.rules.specs.Typing as Typing;
+ghost use Rattle.judgement.specs.Typing as Typing;
 ghost use Rattle.pairs.specs.Views.{contextOf, wordsAt, TypedAs, Headed, Book, Given};
 ghost use Rattle.typing.specs.Views.{AreTablesOf, deconstructOf, partsFor, replacementFor, positions};
 
@@ -484,7 +484,7 @@ pub fn read_rules(heads: &[u32; HEADS], rows: &[u8; ROWS], types: u32, ws: &[u32
     requires { ⌜ AreTablesOf types (now heads) (now rows) × (1 ≤ types) × (length (now ws) < 2 ^ 32) ⌝ }
     ensures { λ r. ⌜ InTables (now (heads .entry)) (now (rows .entry)) (λ g. length g ≡ types → r ≡ answer (Typing.readRules g (now (ws .entry)))) ⌝ }
 {
-    let c = rules::read_layout(types, ws);
+    let c = book::read_layout(types, ws);
     match c {
         Check::Refused(no, p) => Check::Refused(no, p),
         Check::Passed(p) => rules_typed(heads, rows, types, ws),

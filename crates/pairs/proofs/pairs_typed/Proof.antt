@@ -8,9 +8,9 @@ use native.Mathlib.Omega.{arith}
 use Rattle.grammar.specs.Grammar.{Grammar}
 use Rattle.grammar.specs.Tables.{Tables}
 use Rattle.rules.specs.Rules.{Rules}
-use Rattle.rules.specs.Typing.{meets}
+use Rattle.judgement.specs.Typing.{meets}
 use Rattle.tree.specs.Dues.{whole}
-use Rattle.rules.proofs.Accept.{meets-steady}
+use Rattle.judgement.proofs.Accept.{meets-steady}
 use Rattle.pairs.proofs.Loop.{rest, rest-all, loop-short, loop-fault, loop-next, loop-new, loop-over, loop-whole}
 use Rattle.pairs.specs.Views.{placeAs, contextOf, Known, dueOf, stackOf, Book}
 use Rattle.pairs.proofs.pairs_typed.Statement.{statement}

@@ -4,7 +4,7 @@ use borrow.Author.Needs.{needs}
 use lib.ListN.{length, drop, replicate}
 use mathlib.Core.Path.{_≡_}
 use native.Mathlib.Omega.{arith}
-use Rattle.rules.specs.Typing.{application}
+use Rattle.judgement.specs.Typing.{application}
 use Rattle.pairs.proofs.Stack.{row-start, row-more, row-end, application-due, replicate-last, replicate-length}
 use Rattle.pairs.specs.Views.{Pushed}
 use Rattle.pairs.proofs.push_applications.Statement.{statement}

@@ -5,7 +5,7 @@ use lib.ListN.{length, drop}
 use mathlib.Core.List.{map}
 use mathlib.Core.Path.{_≡_}
 use native.Mathlib.Omega.{arith}
-use Rattle.rules.specs.Typing.{argument}
+use Rattle.judgement.specs.Typing.{argument}
 use Rattle.pairs.proofs.Stack.{row-start, row-more, row-end, argument-due, arguments-last, arguments-length}
 use Rattle.pairs.specs.Views.{Pushed, wordsAt}
 use Rattle.pairs.proofs.push_arguments.Statement.{statement}

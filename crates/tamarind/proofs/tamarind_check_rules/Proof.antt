@@ -1,6 +1,6 @@
 -- `tamarind::tamarind_check_rules` meets its contract. Assumes nothing.
 use borrow.Author.Needs.{needs}
-use Rattle.rules.specs.Typing.{checkRules}
+use Rattle.judgement.specs.Typing.{checkRules}
 use Rattle.tamarind.proofs.Laws.{export-check}
 use Rattle.tamarind.proofs.tamarind_check_rules.Statement.{statement}
 use Rattle.tamarind.proofs.tamarind_check_rules.Tie as tie

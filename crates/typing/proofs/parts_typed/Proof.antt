@@ -7,7 +7,7 @@ use native.Mathlib.Omega.{arith}
 use Rattle.grammar.specs.Grammar.{Grammar}
 use Rattle.grammar.specs.Tables.{Tables}
 use Rattle.rules.specs.Rules.{Rules}
-use Rattle.rules.specs.Typing.{partsTyped}
+use Rattle.judgement.specs.Typing.{partsTyped}
 use Rattle.typing.proofs.Whole.{parts-end, parts-fault, parts-more}
 use Rattle.pairs.specs.Views.{contextOf, Book}
 use Rattle.typing.proofs.parts_typed.Statement.{statement}

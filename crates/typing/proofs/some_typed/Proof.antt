@@ -8,7 +8,7 @@ use Rattle.grammar.specs.Grammar.{Grammar}
 use Rattle.grammar.specs.Tables.{Tables}
 use Rattle.rules.specs.Layout.{rule}
 use Rattle.rules.specs.Rules.{Rules}
-use Rattle.rules.specs.Typing.{ruleTyped}
+use Rattle.judgement.specs.Typing.{ruleTyped}
 use Rattle.typing.proofs.Check.{rule-accepted, rules-more}
 use Rattle.pairs.specs.Views.{Book}
 use Rattle.words.proofs.Laws.{loop-end, loop-refused, loop-more, answer-passed, answer-refused}

@@ -1,0 +1,10 @@
+pub mod Tested
+pub mod Accept
+pub mod Patterns
+pub mod Applications
+pub mod Chains
+pub mod Replacements
+pub mod Conditions
+pub mod Parts
+pub mod RuleTyped
+pub mod Exactly

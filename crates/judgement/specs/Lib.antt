@@ -1,0 +1,5 @@
+pub mod Typing
+pub mod WellTyped
+pub mod Tested
+pub mod Exactly
+pub mod CasesTested

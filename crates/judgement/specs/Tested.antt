@@ -1,0 +1,149 @@
+-- The typing of decoded rules as a test: WellTyped.antt, computed. Assumes nothing: these are definitions.
+use Prim.Native.Nat.{ℕ, zero, suc}
+use mathlib.Core.List.{List, [], _∷_, _++_}
+use mathlib.Core.Bool.{Bool, true, false, cond, _&&_, _||_}
+use mathlib.Core.Option.{Option, none, some}
+use lib.ListN.{length, getElem?}
+use lib.Dec.{eqb, leb}
+use Rattle.grammar.specs.Grammar.{Grammar}
+use Rattle.grammar.specs.Kinds.{allowed, children, isNumber}
+use Rattle.tree.specs.Limits.{mostNesting}
+use Rattle.rules.specs.Limits.{mostVariables}
+use Rattle.rules.specs.Rules.{Operation, add, subtract, quotient, remainder, round, truncate, equal, greater, Applied, rule, operation, nothing, Shape, node, new, same, Application, Piece, write, copy, chain, Part, deconstruct, search, construct, condition, searches, Rule, Rules}
+use Rattle.judgement.specs.WellTyped.{Types, Role, replacing, testing, patternNesting, pieceNesting}
+
+-- goes on with what there is
+unfoldable pub onSome : {A B : Type 0} → Option A → (A → Option B) → Option B
+onSome none f = none
+onSome (some a) f = f a
+
+-- is there one, and does it pass?
+unfoldable pub someIs : {A : Type 0} → Option A → (A → Bool) → Bool
+someIs none f = false
+someIs (some a) f = f a
+
+-- is the variable there, and of the type?
+unfoldable pub hasType : Types → ℕ → ℕ → Bool
+hasType [] x t = false
+hasType (u ∷ Γ) zero t = eqb u t
+hasType (u ∷ Γ) (suc x) t = hasType Γ x t
+
+-- are the variables there, and of the types, one for one?
+unfoldable pub argumentsOf : Types → List ℕ → Types → Bool
+argumentsOf Γ [] [] = true
+argumentsOf Γ [] (t ∷ ts) = false
+argumentsOf Γ (x ∷ xs) [] = false
+argumentsOf Γ (x ∷ xs) (t ∷ ts) = hasType Γ x t && argumentsOf Γ xs ts
+
+-- the variables after the pattern, if it stands for trees of the types due
+unfoldable pub patternOf : Grammar → Types → List Shape → Types → Option Types
+patternOf g Γ [] [] = some Γ
+patternOf g Γ [] (d ∷ due) = none
+patternOf g Γ (p ∷ ps) [] = none
+patternOf g Γ (node t v ∷ ps) (d ∷ due) = cond (eqb t d && allowed g t v) (patternOf g Γ ps (children g t v ++ due)) none
+patternOf g Γ (new t ∷ ps) (d ∷ due) = cond (eqb t d) (patternOf g (Γ ++ t ∷ []) ps due) none
+patternOf g Γ (same x ∷ ps) (d ∷ due) = cond (hasType Γ x d) (patternOf g Γ ps due) none
+
+-- may the operation stand here, with so many arguments?
+unfoldable pub operatesOf : Role → Operation → ℕ → Bool
+operatesOf replacing add n = eqb n 1
+operatesOf replacing subtract n = eqb n 1
+operatesOf replacing quotient n = eqb n 1
+operatesOf replacing remainder n = eqb n 1
+operatesOf replacing round n = eqb n 0
+operatesOf replacing truncate n = eqb n 0
+operatesOf replacing equal n = false
+operatesOf replacing greater n = false
+operatesOf testing add n = false
+operatesOf testing subtract n = false
+operatesOf testing quotient n = false
+operatesOf testing remainder n = false
+operatesOf testing round n = false
+operatesOf testing truncate n = false
+operatesOf testing equal n = eqb n 1
+operatesOf testing greater n = eqb n 1
+
+-- may the rule stand here? A replacement wants one that replaces
+unfoldable pub usableOf : Role → Rule → Bool
+usableOf replacing r = someIs (r .replacement) (λ ps. true)
+usableOf testing r = true
+
+-- are the variables there, and number tokens?
+unfoldable pub numbersOf : Grammar → Types → List ℕ → Bool
+numbersOf g Γ [] = true
+numbersOf g Γ (x ∷ xs) = someIs (getElem? Γ x) (isNumber g) && numbersOf g Γ xs
+
+-- do the arguments and the scope fit the rule?
+unfoldable pub fitsOf : Types → ℕ → List ℕ → Rule → Bool
+fitsOf Γ t xs r = argumentsOf Γ xs (r .parameters) && (searches (r .strategy) || eqb t (r .target))
+
+module _ (g : Grammar) (rules : Rules) (Γ : Types) (role : Role) (t : ℕ) where
+  -- does the application fit?
+  unfoldable pub appliesOf : List ℕ → Applied → Bool
+  appliesOf xs (rule n) = someIs (getElem? rules n) (λ r. usableOf role r && fitsOf Γ t xs r)
+  appliesOf xs (operation o) = operatesOf role o (length xs) && (isNumber g t && numbersOf g Γ xs)
+  appliesOf xs nothing = false
+
+  -- do all?
+  unfoldable pub allApplyOf : List Application → Bool
+  allApplyOf [] = true
+  allApplyOf (a ∷ more) = appliesOf (a .arguments) (a .applied) && allApplyOf more
+
+-- do the pieces stand for trees of the types due?
+unfoldable pub piecesOf : Grammar → Rules → Types → List Piece → Types → Bool
+piecesOf g rules Γ [] [] = true
+piecesOf g rules Γ [] (d ∷ due) = false
+piecesOf g rules Γ (p ∷ ps) [] = false
+piecesOf g rules Γ (write t v ∷ ps) (d ∷ due) = eqb t d && (allowed g t v && piecesOf g rules Γ ps (children g t v ++ due))
+piecesOf g rules Γ (copy x ∷ ps) (d ∷ due) = hasType Γ x d && piecesOf g rules Γ ps due
+piecesOf g rules Γ (chain x apps ∷ ps) (d ∷ due) = hasType Γ x d && (allApplyOf g rules Γ replacing d apps && piecesOf g rules Γ ps due)
+
+-- the variables after the pattern, if it is one tree of type t
+unfoldable pub onePattern : Grammar → Types → List Shape → ℕ → Option Types
+onePattern g Γ ps t = cond (leb (patternNesting g ps (1 ∷ [])) mostNesting) (patternOf g Γ ps (t ∷ [])) none
+
+-- are the pieces one tree of type t?
+unfoldable pub oneReplacement : Grammar → Rules → Types → List Piece → ℕ → Bool
+oneReplacement g rules Γ ps t = leb (pieceNesting g ps (1 ∷ [])) mostNesting && piecesOf g rules Γ ps (t ∷ [])
+
+-- the variables after the part, if it fits
+unfoldable pub partOf : Grammar → Rules → Types → Part → Option Types
+partOf g rules Γ (deconstruct x ps) = onSome (getElem? Γ x) (λ t. onePattern g Γ ps t)
+partOf g rules Γ (search ty x ps) = onSome (getElem? Γ x) (λ t. onePattern g Γ ps ty)
+partOf g rules Γ (construct ty ps) = cond (oneReplacement g rules Γ ps ty) (some (Γ ++ ty ∷ [])) none
+partOf g rules Γ (condition b x apps) = onSome (getElem? Γ x) (λ t. cond (allApplyOf g rules Γ testing t apps) (some Γ) none)
+
+-- the variables after the parts, if each fits
+unfoldable pub partsOf : Grammar → Rules → Types → List Part → Option Types
+partsOf g rules Γ [] = some Γ
+partsOf g rules Γ (p ∷ ps) = onSome (partOf g rules Γ p) (λ Γ′. partsOf g rules Γ′ ps)
+
+-- is the replacement, if there is one, a tree of the target?
+unfoldable pub replacementOf : Grammar → Rules → Types → ℕ → Option (List Piece) → Bool
+replacementOf g rules Γ target none = true
+replacementOf g rules Γ target (some ps) = oneReplacement g rules Γ ps target
+
+-- does the rule fit?
+unfoldable pub ruleOf : Grammar → Rules → Rule → Bool
+ruleOf g rules r =
+    someIs (onePattern g (r .parameters) (r .pattern) (r .target)) λ matched.
+    someIs (partsOf g rules matched (r .parts)) λ all.
+    leb (length all) mostVariables && replacementOf g rules all (r .target) (r .replacement)
+
+-- do all rules fit?
+unfoldable pub rulesOf : Grammar → Rules → Rules → Bool
+rulesOf g rules [] = true
+rulesOf g rules (r ∷ rs) = ruleOf g rules r && rulesOf g rules rs
+
+-- has the list nothing?
+unfoldable pub isNil : List ℕ → Bool
+isNil [] = true
+isNil (x ∷ xs) = false
+
+-- does the main rule fit?
+unfoldable pub mainOf : Rule → Bool
+mainOf r = usableOf replacing r && (isNil (r .parameters) && (searches (r .strategy) || eqb 0 (r .target)))
+
+-- is the book well typed?
+unfoldable pub wellTyped : Grammar → Rules → Bool
+wellTyped g rules = rulesOf g rules rules && someIs (getElem? rules 0) mainOf
