@@ -10,7 +10,7 @@ use lib.Dec.{leb}
 use Rattle.words.specs.Reader.{Words, pick, Read, value, refused}
 use Rattle.grammar.specs.Grammar.{Grammar}
 use Rattle.grammar.specs.Limits.{mostTypes}
-use Rattle.grammar.specs.Tables.{Tables}
+use Rattle.tables.specs.Tables.{Tables}
 use Rattle.tree.specs.Limits.{mostNodes}
 use Rattle.tree.specs.Tree.{size}
 use Rattle.rules.specs.Limits.{mostRules, mostApplications}

@@ -2,8 +2,6 @@
 //
 // Every member of the cycle may call those below it, and `apply` and `succeeds` the calls one level deeper. All that is below what a member is given stays
 // as it is.
-use grammar::limits::HEADS;
-use grammar::limits::ROWS;
 use rewrite::MOST_LIVE;
 use rewrite::Matched;
 use rewrite::Vars;
@@ -23,6 +21,8 @@ use rules::limits::MARK_VARIABLE;
 use rules::limits::MOST_APPLICATIONS;
 use rules::limits::MOST_VARIABLES;
 use rules::limits::STARTS;
+use tables::HEADS;
+use tables::ROWS;
 ghost use mathlib.Core.Path.{_≡_};
 ghost use Prim.Native.Nat.{ℕ, _+_, _*_, _<_, _≤_, _^_};
 ghost use lib.ListN.{length, getD};

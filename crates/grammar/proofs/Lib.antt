@@ -1,7 +1,3 @@
 pub mod Laws
 pub mod FiniteTrees
-pub mod Lookups
-pub mod Records
-pub mod Filling
-pub mod Shown
-pub mod Bounded
+pub mod Values

@@ -1,4 +1,4 @@
-// The grammar: its check (4, 10, 11, 12, each with its position), and the tables of its types.
+// The grammar: its check (4, 10, 11, 12, each with its position).
 use limits::FIRST_LITERAL;
 use limits::LAST_LITERAL;
 use limits::MOST_ELEMENTS;
@@ -19,7 +19,6 @@ ghost use Rattle.grammar.specs.Grammar as Grammar;
 ghost use Rattle.grammar.specs.Views.{seenElement, seenElements, seenForm, seenForms, seenKind, closedOf, filled, flagsAfter};
 
 pub mod limits;
-pub mod tables;
 
 // The next position and whether what was read can be finished, or a refusal.
 pub enum Seen {

@@ -16,8 +16,3 @@ pub const LAST_LITERAL: u32 = 131071;
 pub const GREATEST_NAME: u32 = 65535;
 
 pub const GREATEST_NUMBER: u32 = 999999999;
-
-// The entries of the tables: two words a type, and a row of nine for each type and each of 16 values.
-pub const HEADS: usize = 64 * 2;
-
-pub const ROWS: usize = 64 * 16 * 9;

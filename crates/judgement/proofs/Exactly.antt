@@ -12,7 +12,7 @@ use Rattle.words.specs.Reader.{Words, and, Read, value, refused, andThen, _>>=_
 use Rattle.words.proofs.Laws.{then-value, accepted-value, and-both, in-value, require-value, many-suc, many-length}
 use Rattle.grammar.specs.Limits.{mostTypes}
 use Rattle.grammar.specs.Grammar.{Grammar, readGrammar}
-use Rattle.grammar.proofs.Bounded.{Bounded, read-bounded}
+use Rattle.tables.proofs.Bounded.{Bounded, read-bounded}
 use Rattle.tree.proofs.Dues.{plain, placed, when}
 use Rattle.rules.specs.Limits.{mostRules}
 use Rattle.rules.specs.Rules.{Rules, Rule, Piece, pieces}

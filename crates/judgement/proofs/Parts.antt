@@ -13,7 +13,7 @@ use Rattle.words.proofs.Laws.{many-suc}
 use Rattle.grammar.specs.Limits.{mostTypes}
 use Rattle.grammar.specs.Grammar.{Grammar}
 use Rattle.grammar.specs.Kinds.{children}
-use Rattle.grammar.proofs.Bounded.{Low, low-append, Bounded}
+use Rattle.tables.proofs.Bounded.{Low, low-append, Bounded}
 use Rattle.tree.specs.Reading.{tree}
 use Rattle.tree.proofs.Dues.{plain, placed, bind, plain-then, when}
 use Rattle.rules.specs.Limits.{mostRules, mostVariables}

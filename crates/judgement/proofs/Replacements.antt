@@ -14,7 +14,7 @@ use Rattle.words.proofs.Laws.{or-true, or-false}
 use Rattle.grammar.specs.Limits.{mostTypes}
 use Rattle.grammar.specs.Grammar.{Grammar}
 use Rattle.grammar.specs.Kinds.{allowed, children}
-use Rattle.grammar.proofs.Bounded.{Low, low-append, Bounded}
+use Rattle.tables.proofs.Bounded.{Low, low-append, Bounded}
 use Rattle.tree.specs.Limits.{mostNesting}
 use Rattle.tree.specs.Tree.{levels}
 use Rattle.tree.specs.Dues.{Next, whole}

@@ -12,7 +12,7 @@ use Rattle.words.specs.Reader.{Words, Read, value, refused, Reader, andThen, _>
 use Rattle.words.proofs.Laws.{then-value}
 use Rattle.grammar.specs.Limits.{mostTypes}
 use Rattle.grammar.specs.Grammar.{Grammar}
-use Rattle.grammar.proofs.Bounded.{Low, Bounded}
+use Rattle.tables.proofs.Bounded.{Low, Bounded}
 use Rattle.tree.specs.Reading.{tree}
 use Rattle.tree.proofs.Dues.{plain, placed, bind, plain-then, when}
 use Rattle.rules.specs.Limits.{mostRules, mostParts, mostVariables}

@@ -12,7 +12,7 @@ use Rattle.words.specs.Reader.{Words, pick, and}
 use Rattle.words.proofs.Stretches.{drop-pair}
 use Rattle.grammar.specs.Grammar.{Grammar}
 use Rattle.grammar.specs.Kinds.{children, isSequence}
-use Rattle.grammar.specs.Tables.{Heads, InHeads}
+use Rattle.tables.specs.Tables.{Heads, InHeads}
 use Rattle.tree.specs.Tree.{Trees, none, node, size, levels, nodeNesting, first, after, firstTree}
 use Rattle.tree.proofs.Trees.{tells, trees-even, tree-some, first-none, first-after, first-even, after-drop, levels-length, more-length}
 use Rattle.marks.specs.Marked.{typeIn, sizeIn, markOf, marked}

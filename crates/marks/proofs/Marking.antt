@@ -12,8 +12,8 @@ use borrow.Author.Tests.{eq-eqb, ne-eqb, ltb-true}
 use Rattle.words.specs.Reader.{Words, pick, and}
 use Rattle.grammar.specs.Grammar.{Kind, token, opt, sequence, forms, Grammar}
 use Rattle.grammar.specs.Kinds.{kindOf, allows, allowed, childrenOf, children, isSequenceKind, isSequence}
-use Rattle.grammar.specs.Tables.{Tables, Counted, InHeads}
-use Rattle.grammar.proofs.Lookups.{no-kind}
+use Rattle.tables.specs.Tables.{Tables, Counted, InHeads}
+use Rattle.tables.proofs.Lookups.{no-kind}
 use Rattle.tree.specs.Tree.{Trees, none, node, size, levelsOf, levels, nestingFrom, nesting, first, after, firstTree}
 use Rattle.tree.proofs.Trees.{tells, split, first-none, first-even, after-drop, levels-length, nesting-append, size-append}
 use Rattle.marks.specs.Marked.{mark, typeIn, sizeIn, nestingIn, markOf, marked}

@@ -11,7 +11,7 @@ use Rattle.words.specs.Reader.{Words}
 use Rattle.words.proofs.Stretches.{drop-pair}
 use Rattle.grammar.specs.Grammar.{Grammar}
 use Rattle.grammar.specs.Kinds.{allowed, children}
-use Rattle.grammar.specs.Tables.{Tables}
+use Rattle.tables.specs.Tables.{Tables}
 use Rattle.tree.specs.Tree.{Trees, node, size, first, after}
 use Rattle.tree.proofs.Trees.{tells, first-after, first-even, size-append}
 use Rattle.marks.specs.Marked.{typeIn, marked}

@@ -7,7 +7,7 @@ use lib.ListN.{length, getD, take, drop, set}
 use Rattle.words.specs.Reader.{Words}
 use Rattle.grammar.specs.Grammar.{Grammar}
 use Rattle.grammar.specs.Kinds.{allowed, children}
-use Rattle.grammar.specs.Tables.{Heads, Tables}
+use Rattle.tables.specs.Tables.{Heads, Tables}
 use Rattle.tree.specs.Limits.{mostNodes}
 use Rattle.tree.specs.Tree.{Trees, size, nesting, nodeNesting, firstTree}
 use Rattle.words.specs.Views.{equalWords}

@@ -1,7 +1,6 @@
 // Trees in work memory: the first word of each node carries its type and the size and nesting of its tree.
-use grammar::limits::HEADS;
-use grammar::limits::ROWS;
-use grammar::tables;
+use tables::HEADS;
+use tables::ROWS;
 ghost use mathlib.Core.Path.{_≡_};
 ghost use Prim.Native.Nat.{ℕ, _+_, _-_, _*_, _%_, _<_, _≤_, _^_, max};
 ghost use Rattle.words.specs.Reader.{pick, and};

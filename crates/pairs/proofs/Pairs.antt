@@ -15,7 +15,7 @@ use Rattle.words.specs.declared.Check.the-variants.{Passed, Refused}
 use Rattle.words.proofs.Laws.{answer-refused}
 use Rattle.grammar.specs.Grammar.{Grammar}
 use Rattle.grammar.specs.Kinds.{allowed, isNumber}
-use Rattle.grammar.specs.Tables.{Tables}
+use Rattle.tables.specs.Tables.{Tables}
 use Rattle.tree.specs.Reading.{tree}
 use Rattle.rules.specs.Rules.{Rules}
 use Rattle.judgement.specs.Typing.{Place, Due, aTree, aChain, applicationCount, application, argument, numberArgument, Context, mayStand, appliesOperation, usable, argumentsDue, noRule, there, ofType, newVariable, variable, chain, node, meets}

@@ -17,7 +17,7 @@ use Rattle.words.specs.declared.Check.the-variants.{Passed, Refused}
 use Rattle.words.proofs.Laws.{answer-refused}
 use Rattle.grammar.specs.Grammar.{Grammar}
 use Rattle.grammar.specs.Kinds.{children, isSequence}
-use Rattle.grammar.specs.Tables.{Counted, Tables}
+use Rattle.tables.specs.Tables.{Counted, Tables}
 use Rattle.tree.specs.Tree.{levels}
 use Rattle.tree.specs.Reading.{tree, duesOf}
 use Rattle.tree.proofs.Reading.{children-dues, sequence-some, sequence-none}

@@ -10,7 +10,7 @@ use Rattle.words.specs.Reader.{Words, pick, and, between, Read, value, refused,
 use Rattle.words.specs.Views.{answer}
 use Rattle.grammar.specs.Grammar.{Grammar}
 use Rattle.grammar.specs.Kinds.{children}
-use Rattle.grammar.specs.Tables.{Rows, Tables}
+use Rattle.tables.specs.Tables.{Rows, Tables}
 use Rattle.tree.specs.Tree.{levels}
 use Rattle.tree.specs.Dues.{Next, secondWord, leaves}
 use Rattle.tree.specs.Reading.{tree, duesOf}

@@ -1,9 +1,6 @@
 // The pairs of a pattern, a replacement or a condition, read against a stack of what is due (22 to 24, each with its position), in one loop.
 //
 // The grammar is seen through its tables, and a rule that is applied through the table of the positions at which the rules stand.
-use grammar::limits::HEADS;
-use grammar::limits::ROWS;
-use grammar::tables;
 use limits::DUE_APPLICATION;
 use limits::DUE_ARGUMENT;
 use limits::DUE_CHAIN;
@@ -25,6 +22,8 @@ use rules::limits::MARK_VARIABLE;
 use rules::limits::MOST_APPLICATIONS;
 use rules::limits::MOST_VARIABLES;
 use rules::limits::STARTS;
+use tables::HEADS;
+use tables::ROWS;
 use words::Check;
 ghost use mathlib.Core.Path.{_≡_};
 ghost use mathlib.Core.Bool.{true};
@@ -37,7 +36,7 @@ ghost use Rattle.words.specs.Reader.{Words, accepted, or};
 ghost use Rattle.words.specs.Views.{answer};
 ghost use Rattle.grammar.specs.Grammar.{Grammar};
 ghost use Rattle.grammar.specs.Kinds.{children};
-ghost use Rattle.grammar.specs.Tables.{InHeads, InRows};
+ghost use Rattle.tables.specs.Tables.{InHeads, InRows};
 ghost use Rattle.tree.specs.Dues.{whole};
 ghost use Rattle.tree.specs.Reading.{tree};
 ghost use Rattle.tree.specs.Views.{InTables, AreTables};

@@ -10,7 +10,7 @@ use lib.Dec.{leb, ltb}
 use borrow.Author.Tests.{le-leb, lt-leb, leb-true, leb-false, lt-ltb, le-ltb, ltb-true, ltb-false}
 use Rattle.words.specs.Reader.{Words}
 use Rattle.grammar.specs.Grammar.{Grammar}
-use Rattle.grammar.specs.Tables.{Heads, Tables}
+use Rattle.tables.specs.Tables.{Heads, Tables}
 use Rattle.tree.specs.Tree.{Trees, Tree, size, nestingFrom, nesting, nodeNesting, after, firstTree}
 use Rattle.tree.proofs.Trees.{tells, trees-even, first-after}
 use Rattle.tree.proofs.Places.{node-at, spliced, subtree-size, splice-trees, splice-size, splice-nesting, node-nested}

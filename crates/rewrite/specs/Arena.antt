@@ -8,7 +8,7 @@ use lib.Dec.{leb, ltb}
 use Rattle.words.specs.Reader.{Words, pick}
 use Rattle.grammar.specs.Grammar.{Grammar}
 use Rattle.grammar.specs.Limits.{mostTypes}
-use Rattle.grammar.specs.Tables.{Heads, Tables}
+use Rattle.tables.specs.Tables.{Heads, Tables}
 use Rattle.tree.specs.Limits.{mostNodes, mostNesting}
 use Rattle.tree.specs.Tree.{Trees, Tree, size, nesting, firstTree}
 use Rattle.rules.specs.Rules.{Operation, applied, operation, arguments}

@@ -1,10 +1,10 @@
 // Work memory as a stack of trees: what stands on it, what is pushed, finished and put in place.
 use crate::MOST_LIVE;
 use crate::Vars;
-use grammar::limits::HEADS;
-use grammar::limits::ROWS;
 use operations::Number;
 use rules::limits::MOST_VARIABLES;
+use tables::HEADS;
+use tables::ROWS;
 use tree::limits::MOST_NESTING;
 use tree::limits::MOST_NODES;
 ghost use mathlib.Core.Path.{_≡_};

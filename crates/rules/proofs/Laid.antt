@@ -11,7 +11,7 @@ use borrow.Author.Tests.{leb-true, le-leb, lt-leb, eqb-true, ne-eqb}
 use Rattle.words.specs.Reader.{Words, pick, value, refused, Reader, _>>=_, return, word, many}
 use Rattle.words.proofs.Laws.{then-value, word-value, pick-value, in-value, many-suc, many-length}
 use Rattle.grammar.specs.Limits.{mostTypes}
-use Rattle.grammar.proofs.Bounded.{Low}
+use Rattle.tables.proofs.Bounded.{Low}
 use Rattle.tree.proofs.Trees.{Even, even-of}
 use Rattle.rules.specs.Limits.{mostParameters, mostPairs, mostVariables}
 use Rattle.rules.specs.Rules.{Piece, Part, Rule, shapes}

@@ -8,7 +8,7 @@ use lib.ListN.{length, getD, take, drop, replicate}
 use lib.Seq.{sets, take-at, length-take-le}
 use Rattle.words.specs.Reader.{Words, many, accepted}
 use Rattle.grammar.specs.Grammar.{Grammar, readGrammar}
-use Rattle.grammar.specs.Tables.{readOf}
+use Rattle.tables.specs.Tables.{readOf}
 use Rattle.tree.specs.Tree as Trees
 use Rattle.tree.proofs.Trees.{trees-even}
 use Rattle.rules.specs.Rules.{Rules}

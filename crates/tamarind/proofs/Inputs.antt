@@ -14,7 +14,7 @@ use Rattle.words.specs.declared.Check.the-variants.{Passed, Refused}
 use Rattle.words.proofs.Laws.{answer-passed, answer-refused, answer-then, then-value, require-value, pick-value}
 use Rattle.grammar.specs.Limits.{mostGrammarWords}
 use Rattle.grammar.specs.Grammar.{readGrammar, grammarFits}
-use Rattle.grammar.specs.Tables.{Tables, readOf}
+use Rattle.tables.specs.Tables.{Tables, readOf}
 use Rattle.tree.specs.Reading.{readTree}
 use Rattle.rules.specs.Limits.{mostRuleWords}
 use Rattle.rules.specs.Rules.{Rules}

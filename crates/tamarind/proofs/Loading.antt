@@ -10,7 +10,7 @@ use lib.Seq.{paste, paste-zero, paste-suc, take-length, take-at}
 use Rattle.words.specs.Reader.{Words}
 use Rattle.words.proofs.Stretches.{over-length}
 use Rattle.grammar.specs.Grammar.{Grammar}
-use Rattle.grammar.specs.Tables.{Tables}
+use Rattle.tables.specs.Tables.{Tables}
 use Rattle.tree.specs.Tree.{Tree, size}
 use Rattle.tree.proofs.Trees.{trees-even}
 use Rattle.marks.specs.Marked.{marked, unmarked}

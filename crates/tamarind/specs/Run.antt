@@ -7,7 +7,7 @@ use Rattle.words.specs.Reader.{Words, Read, value, andThen, return, accepted}
 use Rattle.words.specs.Views.{answer}
 use Rattle.words.specs.declared.Check.{Check}
 use Rattle.grammar.specs.Grammar.{Grammar, readGrammar}
-use Rattle.grammar.specs.Tables.{Tables, readOf}
+use Rattle.tables.specs.Tables.{Tables, readOf}
 use Rattle.tree.specs.Tree.{Tree}
 use Rattle.tree.specs.Reading.{readTree}
 use Rattle.judgement.specs.Typing.{readRules}

@@ -1,8 +1,8 @@
 // The product's face: the callable functions, and their exports for C and Rust.
 use calls::Called;
-use grammar::limits::HEADS;
-use grammar::limits::ROWS;
 use rewrite::Vars;
+use tables::HEADS;
+use tables::ROWS;
 use words::Check;
 ghost use mathlib.Core.Path.{_≡_};
 ghost use mathlib.Core.List.{_++_};
@@ -168,7 +168,7 @@ fn read_inputs(
     match c {
         Check::Refused(no, p) => Check::Refused(no, p),
         Check::Passed(_) => {
-            grammar::tables::fill(grammar, heads, rows);
+            tables::fill(grammar, heads, rows);
             let types = words::word(grammar, 0);
             let d = typing::read_rules(heads, rows, types, rules);
             match d {

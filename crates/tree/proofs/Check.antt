@@ -11,7 +11,7 @@ use Rattle.words.specs.declared.Check.the-variants.{Passed, Refused}
 use Rattle.words.proofs.Laws.{answer-passed, answer-refused, require-value}
 use Rattle.grammar.specs.Limits.{mostGrammarWords}
 use Rattle.grammar.specs.Grammar.{Grammar, readGrammar, grammarFits, checkGrammar}
-use Rattle.grammar.specs.Tables.{Tables, readOf}
+use Rattle.tables.specs.Tables.{Tables, readOf}
 use Rattle.tree.specs.Reading.{readTree, checkTree}
 use Rattle.tree.specs.Views.{InTables}
 

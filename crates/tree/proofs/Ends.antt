@@ -9,7 +9,7 @@ use Rattle.words.specs.Reader.{Words}
 use Rattle.words.proofs.Stretches.{drop-pair}
 use Rattle.grammar.specs.Grammar.{Grammar}
 use Rattle.grammar.specs.Kinds.{children}
-use Rattle.grammar.specs.Tables.{InRows, Counted}
+use Rattle.tables.specs.Tables.{InRows, Counted}
 use Rattle.tree.specs.Tree.{first}
 use Rattle.tree.specs.Views.{Ends}
 use Rattle.tree.proofs.Trees.{first-none}

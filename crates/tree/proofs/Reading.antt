@@ -20,7 +20,7 @@ use Rattle.words.proofs.Laws.{read-word, read-bad, answer-passed, answer-refuse
 use Rattle.words.proofs.Stretches.{part-rest}
 use Rattle.grammar.specs.Grammar.{Kind, token, opt, sequence, forms, Grammar}
 use Rattle.grammar.specs.Kinds.{kindOf, allowed, childrenOf, children, isSequenceKind, isSequence}
-use Rattle.grammar.specs.Tables.{Tables, InHeads, InRows}
+use Rattle.tables.specs.Tables.{Tables, InHeads, InRows}
 use Rattle.tree.specs.Limits.{mostTreeWords, mostNesting}
 use Rattle.tree.specs.Tree.{levelsOf, levels}
 use Rattle.tree.specs.Dues.{firstWord, secondWord, leaves, pairs, whole}

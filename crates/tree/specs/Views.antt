@@ -7,7 +7,7 @@ use lib.Dec.{leb, eqb}
 use Rattle.words.specs.Reader.{Words, value, Reader, _>>_, require}
 use Rattle.grammar.specs.Grammar.{Grammar}
 use Rattle.grammar.specs.Kinds.{allowed}
-use Rattle.grammar.specs.Tables.{Tables, InRows}
+use Rattle.tables.specs.Tables.{Tables, InRows}
 use Rattle.tree.specs.Limits.{mostNesting}
 use Rattle.tree.specs.Tree.{first}
 use Rattle.tree.specs.Dues.{firstWord, secondWord}

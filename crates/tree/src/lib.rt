@@ -2,11 +2,10 @@
 //
 // Reading a node reads its children, and reading a child reads a node again: `node`, `sequence` and `children` call each other. Each is handed the part of
 // the words that starts at its node, with the position of that part beside it; the grammar is seen through its tables alone.
-use grammar::limits::HEADS;
-use grammar::limits::ROWS;
-use grammar::tables;
 use limits::MOST_NESTING;
 use limits::MOST_WORDS;
+use tables::HEADS;
+use tables::ROWS;
 use words::Check;
 use words::Got;
 ghost use mathlib.Core.Path.{_≡_};
@@ -16,7 +15,7 @@ ghost use Prim.Native.Nat.{ℕ, _+_, _<_, _≤_, _^_};
 ghost use lib.ListN.{length};
 ghost use Rattle.words.specs.Views.{answer, got};
 ghost use Rattle.grammar.specs.Kinds.{children, isSequence};
-ghost use Rattle.grammar.specs.Tables.{InHeads};
+ghost use Rattle.tables.specs.Tables.{InHeads};
 ghost use Rattle.tree.specs.Limits.{mostTreeWords, mostNesting};
 ghost use Rattle.tree.specs.Reading as Reading;
 ghost use Rattle.tree.specs.Views.{InTables, AreTables, nestingAt, level, readHead, Ends};

@@ -20,7 +20,7 @@ use Rattle.words.proofs.Sets.{getD-within}
 use Rattle.grammar.specs.Limits.{mostTypes, mostGrammarWords}
 use Rattle.grammar.specs.Grammar.{Grammar, readGrammar, grammarFits, finiteRecords, finite}
 use Rattle.grammar.specs.Grammar as Grammars
-use Rattle.grammar.specs.Tables.{readOf}
+use Rattle.tables.specs.Tables.{readOf}
 use Rattle.rules.specs.Limits.{mostRules, mostRuleWords}
 use Rattle.rules.specs.Rules.{Rule, Rules, Piece, pieces}
 use Rattle.rules.specs.Layout.{bit, onlyIf, stretch, field, pairs, replacement, mainFits, mainBits, rule, layout, readLayout, rulesFit}

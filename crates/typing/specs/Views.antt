@@ -5,8 +5,8 @@ use mathlib.Core.List.{[], _∷_}
 use lib.ListN.{length}
 use Rattle.words.specs.Reader.{Words, Reader, _>>=_, return}
 use Rattle.grammar.specs.Grammar.{Grammar}
-use Rattle.grammar.specs.Tables.{Tables}
-use Rattle.grammar.specs.Filling.{nextOf}
+use Rattle.tables.specs.Tables.{Tables}
+use Rattle.tables.specs.Filling.{nextOf}
 use Rattle.tree.specs.Reading.{tree}
 use Rattle.rules.specs.Rules.{Rules, searches}
 use Rattle.rules.specs.Layout as Layout

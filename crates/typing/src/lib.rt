@@ -1,7 +1,4 @@
 // The typing of a rule book (22 to 24, each with its position), and the single check of a rule book.
-use grammar::limits::HEADS;
-use grammar::limits::ROWS;
-use grammar::tables;
 use pairs::Ctx;
 use pairs::Place;
 use pairs::Typed;
@@ -15,6 +12,8 @@ use rules::limits::MOST_PARTS;
 use rules::limits::MOST_VARIABLES;
 use rules::limits::MOST_WORDS;
 use rules::limits::STARTS;
+use tables::HEADS;
+use tables::ROWS;
 use words::Check;
 use words::Got;
 ghost use mathlib.Core.Path.{_≡_};

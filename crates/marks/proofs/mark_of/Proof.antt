@@ -8,8 +8,8 @@ use Rattle.marks.proofs.mark_of.Statement.{statement}
 use Rattle.marks.proofs.mark_of.Tie as tie
 use Rattle.marks.proofs.mark_of.Reads as reads
 use Rattle.marks.proofs.mark_of.Lts as lts
-use Rattle.grammar.proofs.tables.child_count.Reads as child-count-reads
-use Rattle.grammar.proofs.tables.is_sequence.Reads as is-sequence-reads
+use Rattle.tables.proofs.child_count.Reads as child-count-reads
+use Rattle.tables.proofs.is_sequence.Reads as is-sequence-reads
 use Rattle.marks.proofs.greater.Reads as greater-reads
 use Rattle.marks.proofs.level.Reads as level-reads
 use Rattle.marks.proofs.nesting_in.Reads as nesting-in-reads

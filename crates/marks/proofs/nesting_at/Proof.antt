@@ -9,7 +9,7 @@ use Rattle.marks.proofs.nesting_at.Statement.{statement}
 use Rattle.marks.proofs.nesting_at.Tie as tie
 use Rattle.marks.proofs.nesting_at.Reads as reads
 use Rattle.marks.proofs.nesting_at.Lts as lts
-use Rattle.grammar.proofs.tables.is_sequence.Reads as is-sequence-reads
+use Rattle.tables.proofs.is_sequence.Reads as is-sequence-reads
 use Rattle.marks.proofs.level.Reads as level-reads
 use Rattle.marks.proofs.size_in.Reads as size-in-reads
 use Rattle.marks.proofs.type_in.Reads as type-in-reads

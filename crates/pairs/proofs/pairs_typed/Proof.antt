@@ -6,7 +6,7 @@ use mathlib.Core.List.{[], _∷_}
 use mathlib.Core.Path.{_≡_, refl}
 use native.Mathlib.Omega.{arith}
 use Rattle.grammar.specs.Grammar.{Grammar}
-use Rattle.grammar.specs.Tables.{Tables}
+use Rattle.tables.specs.Tables.{Tables}
 use Rattle.rules.specs.Rules.{Rules}
 use Rattle.judgement.specs.Typing.{meets}
 use Rattle.tree.specs.Dues.{whole}

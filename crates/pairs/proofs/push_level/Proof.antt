@@ -6,7 +6,7 @@ use mathlib.Core.Path.{_≡_}
 use native.Mathlib.Omega.{arith}
 use Rattle.grammar.specs.Grammar.{Grammar}
 use Rattle.grammar.specs.Kinds.{children}
-use Rattle.grammar.specs.Tables.{Rows}
+use Rattle.tables.specs.Tables.{Rows}
 use Rattle.pairs.proofs.Stack.{count-few, row-start, row-more, row-end, tree-due, children-last, children-length}
 use Rattle.pairs.specs.Views.{Pushed, childrenDue}
 use Rattle.pairs.proofs.push_level.Statement.{statement}

@@ -23,9 +23,9 @@ use Rattle.tree.proofs.+children+node+sequence.Lts-node as node-lts
 use Rattle.tree.proofs.sequence.Reads as sequence
 use Rattle.tree.proofs.sequence.Kinds as sequence-kinds
 use Rattle.tree.proofs.+children+node+sequence.Lts-sequence as sequence-lts
-use Rattle.grammar.proofs.tables.child.Reads as child-reads
-use Rattle.grammar.proofs.tables.child_count.Reads as child-count-reads
-use Rattle.grammar.proofs.tables.is_sequence.Reads as is-sequence-reads
+use Rattle.tables.proofs.child.Reads as child-reads
+use Rattle.tables.proofs.child_count.Reads as child-count-reads
+use Rattle.tables.proofs.is_sequence.Reads as is-sequence-reads
 use Rattle.tree.proofs.head.Reads as head-reads
 use Rattle.tree.proofs.+children+node+sequence.{statement}
 use Rattle.tree.proofs.+children+node+sequence.Tie.{close}

@@ -5,7 +5,7 @@ use lib.ListN.{length}
 use mathlib.Core.Path.{_≡_, refl}
 use native.Mathlib.Omega.{arith}
 use Rattle.grammar.specs.Grammar.{Grammar}
-use Rattle.grammar.specs.Tables.{Tables}
+use Rattle.tables.specs.Tables.{Tables}
 use Rattle.rules.specs.Rules.{Rules}
 use Rattle.judgement.specs.Typing.{partsTyped}
 use Rattle.typing.proofs.Whole.{parts-end, parts-fault, parts-more}

@@ -1,0 +1,95 @@
+-- Laws of the tables and of the lookups in them, over plain variables. Assumes nothing.
+use Prim.Native.Nat.{ℕ, zero, suc, _+_, _-_, _*_, _<_, _≤_}
+use mathlib.Core.Path.{_≡_, refl, sym, ap, _∙_}
+use mathlib.Core.List.{List, [], _∷_, _++_}
+use mathlib.Core.Bool.{Bool, true, false}
+use native.Mathlib.Omega.{arith}
+use lib.ListN.{length, getD, List·getD-eq-default}
+use lib.Dec.{ltb, eqb}
+use borrow.Author.Tests.{ne-eqb}
+use Rattle.words.specs.Reader.{pick}
+use Rattle.grammar.specs.Grammar.{Kind, token, opt, sequence, forms, Grammar}
+use Rattle.grammar.specs.Kinds.{kindOf, allowed, childrenOf, children, isSequenceKind, isSequence, isNumberKind, isNumber}
+use Rattle.grammar.specs.Values.{valuesOf}
+use Rattle.grammar.proofs.Values.{values-allow}
+use Rattle.tables.specs.Tables.{mapOf, formsOf, Heads, Rows, rowAt, Counted}
+
+-- A TYPE THAT IS NOT THERE
+
+pub no-kind : (g : Grammar) (t : ℕ) → length g ≤ t → kindOf g t ≡ forms []
+unfolding kindOf
+no-kind g t h = List·getD-eq-default g (forms []) h
+
+pub no-children : (g : Grammar) (t v : ℕ) → length g ≤ t → children g t v ≡ []
+unfolding children childrenOf
+no-children g t v h = rw (no-kind g t h)
+
+-- HEADS
+
+module _ (g : Grammar) (heads : List ℕ) (hs : Heads g heads) (t : ℕ) where
+  pub map-in : (i : ℕ) → i ≡ t → t < 64 → getD heads (i * 2) 0 ≡ mapOf (kindOf g t)
+  map-in i e h = rw e (hs .map t h)
+
+  pub map-out : 64 ≤ t → 0 ≡ mapOf (kindOf g t)
+  unfolding mapOf
+  map-out h = rw (no-kind g t (omega (arith, hs .types)))
+
+  pub values-in : (i : ℕ) → i ≡ t → t < 64 → getD heads (i * 2 + 1) 0 ≡ valuesOf (kindOf g t)
+  values-in i e h = rw e (hs .values t h)
+
+  pub values-out : 64 ≤ t → 0 ≡ valuesOf (kindOf g t)
+  unfolding valuesOf
+  values-out h = rw (no-kind g t (omega (arith, hs .types)))
+
+pub allowed-by : (g : Grammar) (t v n : ℕ) → n ≡ valuesOf (kindOf g t) → ltb v n ≡ allowed g t v
+unfolding allowed
+allowed-by g t v n e = rw e (values-allow (kindOf g t) v)
+
+map-sequence : (k : Kind) → eqb (mapOf k) 4 ≡ isSequenceKind k
+unfolding mapOf isSequenceKind
+map-sequence (token c) = refl
+map-sequence (opt e) = refl
+map-sequence (sequence e) = refl
+map-sequence (forms []) = refl
+map-sequence (forms (f ∷ fs)) = refl
+
+pub sequence-by : (g : Grammar) (t m : ℕ) → m ≡ mapOf (kindOf g t) → eqb m 4 ≡ isSequence g t
+unfolding isSequence
+sequence-by g t m e = rw e (map-sequence (kindOf g t))
+
+values-number : (k : Kind) → length (formsOf k) ≤ 16 → eqb (valuesOf k) 1000000000 ≡ isNumberKind k
+unfolding valuesOf isNumberKind formsOf
+values-number (token c) h = go (eqb c 2)
+  where
+    go : (b : Bool) → eqb (pick b 1000000000 65536) 1000000000 ≡ b
+    go true = refl
+    go false = refl
+values-number (opt e) h = refl
+values-number (sequence e) h = refl
+values-number (forms fs) h = ne-eqb (length fs) 1000000000 (λ e. omega arith)
+
+pub number-by : (g : Grammar) (t n : ℕ) → length (formsOf (kindOf g t)) ≤ 16 → n ≡ valuesOf (kindOf g t) → eqb n 1000000000 ≡ isNumber g t
+unfolding isNumber
+number-by g t n h e = rw e (values-number (kindOf g t) h)
+
+-- ROWS
+
+module _ (g : Grammar) (rows : List ℕ) (rs : Rows g rows) (t v : ℕ) where
+  pub no-type : 64 ≤ t → children g t v ≡ []
+  no-type h = no-children g t v (omega (arith, rs .types))
+
+  pub count-in : (i j : ℕ) → i ≡ t → j ≡ v → t < 64 → v < 16 → getD rows ((i * 16 + j) * 9) 0 ≡ length (children g t v)
+  count-in i j ei ej ht hv =
+      let z : (i * 16 + j) * 9 ≡ rowAt t v + 0 = omega arith in
+      rw z (rs .row t v 0 ht hv (omega arith))
+
+  pub child-in : (i j n : ℕ) → i ≡ t → j ≡ v → t < 64 → v < 16 → n < 8 → getD rows ((i * 16 + j) * 9 + (1 + n)) 0 ≡ getD (children g t v) n 0
+  child-in i j n ei ej ht hv hn =
+      let z : (i * 16 + j) * 9 + (1 + n) ≡ rowAt t v + suc n = omega arith in
+      rw z (rs .row t v (suc n) ht hv (omega arith))
+
+  pub child-out : (n : ℕ) → 8 ≤ n → 0 ≡ getD (children g t v) n 0
+  child-out n h = sym (List·getD-eq-default (children g t v) 0 {n = n} (omega (arith, rs .most t v)))
+
+pub none-counted : (rows : List ℕ) (t v : ℕ) → ((g : Grammar) → Rows g rows → children g t v ≡ []) → Counted rows t v 0
+none-counted rows t v h = record { small = omega arith; count = λ g rs. ap length (sym (h g rs)) }
