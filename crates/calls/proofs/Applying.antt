@@ -24,7 +24,8 @@ use Rattle.operations.specs.Operating.{argumentsOf}
 use Rattle.rewrite.specs.Vars.{EnvAt, startsOf, startAt, Sound}
 use Rattle.rewrite.specs.declared.Vars.{Vars}
 use Rattle.rewrite.specs.Arena.{Standing, Gathered, ComputedAs, Computed}
-use Rattle.calls.specs.Engine.{Sure, Says, EndedAs, Tree, Setting, countOf, applyAt, chainAt, Applies, Chains, Calls}
+use Rattle.rules.specs.Views.{chainCount}
+use Rattle.calls.specs.Engine.{Sure, Says, EndedAs, Tree, Setting, applyAt, chainAt, Applies, Chains, Calls}
 use Rattle.rewrite.specs.declared.arena.Args.{Args}
 use Rattle.calls.specs.declared.Built.{Built}
 use Rattle.calls.specs.declared.Called.{Called}
@@ -215,7 +216,7 @@ module _ (heads rows : Words) (types : ℕ) (book starts w₀ pairs : Words) (fr
     gone : (g : Grammar) (rules : Rules.Rules) (env : Env) (scope : Words) → Setting heads rows types book starts g rules → EnvAt g (take base w₀) (startsOf vars) env → Tree g w₀ base n scope
         → Sure (Whole g rules env scope) → Gone w k at fuel nodes g rules env scope
 
-  pub chaining-start : n ≤ mostNodes → besides + n ≤ mostLive → from ≤ 1024 → (k : ℕ) → k ≡ countOf pairs from → k ≤ 4 → Chaining w₀ k (from + 2) left n
+  pub chaining-start : n ≤ mostNodes → besides + n ≤ mostLive → from ≤ 1024 → (k : ℕ) → k ≡ chainCount pairs from → k ≤ 4 → Chaining w₀ k (from + 2) left n
   chaining-start few fits short k e h = record {
     few = few;
     fits = fits;

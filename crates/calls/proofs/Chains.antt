@@ -8,22 +8,14 @@ use native.Mathlib.Nat.{add-zero}
 use lib.ListN.{length, getD, drop}
 use lib.Seq.{drop-drop, getD-drop}
 use lib.Dec.{leb, eqb}
-use borrow.Author.Tests.{le-leb, lt-leb, leb-true}
+use borrow.Author.Tests.{leb-true}
 use Rattle.words.specs.Reader.{Words, and, between}
 use Rattle.words.proofs.Laws.{and-both}
 use Rattle.rules.specs.Limits.{markChain}
 use Rattle.rules.specs.Rules.{Application, applied, arguments, applications, pairsIn, applicationsWritten, chainWritten, unreadable, chainOf, conditionOf}
-use Rattle.calls.specs.Engine.{countOf, chainAt}
+use Rattle.calls.specs.Engine.{chainAt}
+use Rattle.rules.proofs.Plans.{count-is}
 use Rattle.judgement.proofs.Chains.{arguments-length}
-
--- THE COUNT
-
-module _ (pairs : Words) (at k : ℕ) (e : k ≡ getD pairs at 0) where
-  pub count-over : 4 < k → 0 ≡ countOf pairs at
-  count-over h = rw (lt-leb (getD pairs at 0) 4 (omega arith))
-
-  pub count-is : k ≤ 4 → k ≡ countOf pairs at
-  count-is h = rw (le-leb (getD pairs at 0) 4 (omega arith)) e
 
 chain-few : (ws : Words) → chainWritten ws ≡ true → getD ws 0 0 ≤ 4
 unfolding chainWritten

@@ -3,29 +3,27 @@ use Prim.Native.Nat.{ℕ, zero, suc, _+_, _*_, _<_, _≤_, _^_}
 use mathlib.Core.Path.{_≡_, refl, sym, ap, ap₂, _∙_, subst}
 use mathlib.Core.List.{List, [], _∷_, _++_, append-assoc, append-nil}
 use mathlib.Core.Bool.{Bool, true, false}
-use mathlib.Core.Option.{none, some}
+use mathlib.Core.Option.{some}
 use native.Mathlib.Omega.{arith}
 use native.Mathlib.Nat.{add-zero}
 use lib.ListN.{length, getD, take, drop, getElem?, length-take, length-drop, length-append}
-use lib.Seq.{take-at, drop-at, take-add, drop-drop, drop-nil, getD-drop, length-take-le}
+use lib.Seq.{take-at, drop-at, take-add, drop-drop, getD-drop, length-take-le}
 use lib.Dec.{eqb, leb}
 use borrow.Author.Tests.{eq-eqb, ne-eqb, leb-true, leb-false}
 use Rattle.words.specs.Reader.{Words, pick, and, between}
 use Rattle.words.proofs.Laws.{and-both}
 use Rattle.words.proofs.Stretches.{drop-pair}
 use Rattle.grammar.specs.Grammar.{Grammar}
-use Rattle.grammar.specs.Limits.{mostTypes}
 use Rattle.tree.specs.Limits.{mostNodes}
-use Rattle.tree.specs.Tree.{Trees, none, node, size}
+use Rattle.tree.specs.Tree.{size}
 use Rattle.rules.specs.Limits.{mostApplications, markVariable, markChain}
 use Rattle.rules.specs.Rules as Rules
 use Rattle.rules.specs.Rules.{Piece, write, copy, chain, Application, applications, pairsIn, chainWritten, unreadable, chainOf, piecesAfter, pieces}
 use Rattle.meaning.specs.Limits.{mostLive}
 use Rattle.meaning.specs.Computation.{Result, ok, stop, stuck, Comp, thenOf, _>>=_, _>>_, return, stopUnless, present}
 use Rattle.meaning.specs.Meaning.{Env, Bindings, live, variable, variables, nodesWithin, liveWithin, apply, applyChain, fill, calls}
-use Rattle.marks.specs.Marked.{typeIn, marked, unmarked, Stands}
-use Rattle.marks.proofs.Marking.{type-there}
-use Rattle.marks.proofs.Same.{unmark}
+use Rattle.marks.specs.Marked.{Stands, UnderWay, nothing, written}
+use Rattle.marks.proofs.Laying.{under-tree, under-append}
 use Rattle.rewrite.specs.Vars.{startsOf, startAt}
 use Rattle.rewrite.specs.Arena.{NodesAt, overBy, Standing}
 use Rattle.rules.specs.Views.{pairsAt}
@@ -65,25 +63,6 @@ module _ {g : Grammar} {t : Words} (w w′ : Words) (a start m to : ℕ) (s : St
     nodes = sym em;
     words = pushed-there w w′ (take (2 * m) (drop start w)) to (2 * m) part-long fits e ∙ ap (λ k. take k (drop start w)) (sym tree-long) ∙ stands-whole w a s .words;
   }
-
--- WORDS WITHOUT MARKS
-
--- the types of trees are below 64
-pub unmarked-trees : {g : Grammar} {ts : List ℕ} {ws : Words} → length g ≤ mostTypes → Trees g ts ws → unmarked ws ≡ ws
-unfolding unmarked
-unmarked-trees l none = refl
-unmarked-trees {g} l (node {t} {v} fine r) = let e : typeIn t ≡ t = omega (arith, type-there g t v fine) in ap₂ (λ a b. a ∷ v ∷ b) e (unmarked-trees l r)
-
-unmarked-append : (a b : Words) (n : ℕ) → length a ≡ 2 * n → unmarked (a ++ b) ≡ unmarked a ++ unmarked b
-unfolding unmarked
-unmarked-append [] b n h = refl
-unmarked-append (w ∷ []) b n h = absurd (omega arith)
-unmarked-append (w ∷ v ∷ a) b zero h = absurd (omega arith)
-unmarked-append (w ∷ v ∷ a) b (suc n) h = ap (λ l. typeIn w ∷ v ∷ l) (unmarked-append a b n (omega arith))
-
--- a tree that stands marked
-tree-unmarked : {g : Grammar} {ts : List ℕ} {ws x : Words} → length g ≤ mostTypes → Trees g ts ws → x ≡ marked g ws → unmarked x ≡ unmarked ws
-tree-unmarked l t e = ap unmarked e ∙ unmark l t ∙ sym (unmarked-trees l t)
 
 -- THE LIMITS
 
@@ -433,20 +412,19 @@ module _ (heads rows : Words) (types : ℕ) (book starts w pairs : Words) (i n :
 -- THE LOOP
 
 -- words added to those that were filled
-filled-more : (w w′ done add : Words) (top n k : ℕ) → top + 2 * n ≤ length w → take (top + 2 * n) w′ ≡ take (top + 2 * n) w → length done ≡ 2 * n
-    → unmarked (take (2 * n) (drop top w)) ≡ unmarked done → unmarked (take (2 * k) (drop (top + 2 * n) w′)) ≡ unmarked add → unmarked (take (2 * (n + k)) (drop top w′)) ≡ unmarked (done ++ add)
-filled-more w w′ done add top n k fits kept long before there =
+filled-more : {g : Grammar} (w w′ done add : Words) (top n k : ℕ) → top + 2 * n ≤ length w → take (top + 2 * n) w′ ≡ take (top + 2 * n) w
+    → UnderWay g (take (2 * n) (drop top w)) done → UnderWay g (take (2 * k) (drop (top + 2 * n) w′)) add → UnderWay g (take (2 * (n + k)) (drop top w′)) (done ++ add)
+filled-more {g} w w′ done add top n k fits kept before there =
     let z : 2 * (n + k) ≡ 2 * n + 2 * k = omega arith in
     let part : take (2 * (n + k)) (drop top w′) ≡ take (2 * n) (drop top w) ++ take (2 * k) (drop (top + 2 * n) w′) =
     ap (λ j. take j (drop top w′)) z ∙ take-add (2 * n) (2 * k) (drop top w′) ∙ ap₂ (λ a b. a ++ b) (stretch-kept w w′ (top + 2 * n) top (2 * n) (omega arith) kept) (ap (take (2 * k)) (drop-drop (2 * n) top w′)) in
-    ap unmarked part ∙ unmarked-append (take (2 * n) (drop top w)) (take (2 * k) (drop (top + 2 * n) w′)) n (omega (arith, length-take (2 * n) (drop top w), length-drop top w))
-    ∙ ap₂ (λ a b. a ++ b) before there ∙ sym (unmarked-append done add n long)
+    subst (λ l. UnderWay g l (done ++ add)) (sym part) (under-append before there)
 
 -- what was filled, and what is left, as the definition sees it
 record SoFar (g : Grammar) (rules : Rules.Rules) (deep : ℕ) (env : Env) (besides left : ℕ) (w₀ pairs w : Words) (top fuel n i : ℕ) : Type 0 where
   done : Words
   long : length done ≡ 2 * n
-  there : unmarked (take (2 * n) (drop top w)) ≡ unmarked done
+  there : UnderWay g (take (2 * n) (drop top w)) done
   kept : take top w ≡ take top w₀
   same-run : filled g rules deep env besides (pieces pairs) 0 left ≡ onward g rules deep env besides done (pieces (drop i pairs)) n fuel
 
@@ -466,7 +444,7 @@ filling-start heads rows types book starts w pairs frame deep left h = record {
   less = omega arith;
   long = refl;
   near = omega arith;
-  run = λ g rules b st hd sure. record { done = []; long = refl; there = refl; kept = refl; same-run = sym (then-all (filled g rules deep (b .env) (live b) (pieces pairs) 0 left)) };
+  run = λ g rules b st hd sure. record { done = []; long = refl; there = nothing; kept = refl; same-run = sym (then-all (filled g rules deep (b .env) (live b) (pieces pairs) 0 left)) };
 }
 
 module _ (heads rows : Words) (types : ℕ) (book starts w₀ pairs : Words) (frame : Frame) (deep left : ℕ) (room : Room w₀ frame) (w : Words) (fuel n i : ℕ)
@@ -481,7 +459,7 @@ module _ (heads rows : Words) (types : ℕ) (book starts w₀ pairs : Words) (fr
     count : m ≡ n + k
     long : length add ≡ 2 * k
     kept : take (frame .top + 2 * n) w′ ≡ take (frame .top + 2 * n) w
-    there : unmarked (take (2 * k) (drop (frame .top + 2 * n) w′)) ≡ unmarked add
+    there : UnderWay g (take (2 * k) (drop (frame .top + 2 * n) w′)) add
     step : rest g rules b ≡ onward g rules deep (b .env) (live b) add (pieces (drop j pairs)) m now
 
   top-inside : frame .top + 2 * n ≤ length w
@@ -502,7 +480,7 @@ module _ (heads rows : Words) (types : ℕ) (book starts w₀ pairs : Words) (fr
         record {
           done = o .done ++ a .add;
           long = omega (arith, length-append (o .done) (a .add), o .long, a .long, a .count);
-          there = subst (λ j. unmarked (take (2 * j) (drop (frame .top) w′)) ≡ unmarked (o .done ++ a .add)) (sym (a .count)) (filled-more w w′ (o .done) (a .add) (frame .top) n (a .k) top-inside (a .kept) (o .long) (o .there) (a .there));
+          there = subst (λ j. UnderWay g (take (2 * j) (drop (frame .top) w′)) (o .done ++ a .add)) (sym (a .count)) (filled-more w w′ (o .done) (a .add) (frame .top) n (a .k) top-inside (a .kept) (o .there) (a .there));
           kept = take-less (frame .top) (frame .top + 2 * n) w w′ (omega arith) (a .kept) ∙ o .kept;
           same-run = o .same-run ∙ ap (λ x. thenOf x (λ us. return (o .done ++ us))) (a .step) ∙ then-before (filled g rules deep (b .env) (live b) (pieces (drop j pairs)) m now) (o .done) (a .add);
         };
@@ -518,7 +496,7 @@ module _ (heads rows : Words) (types : ℕ) (book starts w₀ pairs : Words) (fr
     less = omega (arith, inv .less);
     long = long ∙ inv .long;
     meant = λ g rules b st hd. subst (λ ps. Sure (filled g rules deep (b .env) (live b) (pieces ps) 0 left) → (take (frame .top) w′ ≡ take (frame .top) w₀)
-        × Says (λ ws. (length ws ≡ 2 * r .nodes) × (unmarked (take (2 * r .nodes) (drop (frame .top) w′)) ≡ unmarked ws)) (r .stop) (r .left) (filled g rules deep (b .env) (live b) (pieces ps) 0 left)) ep (λ sure.
+        × Says (λ ws. (length ws ≡ 2 * r .nodes) × UnderWay g (take (2 * r .nodes) (drop (frame .top) w′)) ws) (r .stop) (r .left) (filled g rules deep (b .env) (live b) (pieces ps) 0 left)) ep (λ sure.
         let o = inv .run g rules b st hd sure in
         let a = f g rules b st (held-kept (o .kept) hd) (sure-first (rest g rules b) _ (sure-as (o .same-run) sure)) in
         (a .0 ∙ o .kept, stop-says _ _ (r .left) (r .stop) h (o .same-run ∙ then-stop (rest g rules b) _ (r .stop) (r .left) (a .1))));
@@ -532,7 +510,7 @@ module _ (heads rows : Words) (types : ℕ) (book starts w₀ pairs : Words) (fr
     less = inv .less;
     long = inv .long;
     meant = λ g rules b st hd. subst (λ ps. Sure (filled g rules deep (b .env) (live b) (pieces ps) 0 left) → (take (frame .top) w ≡ take (frame .top) w₀)
-        × Says (λ ws. (length ws ≡ 2 * n) × (unmarked (take (2 * n) (drop (frame .top) w)) ≡ unmarked ws)) 0 fuel (filled g rules deep (b .env) (live b) (pieces ps) 0 left)) ep (λ sure.
+        × Says (λ ws. (length ws ≡ 2 * n) × UnderWay g (take (2 * n) (drop (frame .top) w)) ws) 0 fuel (filled g rules deep (b .env) (live b) (pieces ps) 0 left)) ep (λ sure.
         let o = inv .run g rules b st hd sure in
         let last : rest g rules b ≡ ok [] fuel = ap (λ ps. filled g rules deep (b .env) (live b) ps n fuel) (pieces-end pairs i h) ∙ fill-end g rules deep (b .env) (live b) n fuel in
         (o .kept, (o .done, (o .long, o .there), o .same-run ∙ then-ok (rest g rules b) _ [] fuel last ∙ ap (λ ws. ok ws fuel) (append-nil (o .done)))));
@@ -568,7 +546,7 @@ module _ (heads rows : Words) (types : ℕ) (book starts w₀ pairs : Words) (fr
             count = refl;
             long = refl;
             kept = pushed-kept w w′ (t ∷ v ∷ []) (frame .top + 2 * n) 2 refl fits e;
-            there = ap unmarked (pushed-there w w′ (t ∷ v ∷ []) (frame .top + 2 * n) 2 refl fits e);
+            there = subst (λ l. UnderWay g l (t ∷ v ∷ [])) (sym (pushed-there w w′ (t ∷ v ∷ []) (frame .top + 2 * n) 2 refl fits e)) (written t v nothing);
             step = writes g rules b ∙ write-fits g rules deep (b .env) (live b) (pieces (drop (i + 2) pairs)) n fuel t v s (limit hd) z;
           })
 
@@ -609,7 +587,7 @@ module _ (heads rows : Words) (types : ℕ) (book starts w₀ pairs : Words) (fr
             count = refl;
             long = omega (arith, tree-length (o .stands .tree), o .counted);
             kept = tree-kept w w′ (frame .top) start m (frame .top + 2 * n) (o .stands) (o .counted) fits e;
-            there = tree-unmarked (st .tables .heads-of .types) (o .stands .tree .typed) (y .words);
+            there = under-tree (o .stands .tree .typed) (y .words);
             step = o .step ∙ copy-fits g rules deep (b .env) (live b) (pieces (drop (i + 2) pairs)) n fuel v (o .u) (o .found) s (o .limit) z
                 ∙ ap (λ j. onward g rules deep (b .env) (live b) (o .u) (pieces (drop (i + 2) pairs)) (n + j) fuel) (sym (o .counted));
           })
@@ -632,7 +610,7 @@ module _ (heads rows : Words) (types : ℕ) (book starts w₀ pairs : Words) (fr
             count = o .1 .0;
             long = tree-length (x .tree);
             kept = q .0;
-            there = tree-unmarked (st .tables .heads-of .types) (x .tree .typed) (x .words);
+            there = under-tree (x .tree .typed) (x .words);
             step = chain-gives g rules deep (b .env) (live b) pairs i n fuel h is-chain sure (o .0) (c .built .left) (o .2)
                 ∙ ap₂ (λ j k. onward g rules deep (b .env) (live b) (o .0) (pieces (drop j pairs)) k (c .built .left)) (sym (chains .next-is z)) (sym (o .1 .0));
           })

@@ -33,7 +33,6 @@ use Rattle.calls.specs.declared.Built.{Built}
 use Rattle.calls.specs.declared.Taken.{Taken}
 use Rattle.calls.proofs.Frames.{env-up, env-kept, standing-stands, standing-below, grown-same}
 use Rattle.calls.proofs.Going.{then-ok, then-stop, sure-first, sure-as, check-sure, surely-sure, says-ok, says-stop, stop-says}
-use Rattle.calls.proofs.Filling.{unmarked-trees}
 
 -- FINISHING
 
@@ -106,7 +105,7 @@ module _ (heads rows : Words) (types : ℕ) (book starts w w′ : Words) (at : �
             let c = check-sure (areTrees g ws (u ∷ [])) (r .left) (λ z. _>>_ (nestingWithin g ws) (return ws)) (sure-as run sure) in
             let t : Trees g (u ∷ []) ws = pass-trees ws (u ∷ []) (c .0) in
             let n : size ws ≡ r .nodes = omega (arith, trees-even t, f .1 .0) in
-            let k = closed .closed g u ws (st .tables) t n (fills .few h) (f .1 .1 ∙ unmarked-trees (st .tables .heads-of .types) t) in
+            let k = closed .closed g u ws (st .tables) t n (fills .few h) (f .1 .1) in
             (k .0 ∙ q .0, ends u g ws t n (k .1) (leb (nesting g ws) mostNesting) refl (k .2) (finishedBy u g rules b) (run ∙ c .1))
 
 -- A NEW VARIABLE

@@ -14,7 +14,6 @@ use Rattle.tree.specs.Tree.{size}
 use Rattle.rules.specs.Rules as Rules
 use Rattle.rules.specs.Rules.{Piece, Rule, rootOnly, firstMatch, exhaustive, pieces}
 use Rattle.rules.specs.Layout as Layout
-use Rattle.rules.specs.Views.{strategyAs}
 use Rattle.meaning.specs.Limits.{mostLive}
 use Rattle.meaning.specs.Computation.{Result, ok, stop, thenOf, stopUnless, whether, return}
 use Rattle.meaning.specs.Meaning as M
@@ -23,8 +22,8 @@ use Rattle.rewrite.specs.Vars.{EnvAt, startsOf}
 use Rattle.rewrite.specs.Matching.{bindings}
 use Rattle.rewrite.specs.declared.Vars.{Vars}
 use Rattle.rewrite.specs.Arena.{Standing}
-use Rattle.rules.specs.Views.{pairsAt, Planned}
-use Rattle.calls.specs.Engine.{againOf, Room, Held, Setting, Sure, Says, SoughtAs, EndedAs, FoundFits, Tree, Seeks, Replaces, Left, Calls}
+use Rattle.rules.specs.Views.{pairsAt, Planned, strategyAs, againOf}
+use Rattle.calls.specs.Engine.{Room, Held, Setting, Sure, Says, SoughtAs, EndedAs, FoundFits, Tree, Seeks, Replaces, Left, Calls}
 use Rattle.rewrite.specs.declared.arena.Frame.{Frame}
 use Rattle.rules.specs.declared.Plan.{Plan}
 use Rattle.calls.specs.declared.Found as Code

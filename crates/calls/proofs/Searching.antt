@@ -21,7 +21,7 @@ use Rattle.rules.specs.Rules as Rules
 use Rattle.rules.specs.Rules.{Rule, rootOnly, firstMatch, exhaustive, searches, shapes, pieces}
 use Rattle.rules.specs.Layout as Layout
 use Rattle.rules.specs.Layout.{partAt, partOf}
-use Rattle.rules.specs.Views.{pairsAt, Planned, strategyAs}
+use Rattle.rules.specs.Views.{pairsAt, Planned, strategyAs, triedOf}
 use Rattle.rules.proofs.Laid.{part-value}
 use Rattle.rules.specs.declared.Strategy.{Strategy}
 use Rattle.rules.specs.declared.Strategy.the-variants.{RootOnly, FirstMatch, Exhaustive}
@@ -42,7 +42,7 @@ use Rattle.rewrite.proofs.Matcher.{Node, node-of, two-marked}
 use Rattle.rewrite.specs.declared.Verdict.the-variants.{Matches, Differs, Stops}
 use Rattle.rewrite.specs.declared.Matched.{Matched}
 use Rattle.rewrite.specs.declared.arena.Frame.{Frame}
-use Rattle.calls.specs.Engine.{triedOf, Room, Grown, Held, Setting, Sure, TakenAs, partOn, partRead, SoughtAs, FoundFits, Tree, Steps, Seeks}
+use Rattle.calls.specs.Engine.{Room, Grown, Held, Setting, Sure, TakenAs, partOn, partRead, SoughtAs, FoundFits, Tree, Steps, Seeks}
 use Rattle.calls.specs.declared.Taken.{Taken}
 use Rattle.calls.specs.declared.Found as Code
 use Rattle.calls.specs.declared.Found.the-variants.{At, Nowhere, Stopped}
@@ -54,14 +54,6 @@ pub answers-as : {arena part : Words} {at : ℕ} {f : Grammar → Words → Bind
 answers-as a b e x = rw e at x
 
 -- HOW MANY NODES ARE TRIED
-
-pub tried-some : (n : ℕ) → 0 < n → 1 ≡ triedOf RootOnly n
-tried-some zero h = absurd (omega arith)
-tried-some (suc n) h = refl
-
-pub tried-none : (n : ℕ) → (0 < n → ⊥) → 0 ≡ triedOf RootOnly n
-tried-none zero h = refl
-tried-none (suc n) h = absurd (h (omega arith))
 
 pub tried-few : (s : Strategy) (n : ℕ) → triedOf s n ≤ n
 tried-few RootOnly zero = omega arith
@@ -421,7 +413,7 @@ module _ (heads rows : Words) (types : ℕ) (book starts w₀ : Words) (plan : P
         type-here : (k : Case) → typeIn (getD w (base + 2 * i) 0) ≡ node k .t
         type-here k = ap typeIn (word-here k w i inside (go .run k .kept)) ∙ node k .type-in
 
-        pub searching-other : (typeIn (getD w (base + 2 * i) 0) ≡ plan .target → ⊥) → Searching w fuel (i + 1)
+        searching-other : (typeIn (getD w (base + 2 * i) 0) ≡ plan .target → ⊥) → Searching w fuel (i + 1)
         searching-other other = record {
           within = omega (arith, inside);
           less = go .less;

@@ -20,13 +20,13 @@ use Rattle.meaning.specs.Meaning as M
 use Rattle.meaning.specs.Meaning.{Env, Bindings, live, total, start, begin, liveWithin, variables, valueOf, valuesOf, isNumberToken, areNumberTokens, calls}
 use Rattle.operations.specs.Operating.{argumentsOf, Compared}
 use Rattle.marks.specs.Marked.{Stands}
-use Rattle.rewrite.specs.Vars.{startsOf, startAt, Sound}
+use Rattle.rewrite.specs.Vars.{startAt, Sound}
 use Rattle.rewrite.specs.Matching.{bindings}
 use Rattle.rewrite.specs.declared.Verdict.{Verdict}
 use Rattle.rewrite.specs.declared.Verdict.the-variants.{Matches, Differs, Stops}
 use Rattle.rewrite.specs.Arena.{NodesAt, Gathered, Standing}
-use Rattle.rules.specs.Views.{pairsAt, Planned}
-use Rattle.calls.specs.Engine.{countOf, turnedBy, Room, Grown, Sure, TakenAs, TestedAs, SoughtAs, FoundFits, Tree, Held, Setting, partOn, Conditions, Seeks, CallMatches, succeedsAt, chainAt, Succeeds, AnySucceeds}
+use Rattle.rules.specs.Views.{pairsAt, Planned, chainCount}
+use Rattle.calls.specs.Engine.{turnedBy, Room, Grown, Sure, TakenAs, TestedAs, SoughtAs, FoundFits, Tree, Held, Setting, partOn, Conditions, Seeks, CallMatches, succeedsAt, chainAt, Succeeds, AnySucceeds}
 use Rattle.rewrite.specs.declared.arena.Args.{Args}
 use Rattle.rewrite.specs.declared.arena.Frame.{Frame}
 use Rattle.rules.specs.declared.Plan.{Plan}
@@ -35,7 +35,7 @@ use Rattle.calls.specs.declared.Found.the-variants.{At, Nowhere, Stopped
 use Rattle.calls.specs.declared.Sought.{Sought}
 use Rattle.calls.specs.declared.Taken.{Taken}
 use Rattle.calls.specs.declared.Tested.{Tested}
-use Rattle.calls.proofs.Frames.{env-kept, standing-stands, standing-whole, stands-standing, held-kept}
+use Rattle.calls.proofs.Frames.{standing-stands, standing-whole, stands-standing, held-kept}
 use Rattle.rewrite.proofs.Leaves.{variable-stands}
 use Rattle.calls.proofs.Going.{sure-first, sure-as, variable-sure, live-fits, live-over, then-then}
 use Rattle.calls.proofs.Applied.{begin-sure, RuleGiven, rule-given, operation-given, rule-few, compare-arguments, value-there, operand-values}
@@ -268,7 +268,7 @@ module _ (heads rows : Words) (types : ℕ) (book starts w₀ pairs : Words) (ba
         → (take (frame .top) w ≡ take (frame .top) w₀)
         × (Whole g rules scope b ≡ M.anySucceeds true g rules (calls true g rules deep) (applications k (drop at pairs)) (b .env) scope (live b) fuel)
 
-  pub trying-start : (k : ℕ) → k ≡ countOf pairs 2 → k ≤ 4 → Trying w₀ k 4 left
+  pub trying-start : (k : ℕ) → k ≡ chainCount pairs 2 → k ≤ 4 → Trying w₀ k 4 left
   trying-start k e h = record {
     less = le-refl left;
     long = refl;

@@ -5,34 +5,31 @@ use mathlib.Core.Path.{_≡_}
 use mathlib.Core.List.{List, []}
 use mathlib.Core.Bool.{Bool, true, false}
 use mathlib.Core.Option.{Option, none, some}
-use lib.ListN.{length, getD, take, drop, set, getElem?}
-use lib.Dec.{leb}
-use Rattle.words.specs.Reader.{Words, pick, Read, value, refused}
+use lib.ListN.{length, getD, take, drop, getElem?}
+use Rattle.words.specs.Reader.{Words, Read, value, refused}
 use Rattle.grammar.specs.Grammar.{Grammar}
 use Rattle.grammar.specs.Limits.{mostTypes}
 use Rattle.tables.specs.Tables.{Tables}
 use Rattle.tree.specs.Limits.{mostNodes}
 use Rattle.tree.specs.Tree.{size}
-use Rattle.rules.specs.Limits.{mostRules, mostApplications}
+use Rattle.rules.specs.Limits.{mostRules}
 use Rattle.rules.specs.Rules as Rules
 use Rattle.rules.specs.Rules.{Piece, Rule, Application, applied, arguments, applications, conditionOf, shapes, pieces, pairsIn}
 use Rattle.rules.specs.Layout as Layout
 use Rattle.rules.specs.Layout.{PartAt, partAt, partOf}
-use Rattle.rules.specs.declared.Strategy.{Strategy}
-use Rattle.rules.specs.declared.Strategy.the-variants.{RootOnly, FirstMatch, Exhaustive}
 use Rattle.rules.specs.declared.Deconstruct.{Deconstruct}
 use Rattle.meaning.specs.Limits.{mostLive}
 use Rattle.meaning.specs.Computation.{Result, ok, stop, stuck, Comp, _>>=_, _>>_, return, never}
 use Rattle.meaning.specs.Meaning as M
 use Rattle.meaning.specs.Meaning.{Env, Bindings, live, total, variable, variables, liveWithin, nodesWithin, Ending, done, stopped, cannotGoOn, Found, calls}
-use Rattle.marks.specs.Marked.{unmarked}
+use Rattle.marks.specs.Marked.{UnderWay}
 use Rattle.rewrite.specs.Arena.{Standing}
 use Rattle.rewrite.specs.Vars.{EnvAt, startsOf, Sound}
 use Rattle.rewrite.specs.Matching.{bindings}
 use Rattle.rewrite.specs.declared.Vars.{Vars}
 use Rattle.rewrite.specs.declared.Verdict.{Verdict}
 use Rattle.rewrite.specs.declared.Verdict.the-variants.{Matches, Differs, Stops}
-use Rattle.rules.specs.Views.{pairsAt, Planned}
+use Rattle.rules.specs.Views.{pairsAt, Planned, chainCount}
 use Rattle.rewrite.specs.declared.arena.Frame.{Frame}
 use Rattle.rules.specs.declared.Plan.{Plan}
 use Rattle.calls.specs.declared.Taken.{Taken}
@@ -44,24 +41,7 @@ use Rattle.calls.specs.declared.Built.{Built}
 use Rattle.calls.specs.declared.Chained.{Chained}
 use Rattle.calls.specs.declared.Called.{Called}
 
--- THE SMALL FUNCTIONS
-
--- how many nodes are tried at most: all, or the root alone
-abbrev pub triedOf : Strategy → ℕ → ℕ
-triedOf RootOnly zero = 0
-triedOf RootOnly (suc n) = 1
-triedOf FirstMatch n = n
-triedOf Exhaustive n = n
-
--- does the search begin again after a replacement?
-abbrev pub againOf : Strategy → Bool
-againOf RootOnly = false
-againOf FirstMatch = false
-againOf Exhaustive = true
-
--- a chain's count; 0, if that is no count
-abbrev pub countOf : Words → ℕ → ℕ
-countOf pairs at = pick (leb (getD pairs at 0) mostApplications) (getD pairs at 0) 0
+-- A CONDITION
 
 -- the other verdict, if the condition is negated; a stop stays
 abbrev pub turnedBy : Bool → Verdict → Verdict
@@ -231,7 +211,7 @@ applyAt deep pairs at g rules env scope besides = do
 
 -- the applications of a chain, its count at `from`
 abbrev pub chainAt : Words → ℕ → List Application
-chainAt pairs from = applications (countOf pairs from) (drop (from + 2) pairs)
+chainAt pairs from = applications (chainCount pairs from) (drop (from + 2) pairs)
 
 -- a chain in a tree under way of n nodes
 abbrev pub chainPiece : ℕ → ℕ → List Application → Grammar → Rules.Rules → Env → ℕ → ℕ → Comp Words
@@ -293,10 +273,10 @@ module _ (heads rows : Words) (types : ℕ) (book starts w w′ : Words) where
     pub meant : (g : Grammar) (rules : Rules.Rules) (b : Bindings) → Setting heads rows types book starts g rules → Held g w frame b → Sure (f g rules b left)
         → (take (frame .top) w′ ≡ take (frame .top) w) × Says (P g) (r .stop) (r .left) (f g rules b left)
 
-  -- .. not marked yet
+  -- .. under way: its nodes are not all marked yet
   abbrev pub Fills : ℕ → Frame → ℕ → ℕ → Built → Type 0
   Fills at frame deep left r =
-      Fresh frame left r (λ g ws. (length ws ≡ 2 * r .nodes) × (unmarked (take (2 * r .nodes) (drop (frame .top) w′)) ≡ unmarked ws))
+      Fresh frame left r (λ g ws. (length ws ≡ 2 * r .nodes) × UnderWay g (take (2 * r .nodes) (drop (frame .top) w′)) ws)
       (λ g rules b. M.fill true g rules (calls true g rules deep) (pieces (pairsAt book at)) (b .env) (live b) 0)
 
   -- .. a tree of whatever type is asked

@@ -18,16 +18,15 @@ use rules::Strategy;
 use rules::limits::FIRST_OPERATION;
 use rules::limits::MARK_CHAIN;
 use rules::limits::MARK_VARIABLE;
-use rules::limits::MOST_APPLICATIONS;
 use rules::limits::MOST_VARIABLES;
 use rules::limits::STARTS;
 use tables::HEADS;
 use tables::ROWS;
 ghost use mathlib.Core.Path.{_≡_};
 ghost use Prim.Native.Nat.{ℕ, _+_, _*_, _<_, _≤_, _^_};
-ghost use lib.ListN.{length, getD};
+ghost use lib.ListN.{length};
 ghost use Rattle.rewrite.specs.Vars.{Sound};
-ghost use Rattle.calls.specs.Engine.{triedOf, againOf, countOf, turnedBy, Room, Deconstructs, Constructs, Conditions, Steps, Seeks, CallMatches, Succeeds, AnySucceeds, Applies, Chains, FillsChain, Fills, Finishes, Replaces, Calls};
+ghost use Rattle.calls.specs.Engine.{turnedBy, Room, Deconstructs, Constructs, Conditions, Steps, Seeks, CallMatches, Succeeds, AnySucceeds, Applies, Chains, FillsChain, Fills, Finishes, Replaces, Calls};
 
 // What a part's step found, what is open then, the attempts left, and where the next part stands.
 pub struct Taken {
@@ -108,44 +107,6 @@ fn building(stop: u32, nodes: usize, left: u32) -> Built
     ensures { λ r. ⌜ r ≡ record { stop = stop; nodes = nodes; left = left } ⌝ }
 {
     Built { stop, nodes, left }
-}
-
-// How many nodes are tried at most: all, or the root alone.
-fn tried(strategy: Strategy, n: usize) -> usize
-    ensures { λ r. ⌜ r ≡ triedOf strategy n ⌝ }
-{
-    match strategy {
-        Strategy::RootOnly => { if 0 < n { 1 } else { 0 } }
-        Strategy::FirstMatch => n,
-        Strategy::Exhaustive => n,
-    }
-}
-
-// Does the search begin again after a replacement?
-fn again(strategy: Strategy) -> bool
-    ensures { λ r. ⌜ r ≡ againOf strategy ⌝ }
-{
-    match strategy {
-        Strategy::RootOnly => false,
-        Strategy::FirstMatch => false,
-        Strategy::Exhaustive => true,
-    }
-}
-
-// Where rule n stands.
-fn rule_at(starts: &[usize; STARTS], n: u32) -> usize
-    ensures { λ r. ⌜ (n < 64 → r ≡ getD (now (starts .entry)) n 0) ⌝ }
-{
-    let i = words::wide(n);
-    if i < STARTS { starts[i] } else { 0 }
-}
-
-// How many applications a chain has, its count at `at`; 0, if that is no count.
-fn chain_count(pairs: &[u32], at: usize) -> u32
-    ensures { λ r. ⌜ (r ≡ countOf (now (pairs .entry)) at) × (r ≤ 4) ⌝ }
-{
-    let k = words::word(pairs, at);
-    if MOST_APPLICATIONS < k { 0 } else { k }
 }
 
 // The other verdict, if the condition holds where none succeeds.
@@ -416,7 +377,7 @@ fn seek(
 {
     let pairs = rules::pairs_of(book, plan.pattern);
     let strategy = plan.strategy;
-    let last = tried(strategy, n);
+    let last = rules::tried(strategy, n);
     let end = base + 2 * n;
     let mut fuel = left;
     let mut i: usize = 0;
@@ -439,10 +400,6 @@ fn seek(
             break 'nodes seeking(Found::Nowhere, frame, fuel, 0);
         }
         let p = base + 2 * i;
-        if marks::type_in(w[p]) != plan.target {
-            i = i + 1;
-            continue 'nodes;
-        }
         if fuel == 0 {
             break 'nodes seeking(Found::Stopped(40), frame, fuel, 0);
         }
@@ -593,7 +550,7 @@ fn succeeds(
             live: frame.live + args.total,
             top: frame.top,
         };
-        let rule = rule_at(starts, a);
+        let rule = rules::rule_at(starts, a);
         return matches(
             heads,
             rows,
@@ -640,7 +597,7 @@ fn any_succeeds(
     requires { ⌜ Room (now w) frame × (1 ≤ types) × (start < 2 ^ 32) × (n ≤ 2048) × (0 < n → start + 2 * n ≤ frame .top) ⌝ }
     ensures { λ r. ⌜ AnySucceeds (now (heads .entry)) (now (rows .entry)) types (now (book .entry)) (now (starts .entry)) (now (w .entry)) (now (w .exit)) (now (pairs .entry)) start n frame deep left r ⌝ }
 {
-    let mut k = chain_count(pairs, 2);
+    let mut k = rules::chain_count(pairs, 2);
     let mut at: usize = 4;
     let mut fuel = left;
     while 0 < k {
@@ -707,7 +664,7 @@ fn apply(
         }
         let args = arena::gather(w, pairs, at + 2, words::word(pairs, at + 1), vars);
         let given = args.vars;
-        let rule = rule_at(starts, a);
+        let rule = rules::rule_at(starts, a);
         let live = besides + args.total;
         let c = call(
             heads,
@@ -751,7 +708,7 @@ fn chain(
     requires { ⌜ Sound vars × (besides + n ≤ 6144) × (base ≤ 2 * besides) × (n ≤ 2048) × (16384 ≤ length (now w)) × (1 ≤ types) × (from ≤ 1024) ⌝ }
     ensures { λ r. ⌜ Chains (now (heads .entry)) (now (rows .entry)) types (now (book .entry)) (now (starts .entry)) (now (w .entry)) (now (w .exit)) (now (pairs .entry)) from base n vars besides deep left r ⌝ }
 {
-    let mut k = chain_count(pairs, from);
+    let mut k = rules::chain_count(pairs, from);
     let mut at = from + 2;
     let mut fuel = left;
     let mut nodes = n;
@@ -985,7 +942,7 @@ pub fn call(
 {
     let plan = rules::plan_of(types, book, at);
     let strategy = plan.strategy;
-    let repeats = again(strategy);
+    let repeats = rules::again(strategy);
     let mut nodes = n;
     let mut fuel = left;
     let mut count: u32 = 0;

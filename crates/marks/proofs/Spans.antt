@@ -12,10 +12,10 @@ use Rattle.words.proofs.Stretches.{drop-pair}
 use Rattle.grammar.specs.Grammar.{Grammar}
 use Rattle.grammar.specs.Kinds.{allowed, children}
 use Rattle.tables.specs.Tables.{Tables}
-use Rattle.tree.specs.Tree.{Trees, node, size, first, after}
+use Rattle.tree.specs.Tree.{Trees, size, first, after}
 use Rattle.tree.proofs.Trees.{tells, first-after, first-even, size-append}
 use Rattle.marks.specs.Marked.{typeIn, marked}
-use Rattle.marks.specs.Post.{span, MarkMade, NodeMarked, Unfinished, TreeMarked}
+use Rattle.marks.specs.Post.{span, MarkMade, NodeMarked, Unfinished}
 use Rattle.marks.proofs.Marks.{unmarked-type, unmarked-value}
 
 -- STRETCHES
@@ -221,10 +221,3 @@ module _ (Given : Grammar → Words → Type 0) (heads rows w₀ w : Words) (bas
       let b : base + (top - base) ≡ top = omega (arith, i .low, i .high) in
       let d : drop (top - base) (drop base w) ≡ drop top w₀ = drop-drop (top - base) base w ∙ ap (λ n. drop n w) b ∙ i .above in
       sym (take-append-drop base w) ∙ ap₂ (λ a b. a ++ b) front (sym (take-append-drop (top - base) (drop base w)) ∙ ap₂ (λ a b. a ++ b) m d)
-
--- where nothing is given besides
-abbrev pub Whatever : Grammar → Words → Type 0
-Whatever g ws = Unit {0}
-
-pub mark-end : (heads rows w₀ w : Words) (base place top p : ℕ) → MarkLoop Whatever heads rows w₀ w base place top p → place ≤ top → top ≤ length w₀ → p - base < 2 → TreeMarked heads rows w₀ w base place top
-mark-end heads rows w₀ w base place top p i up room few = record { long = i .long; marks = λ g t ws tb r s f. mark-all Whatever heads rows w₀ w base place top p i up room few g t ws tb r s f tt }

@@ -2,11 +2,11 @@
 -- stepped over and measured without being walked. Assumes nothing: these are definitions.
 use Prim.Native.Nat.{ℕ, _+_, _*_, _/_, _%_, _≤_}
 use mathlib.Core.Path.{_≡_}
-use mathlib.Core.List.{List, [], _∷_}
+use mathlib.Core.List.{List, [], _∷_, _++_}
 use lib.ListN.{length, take, drop}
 use Rattle.words.specs.Reader.{Words}
 use Rattle.grammar.specs.Grammar.{Grammar}
-use Rattle.tree.specs.Tree.{Tree, size, nesting, firstTree}
+use Rattle.tree.specs.Tree.{Trees, Tree, size, nesting, firstTree}
 
 -- the marked word of a node, of its type, and its tree's size and nesting
 unfoldable pub mark : ℕ → ℕ → ℕ → ℕ
@@ -46,3 +46,9 @@ pub record Stands (g : Grammar) (arena : Words) (start : ℕ) (ws : Words) : Typ
   pub tree : Tree g type ws
   pub inside : start + length ws ≤ length arena
   pub words : take (length ws) (drop start arena) ≡ marked g ws
+
+-- the words of a tree under way, as they lie there: its written nodes have no marks yet, the trees that were copied have theirs
+pub data UnderWay (g : Grammar) : Words → Words → Type 0 where
+  nothing : UnderWay g [] []
+  written : {l ws : Words} (t v : ℕ) → UnderWay g l ws → UnderWay g (t ∷ v ∷ l) (t ∷ v ∷ ws)
+  copied : {t : ℕ} {u l ws : Words} → Trees g (t ∷ []) u → UnderWay g l ws → UnderWay g (marked g u ++ l) (u ++ ws)

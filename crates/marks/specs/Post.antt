@@ -12,7 +12,7 @@ use Rattle.tree.specs.Limits.{mostNodes}
 use Rattle.tree.specs.Tree.{Trees, size, nesting, nodeNesting, firstTree}
 use Rattle.words.specs.Views.{equalWords}
 use Rattle.grammar.specs.Limits.{mostTypes}
-use Rattle.marks.specs.Marked.{typeIn, markOf, marked, unmarked, Stands}
+use Rattle.marks.specs.Marked.{typeIn, markOf, marked, unmarked, Stands, UnderWay}
 use Rattle.meaning.specs.Meaning.{put}
 
 -- r is the mark of a node (t, v), whose children's marked trees the words below begin with
@@ -30,6 +30,11 @@ pub record NodeMarked (heads rows w w′ : Words) (p top : ℕ) : Type 0 where
   pub made : MarkMade heads rows (typeIn (getD w p 0)) (getD w (p + 1) 0) (span w (p + 2) top) word
   pub stored : w′ ≡ set w p word
 
+-- the tree under way from base to top is marked, and nothing else is changed
+pub record TreeMarked (heads rows w w′ : Words) (base top : ℕ) : Type 0 where
+  pub long : length w′ ≡ length w
+  pub marks : (g : Grammar) (t : ℕ) (ws : Words) → Tables g heads rows → Trees g (t ∷ []) ws → size ws ≤ mostNodes → UnderWay g (span w base top) ws → w′ ≡ take base w ++ (marked g ws ++ drop top w)
+
 -- a tree stands from base to top: its words before the place are marked wrongly or not at all, those from there on rightly
 pub record Unfinished (g : Grammar) (w : Words) (base place top : ℕ) (ws : Words) : Type 0 where
   pub long : length ws ≡ top - base
@@ -37,11 +42,6 @@ pub record Unfinished (g : Grammar) (w : Words) (base place top : ℕ) (ws : Wor
   pub even : place - base ≡ 2 * half
   pub front : unmarked (span w base place) ≡ take (place - base) ws
   pub back : span w place top ≡ marked g (drop (place - base) ws)
-
--- such a tree is marked rightly, and nothing else is changed
-pub record TreeMarked (heads rows w w′ : Words) (base place top : ℕ) : Type 0 where
-  pub long : length w′ ≡ length w
-  pub marks : (g : Grammar) (t : ℕ) (ws : Words) → Tables g heads rows → Trees g (t ∷ []) ws → size ws ≤ mostNodes → Unfinished g w base place top ws → w′ ≡ take base w ++ (marked g ws ++ drop top w)
 
 -- the words before the place stand as in another marked tree, the old one, which begins with the same words
 pub record Kept (g : Grammar) (w : Words) (base place : ℕ) (ws : Words) : Type 0 where

@@ -93,26 +93,23 @@ fn mark_node(heads: &[u32; HEADS], rows: &[u8; ROWS], w: &mut [u32], p: usize, t
     w[p] = m;
 }
 
-// Marks the nodes before the place in the tree that stands from base to top, the last first: a node's children are marked before it.
-pub fn mark_tree(
-    heads: &[u32; HEADS],
-    rows: &[u8; ROWS],
-    w: &mut [u32],
-    base: usize,
-    place: usize,
-    top: usize,
-)
-    requires { ⌜ (base ≤ place) × (place ≤ top) × (top ≤ length (now w)) ⌝ }
-    ensures { λ _. ⌜ TreeMarked (now (heads .entry)) (now (rows .entry)) (now (w .entry)) (now (w .exit)) base place top ⌝ }
+// Marks the tree that stands from base to top, the last node first: a node's children are marked before it. What is marked is passed over: a copied tree has
+// its marks.
+pub fn mark_tree(heads: &[u32; HEADS], rows: &[u8; ROWS], w: &mut [u32], base: usize, top: usize)
+    requires { ⌜ (base ≤ top) × (top ≤ length (now w)) ⌝ }
+    ensures { λ _. ⌜ TreeMarked (now (heads .entry)) (now (rows .entry)) (now (w .entry)) (now (w .exit)) base top ⌝ }
 {
-    let mut p = place;
+    let mut p = top;
     while 2 <= p - base {
         p = p - 2;
-        mark_node(heads, rows, w, p, top);
+        if size_in(w[p]) == 0 {
+            mark_node(heads, rows, w, p, top);
+        }
     }
 }
 
-// The same where another tree is put in the place: only the nodes above it are marked again, since a tree that ended by the place has not changed.
+// Marks a tree anew that stands from base to top, where another tree was put in the place: only the nodes above it, since a tree that ended by the place has
+// not changed.
 fn mark_above(
     heads: &[u32; HEADS],
     rows: &[u8; ROWS],

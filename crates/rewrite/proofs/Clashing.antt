@@ -1,5 +1,5 @@
 -- Attempts that must fail: the matcher's loop without its variables, and the nodes that are passed over. Assumes nothing.
-use Prim.Native.Nat.{ℕ, zero, suc, _+_, _-_, _*_, _<_, _≤_}
+use Prim.Native.Nat.{ℕ, suc, _+_, _-_, _*_, _<_, _≤_}
 use mathlib.Core.Path.{_≡_, refl, sym, ap, _∙_}
 use mathlib.Core.Bool.{Bool, true, false}
 use mathlib.Core.Logic.{_⊎_, inl, inr, ⊎-elim}
@@ -16,7 +16,6 @@ use Rattle.rewrite.specs.Candidates.{Clashes, Passed, NextCandidate}
 use Rattle.rewrite.specs.declared.Vars.{Vars}
 use Rattle.rewrite.specs.declared.Verdict.the-variants.{Differs}
 use Rattle.rewrite.specs.declared.Matched.{Matched}
-use Rattle.rewrite.specs.declared.candidates.Candidate.{Candidate}
 use Rattle.rewrite.proofs.Matcher.{Going, going-start, going-type, going-value, going-node, new-other, new-past, new-taken}
 
 -- A PATTERN THAT MUST DIFFER
@@ -94,8 +93,8 @@ module _ (pairs w : Words) (target base end from last live left : ℕ) where
   passing-start = record { passed = 0; node-is = omega arith; inside = λ h. absurd (omega arith); nodes = refl }
 
   module _ (i fuel : ℕ) (pa : Passing i fuel) where
-    pub passing-done : NextCandidate pairs w target base end from last live left (record { node = i; left = fuel })
-    passing-done = record { passed = pa .passed; node-is = pa .node-is; inside = λ h. omega (arith, pa .inside h, pa .node-is); nodes = pa .nodes }
+    pub passing-done : (i < last → typeIn (getD w (base + 2 * i) 0) ≡ target) → NextCandidate pairs w target base end from last live left (record { node = i; left = fuel })
+    passing-done t = record { passed = pa .passed; node-is = pa .node-is; inside = λ h. omega (arith, pa .inside h, pa .node-is); nodes = pa .nodes; typed = t }
 
     module _ (h : i < last) (word : ℕ) (e : word ≡ getD w (base + 2 * i) 0) where
       there : word ≡ getD w (base + 2 * (from + pa .passed)) 0

@@ -1,18 +1,18 @@
 -- A tree that is finished: its marks, and what its first word says of its nesting. Assumes nothing.
 use Prim.Native.Nat.{ℕ, _+_, _-_, _*_, _<_, _≤_}
-use mathlib.Core.Path.{_≡_, sym, ap, _∙_}
+use mathlib.Core.Path.{_≡_, ap, _∙_}
 use mathlib.Core.List.{[], _∷_, _++_}
 use native.Mathlib.Omega.{arith}
-use lib.ListN.{length, getD, take, drop, drop-of-length-le}
-use lib.Seq.{take-at, drop-at, take-all, length-take-le}
+use lib.ListN.{length, getD, take, drop}
+use lib.Seq.{take-at, drop-at, length-take-le}
 use lib.Dec.{leb}
 use borrow.Author.Tests.{le-leb, lt-leb}
 use Rattle.words.specs.Reader.{Words, pick}
 use Rattle.grammar.specs.Grammar.{Grammar}
 use Rattle.tree.specs.Tree.{Trees, size, nesting}
 use Rattle.tree.proofs.Trees.{trees-even, tree-some}
-use Rattle.marks.specs.Marked.{nestingIn, marked, unmarked}
-use Rattle.marks.specs.Post.{Unfinished, TreeMarked}
+use Rattle.marks.specs.Marked.{nestingIn, marked}
+use Rattle.marks.specs.Post.{TreeMarked}
 use Rattle.marks.proofs.Marks.{marked-length}
 use Rattle.marks.proofs.Marking.{child-of}
 use Rattle.marks.proofs.Spans.{word-there}
@@ -25,27 +25,14 @@ nesting-there {g} {t} w ws at n l r s few e =
     let f = whole-first ws r in
     child-of g t [] ws (getD w at 0) l (rw f (omega arith)) r (word-there w (marked g ws) at (2 * n) e (omega (arith, tree-some ws r))) .nested ∙ ap (nesting g) f
 
--- no node is marked yet
-pub none-marked : (g : Grammar) (w ws : Words) (top n : ℕ) → length ws ≡ 2 * n → unmarked (take (2 * n) (drop top w)) ≡ ws → Unfinished g w top (top + 2 * n) (top + 2 * n) ws
-unfolding marked
-none-marked g w ws top n l e =
-    let z : top + 2 * n - top ≡ 2 * n = omega arith in
-    let y : top + 2 * n - (top + 2 * n) ≡ 0 = omega arith in
-    record {
-      long = omega arith;
-      half = n;
-      even = z;
-      front = rw z (e ∙ sym (take-all (2 * n) ws (omega arith)));
-      back = rw (y, z, drop-of-length-le ws {i = 2 * n} (omega arith));
-    }
-
-module _ (heads rows w w′ : Words) (top n k : ℕ) (room : top + 2 * n ≤ length w) (m : TreeMarked heads rows w w′ top (top + 2 * n) (top + 2 * n)) (ek : k ≡ nestingIn (getD w′ top 0)) where
+module _ (heads rows w w′ : Words) (top n k : ℕ) (room : top + 2 * n ≤ length w) (m : TreeMarked heads rows w w′ top (top + 2 * n)) (ek : k ≡ nestingIn (getD w′ top 0)) where
   closed : (r : ℕ) → r ≡ pick (leb k 64) 0 43 → Closed heads rows w w′ top n r
   closed r er = record {
     long = m .long;
     closed = λ g u ws tb t s few e.
         let l : length ws ≡ 2 * n = omega (arith, trees-even t) in
-        let is = m .marks g u ws tb t (omega arith) (none-marked g w ws top n l e) in
+        let z : top + 2 * n - top ≡ 2 * n = omega arith in
+        let is = m .marks g u ws tb t (omega arith) (rw z e) in
         let front = length-take-le top w (omega arith) in
         let stands : take (2 * n) (drop top w′) ≡ marked g ws =
         ap (λ x. take (2 * n) (drop top x)) is ∙ ap (take (2 * n)) (drop-at (take top w) (marked g ws ++ drop (top + 2 * n) w) top front) ∙ take-at (marked g ws) (drop (top + 2 * n) w) (2 * n) (marked-length g ws ∙ l) in (

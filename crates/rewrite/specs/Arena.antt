@@ -17,7 +17,7 @@ use Rattle.meaning.specs.Computation.{Result, ok, stop, stuck}
 use Rattle.meaning.specs.Operations.{compute}
 use Rattle.meaning.specs.Meaning.{Env, total, variables, put}
 use Rattle.operations.specs.Operating.{argumentsOf}
-use Rattle.marks.specs.Marked.{marked, unmarked, Stands}
+use Rattle.marks.specs.Marked.{marked, Stands, UnderWay}
 use Rattle.rewrite.specs.Vars.{EnvAt, startsOf, Sound}
 use Rattle.rewrite.specs.declared.Vars.{Vars}
 use Rattle.rewrite.specs.declared.arena.Args.{Args}
@@ -41,10 +41,10 @@ pub record Gathered (w pairs : Words) (at n : ℕ) (vars : Vars) (r : Args) : Ty
   pub stands : (g : Grammar) (top : ℕ) (env args : Env) (left : ℕ) → length g ≤ mostTypes → EnvAt g (take top w) (startsOf vars) env → n ≤ 16
       → variables env (arguments n (drop at pairs)) left ≡ ok args left → EnvAt g (take top w) (startsOf (r .vars)) args × (r .total ≡ total args)
 
--- the tree of n nodes at top, marked wrongly or not at all, is marked, and r is 43 if it nests too deep
+-- the tree of n nodes under way at top is marked, and r is 43 if it nests too deep
 pub record Closed (heads rows w w′ : Words) (top n r : ℕ) : Type 0 where
   pub long : length w′ ≡ length w
-  pub closed : (g : Grammar) (u : ℕ) (ws : Words) → Tables g heads rows → Trees g (u ∷ []) ws → size ws ≡ n → n ≤ mostNodes → unmarked (take (2 * n) (drop top w)) ≡ ws
+  pub closed : (g : Grammar) (u : ℕ) (ws : Words) → Tables g heads rows → Trees g (u ∷ []) ws → size ws ≡ n → n ≤ mostNodes → UnderWay g (take (2 * n) (drop top w)) ws
       → (take top w′ ≡ take top w) × (take (2 * n) (drop top w′) ≡ marked g ws) × (r ≡ pick (leb (nesting g ws) mostNesting) 0 43)
 
 -- a marked tree of n nodes stands at base

@@ -2,7 +2,7 @@
 use Prim.Native.Nat.{ℕ, zero, suc, _+_, _-_, _*_, _<_, _≤_}
 use mathlib.Core.Path.{_≡_}
 use mathlib.Core.Logic.{_⊎_}
-use lib.ListN.{getD, take, drop}
+use lib.ListN.{getD}
 use Rattle.words.specs.Reader.{Words}
 use Rattle.marks.specs.Marked.{typeIn}
 use Rattle.marks.specs.Post.{span}
@@ -24,9 +24,10 @@ Passed pairs w target base end live from left (suc k) now =
     ((typeIn (getD w (base + 2 * (from + k)) 0) ≡ target → ⊥) × Passed pairs w target base end live from left k now)
     ⊎ ((typeIn (getD w (base + 2 * (from + k)) 0) ≡ target) × Clashes pairs (span w (base + 2 * (from + k)) end) live × Passed pairs w target base end live from left k (suc now))
 
--- the nodes from `from` to the one that is given are passed over
+-- the nodes from `from` to the one that is given are passed over; that is of the target's type, unless none is left
 pub record NextCandidate (pairs w : Words) (target base end from last live left : ℕ) (r : Candidate) : Type 0 where
   pub passed : ℕ
   pub node-is : r .node ≡ from + passed
   pub inside : 0 < passed → from + passed ≤ last
   pub nodes : Passed pairs w target base end live from left passed (r .left)
+  pub typed : r .node < last → typeIn (getD w (base + 2 * r .node) 0) ≡ target

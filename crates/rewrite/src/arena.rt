@@ -141,7 +141,7 @@ pub fn close(heads: &[u32; HEADS], rows: &[u8; ROWS], w: &mut [u32], top: usize,
     ensures { λ r. ⌜ Closed (now (heads .entry)) (now (rows .entry)) (now (w .entry)) (now (w .exit)) top n r ⌝ }
 {
     let end = top + 2 * n;
-    marks::mark_tree(heads, rows, w, top, end, end);
+    marks::mark_tree(heads, rows, w, top, end);
     let deepest = marks::nesting_in(words::word(w, top));
     if MOST_NESTING < deepest {
         return 43;

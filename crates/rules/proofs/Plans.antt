@@ -1,12 +1,12 @@
--- Laws of reading a book that has passed: the pairs at a place, and the plan of a rule. Assumes nothing.
-use Prim.Native.Nat.{ℕ, _+_, _-_, _*_, _/_, _%_, _≤_}
+-- Laws of reading a book that has passed: the pairs at a place, the plan of a rule, and what a call asks of them. Assumes nothing.
+use Prim.Native.Nat.{ℕ, zero, suc, _+_, _-_, _*_, _/_, _%_, _<_, _≤_}
 use mathlib.Core.Path.{_≡_, refl, sym, ap, _∙_, subst}
 use mathlib.Core.List.{List, []}
 use mathlib.Core.Bool.{Bool, true, false}
 use mathlib.Core.Option.{Option, none, some}
 use native.Mathlib.Omega.{arith}
 use lib.ListN.{length, getD, take, drop, length-take}
-use borrow.Author.Tests.{eq-eqb, ne-eqb}
+use borrow.Author.Tests.{eq-eqb, ne-eqb, lt-leb, le-leb}
 use Rattle.words.specs.Reader.{Words, Read, value, _>>=_, return, many}
 use Rattle.words.specs.declared.Check.{Check}
 use Rattle.words.specs.declared.Check.the-variants.{Passed, Refused}
@@ -17,11 +17,12 @@ use Rattle.words.proofs.Laws.{read-word, read-bad, then-value, in-value, many-n
 use Rattle.rules.specs.Limits.{mostParameters, mostParts}
 use Rattle.rules.specs.Rules.{Part, Piece, Rule, pieces, shapes}
 use Rattle.rules.specs.Layout.{Head, bit, onlyIf, stretch, field, pairs, replacement, head, part, parts, rule}
+use Rattle.rules.specs.declared.Strategy.the-variants.{RootOnly}
 use Rattle.rules.specs.declared.Plan.{Plan}
 use Rattle.rules.specs.declared.Head.{Head as HeadFound}
 use Rattle.rules.specs.declared.HeadRead.{HeadRead}
 use Rattle.rules.specs.declared.HeadRead.the-variants.{Header, NoHead}
-use Rattle.rules.specs.Views.{headRead, strategyAs, pairsAt, partCount, Planned}
+use Rattle.rules.specs.Views.{headRead, strategyAs, pairsAt, partCount, Planned, triedOf, chainCount}
 use Rattle.rules.proofs.Laws.{pairs-passed, pairs-refused, rule-bad, rule-pattern}
 use Rattle.rules.proofs.Laid.{pairs-extent, pairs-at, pairs-value, head-few, RuleRead, rule-value}
 
@@ -151,3 +152,22 @@ module _ (types : ℕ) (ws : Words) (at : ℕ) where
                   replacement = λ ps o. replacement-pieces ws (u .h .map) (u .n₂) (u .replacement-read) ps (ap (λ x. x .replacement) (u .is) ∙ o);
                   few = subst (λ x. length (x .parameters) ≤ mostParameters) (u .is) (head-few types ws at (u .h) (u .n₀) (u .header));
                 }
+
+-- HOW MANY NODES ARE TRIED
+
+pub tried-some : (n : ℕ) → 0 < n → 1 ≡ triedOf RootOnly n
+tried-some zero h = absurd (omega arith)
+tried-some (suc n) h = refl
+
+pub tried-none : (n : ℕ) → (0 < n → ⊥) → 0 ≡ triedOf RootOnly n
+tried-none zero h = refl
+tried-none (suc n) h = absurd (h (omega arith))
+
+-- HOW MANY APPLICATIONS A CHAIN HAS
+
+module _ (pairs : Words) (at k : ℕ) (e : k ≡ getD pairs at 0) where
+  pub count-over : 4 < k → 0 ≡ chainCount pairs at
+  count-over h = rw (lt-leb (getD pairs at 0) 4 (omega arith))
+
+  pub count-is : k ≤ 4 → k ≡ chainCount pairs at
+  count-is h = rw (le-leb (getD pairs at 0) 4 (omega arith)) e

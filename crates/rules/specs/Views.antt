@@ -1,5 +1,5 @@
 -- What the code hands back of a reading: the paper's numbers and positions for each case of its enums. Assumes nothing: these are definitions.
-use Prim.Native.Nat.{ℕ, _+_, _-_, _*_, _≤_}
+use Prim.Native.Nat.{ℕ, zero, suc, _+_, _-_, _*_, _≤_}
 use mathlib.Core.Path.{_≡_}
 use mathlib.Core.List.{List, []}
 use mathlib.Core.Bool.{Bool, true, false}
@@ -10,7 +10,7 @@ use Rattle.words.specs.Reader.{Words, pick, Read, value, refused, Reader, many,
 use Rattle.words.specs.declared.Got.{Got}
 use Rattle.words.specs.declared.Got.the-variants.{Word, Bad}
 use Rattle.rules.specs.Rules as Rules
-use Rattle.rules.specs.Limits.{mostParameters, mostParts}
+use Rattle.rules.specs.Limits.{mostParameters, mostParts, mostApplications}
 use Rattle.rules.specs.Rules.{rootOnly, firstMatch, exhaustive, Piece, Rule, shapes, pieces}
 use Rattle.rules.specs.Layout as Layout
 use Rattle.rules.specs.Layout.{PartAt, deconstructAt, constructAt, conditionAt, bit, onlyIf, field}
@@ -81,3 +81,22 @@ pub record Planned (types : ℕ) (ws : Words) (r : Rule) (p : Plan) : Type 0 whe
   pub parts : many (p .count) (Layout.part types ws) (p .first) ≡ value (r .parts) end
   pub replacement : (ps : List Piece) → r .replacement ≡ some ps → ps ≡ pieces (pairsAt ws end)
   pub few : length (r .parameters) ≤ mostParameters
+
+-- WHAT A CALL ASKS OF ITS PLAN AND BOOK
+
+-- how many nodes are tried at most: all, or the root alone
+abbrev pub triedOf : Strategy → ℕ → ℕ
+triedOf RootOnly zero = 0
+triedOf RootOnly (suc n) = 1
+triedOf FirstMatch n = n
+triedOf Exhaustive n = n
+
+-- does the search begin again after a replacement?
+abbrev pub againOf : Strategy → Bool
+againOf RootOnly = false
+againOf FirstMatch = false
+againOf Exhaustive = true
+
+-- a chain's count; 0, if that is no count
+abbrev pub chainCount : Words → ℕ → ℕ
+chainCount pairs at = pick (leb (getD pairs at 0) mostApplications) (getD pairs at 0) 0

@@ -1,20 +1,22 @@
 // The rule book: the readers of a rule's head, of a part and of a rule (20, 21, each with its position).
+use limits::MOST_APPLICATIONS;
 use limits::MOST_PAIRS;
 use limits::MOST_PARAMETERS;
 use limits::MOST_PARTS;
+use limits::STARTS;
 use words::Check;
 use words::Got;
 ghost use mathlib.Core.Path.{_≡_};
 ghost use mathlib.Core.Bool.{false};
 ghost use Prim.Native.Nat.{ℕ, _+_, _<_, _≤_};
-ghost use lib.ListN.{length};
+ghost use lib.ListN.{length, getD};
 ghost use Rattle.words.specs.Reader as Reading;
 ghost use Rattle.words.specs.Reader.{value};
 ghost use Rattle.words.specs.Views.{answer, got};
 ghost use Rattle.rules.specs.Layout as Layout;
 ghost use Rattle.rules.specs.Rules.{Rule};
 ghost use Rattle.rules.specs.declared.Part.the-variants as Variant;
-ghost use Rattle.rules.specs.Views.{partAs, partRead, searchedType, headRead, counted, strategyAs, pairsAt, pairsEnd, partCount, Planned};
+ghost use Rattle.rules.specs.Views.{partAs, partRead, searchedType, headRead, counted, strategyAs, pairsAt, pairsEnd, partCount, Planned, triedOf, againOf, chainCount};
 
 pub mod limits;
 
@@ -553,4 +555,44 @@ pub fn plan_of(types: u32, ws: &[u32], at: usize) -> Plan
             }
         }
     }
+}
+
+// WHAT A CALL ASKS OF ITS PLAN AND BOOK
+
+// How many nodes are tried at most: all, or the root alone.
+pub fn tried(strategy: Strategy, n: usize) -> usize
+    ensures { λ r. ⌜ r ≡ triedOf strategy n ⌝ }
+{
+    match strategy {
+        Strategy::RootOnly => { if 0 < n { 1 } else { 0 } }
+        Strategy::FirstMatch => n,
+        Strategy::Exhaustive => n,
+    }
+}
+
+// Does the search begin again after a replacement?
+pub fn again(strategy: Strategy) -> bool
+    ensures { λ r. ⌜ r ≡ againOf strategy ⌝ }
+{
+    match strategy {
+        Strategy::RootOnly => false,
+        Strategy::FirstMatch => false,
+        Strategy::Exhaustive => true,
+    }
+}
+
+// Where rule n stands.
+pub fn rule_at(starts: &[usize; STARTS], n: u32) -> usize
+    ensures { λ r. ⌜ (n < 64 → r ≡ getD (now (starts .entry)) n 0) ⌝ }
+{
+    let i = words::wide(n);
+    if i < STARTS { starts[i] } else { 0 }
+}
+
+// How many applications a chain has, its count at `at`; 0, if that is no count.
+pub fn chain_count(pairs: &[u32], at: usize) -> u32
+    ensures { λ r. ⌜ (r ≡ chainCount (now (pairs .entry)) at) × (r ≤ 4) ⌝ }
+{
+    let k = words::word(pairs, at);
+    if MOST_APPLICATIONS < k { 0 } else { k }
 }

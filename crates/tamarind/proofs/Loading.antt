@@ -1,5 +1,5 @@
 -- The tree is put at the bottom of work memory: the loop that copies it, and its marks. Assumes nothing.
-use Prim.Native.Nat.{ℕ, suc, _+_, _*_, _/_, _<_, _≤_}
+use Prim.Native.Nat.{ℕ, suc, _+_, _-_, _*_, _/_, _<_, _≤_}
 use mathlib.Core.Path.{_≡_, refl, sym, ap, _∙_}
 use mathlib.Core.List.{_++_}
 use native.Mathlib.Omega.{arith}
@@ -13,12 +13,11 @@ use Rattle.grammar.specs.Grammar.{Grammar}
 use Rattle.tables.specs.Tables.{Tables}
 use Rattle.tree.specs.Tree.{Tree, size}
 use Rattle.tree.proofs.Trees.{trees-even}
-use Rattle.marks.specs.Marked.{marked, unmarked}
-use Rattle.marks.specs.Post.{Unfinished, TreeMarked}
+use Rattle.marks.specs.Marked.{marked, UnderWay}
+use Rattle.marks.specs.Post.{span, TreeMarked}
 use Rattle.marks.proofs.Marks.{marked-length}
-use Rattle.marks.proofs.Same.{unmarked-same}
+use Rattle.marks.proofs.Laying.{under-plain}
 use Rattle.rewrite.specs.Arena.{Standing}
-use Rattle.rewrite.proofs.Closing.{none-marked}
 use Rattle.tamarind.specs.Run.{Laid}
 
 -- the first i words are there
@@ -51,16 +50,14 @@ module _ (heads rows tree w w₁ w₂ : Words) (room : length tree ≤ length w)
   loaded-tree : take (length tree) w₁ ≡ tree
   loaded-tree = ap (take (length tree)) e ∙ take-at tree (drop (length tree) w) (length tree) refl
 
-  pub laid : TreeMarked heads rows w₁ w₂ 0 (length tree) (length tree) → Laid heads rows tree w w₂
+  pub laid : TreeMarked heads rows w₁ w₂ 0 (length tree) → Laid heads rows tree w w₂
   laid m = record { long = m .long ∙ loaded-long; stands = stands }
     where
       stands : (g : Grammar) (t : ℕ) → Tables g heads rows → Tree g t tree → Standing g w₂ 0 (length tree / 2) t tree
       stands g t tb tr =
-          let few = tb .rows-of .types in
           let n : length tree / 2 ≡ size tree = omega (arith, trees-even (tr .typed)) in
-          let k : 0 + 2 * size tree ≡ length tree = omega (arith, trees-even (tr .typed)) in
           let j : 2 * size tree ≡ length tree = omega (arith, trees-even (tr .typed)) in
-          let plain : unmarked (take (2 * size tree) (drop 0 w₁)) ≡ tree = ap (λ i. unmarked (take i w₁)) j ∙ ap unmarked loaded-tree ∙ unmarked-same few (tr .typed) in
-          let u : Unfinished g w₁ 0 (length tree) (length tree) tree = rw k at (none-marked g w₁ tree 0 (size tree) (trees-even (tr .typed)) plain) in
+          let z : length tree - 0 ≡ length tree = omega arith in
+          let u : UnderWay g (span w₁ 0 (length tree)) tree = rw (z, loaded-tree) (under-plain (tr .typed)) in
           let all : w₂ ≡ marked g tree ++ drop (length tree) w₁ = m .marks g t tree tb (tr .typed) (tr .nodes) u in
           record { tree = tr; nodes = sym n; words = ap (λ i. take (2 * i) w₂) n ∙ ap (λ i. take i w₂) j ∙ ap (take (length tree)) all ∙ take-at (marked g tree) (drop (length tree) w₁) (length tree) (marked-length g tree) }

@@ -198,7 +198,7 @@ fn lay_tree(heads: &[u32; HEADS], rows: &[u8; ROWS], tree: &[u32], work: &mut [u
 {
     let end = tree.len();
     load(tree, work);
-    marks::mark_tree(heads, rows, work, 0, end, end);
+    marks::mark_tree(heads, rows, work, 0, end);
 }
 
 // The answer that the first call gives, with so many words filled.

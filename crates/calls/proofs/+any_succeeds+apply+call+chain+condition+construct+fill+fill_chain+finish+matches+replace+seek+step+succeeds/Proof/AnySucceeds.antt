@@ -7,7 +7,7 @@ use borrow.Author.Needs.{needs}
 use Rattle.calls.proofs.any_succeeds.Reads as any-succeeds
 use Rattle.calls.proofs.succeeds.Reads as succeeds
 use Rattle.calls.proofs.+any_succeeds+apply+call+chain+condition+construct+fill+fill_chain+finish+matches+replace+seek+step+succeeds.Lts-any_succeeds as any-succeeds-lts
-use Rattle.calls.proofs.chain_count.Reads as chain-count-reads
+use Rattle.rules.proofs.chain_count.Reads as chain-count-reads
 use Rattle.words.proofs.wide.Reads as wide-reads
 use Rattle.words.proofs.word.Reads as word-reads
 use Rattle.calls.proofs.+any_succeeds+apply+call+chain+condition+construct+fill+fill_chain+finish+matches+replace+seek+step+succeeds.Proof.Common.{any-succeeds-at, succeeds-below}

@@ -13,7 +13,7 @@ use Rattle.rewrite.proofs.arena.compute_at.Reads as compute-at-reads
 use Rattle.rewrite.proofs.arena.value_of.Reads as value-of-reads
 use Rattle.rewrite.proofs.arena.gather.Reads as gather-reads
 use Rattle.calls.proofs.building.Reads as building-reads
-use Rattle.calls.proofs.rule_at.Reads as rule-at-reads
+use Rattle.rules.proofs.rule_at.Reads as rule-at-reads
 use Rattle.words.proofs.word.Reads as word-reads
 use Rattle.calls.proofs.+any_succeeds+apply+call+chain+condition+construct+fill+fill_chain+finish+matches+replace+seek+step+succeeds.Proof.Common.{apply-at, call-below}
 

@@ -7,7 +7,7 @@ use Rattle.calls.proofs.call.Reads as call
 use Rattle.calls.proofs.replace.Reads as replace
 use Rattle.calls.proofs.seek.Reads as seek
 use Rattle.calls.proofs.+any_succeeds+apply+call+chain+condition+construct+fill+fill_chain+finish+matches+replace+seek+step+succeeds.Lts-call as call-lts
-use Rattle.calls.proofs.again.Reads as again-reads
+use Rattle.rules.proofs.again.Reads as again-reads
 use Rattle.calls.proofs.calling.Reads as calling-reads
 use Rattle.rules.proofs.plan_of.Reads as plan-of-reads
 use Rattle.calls.proofs.+any_succeeds+apply+call+chain+condition+construct+fill+fill_chain+finish+matches+replace+seek+step+succeeds.Proof.Common.{call-at, replace-below, seek-below}

@@ -8,7 +8,7 @@ use Rattle.calls.proofs.apply.Reads as apply
 use Rattle.calls.proofs.chain.Reads as chain
 use Rattle.calls.proofs.+any_succeeds+apply+call+chain+condition+construct+fill+fill_chain+finish+matches+replace+seek+step+succeeds.Lts-chain as chain-lts
 use Rattle.calls.proofs.building.Reads as building-reads
-use Rattle.calls.proofs.chain_count.Reads as chain-count-reads
+use Rattle.rules.proofs.chain_count.Reads as chain-count-reads
 use Rattle.words.proofs.wide.Reads as wide-reads
 use Rattle.words.proofs.word.Reads as word-reads
 use Rattle.calls.proofs.+any_succeeds+apply+call+chain+condition+construct+fill+fill_chain+finish+matches+replace+seek+step+succeeds.Proof.Common.{chain-at, apply-below}

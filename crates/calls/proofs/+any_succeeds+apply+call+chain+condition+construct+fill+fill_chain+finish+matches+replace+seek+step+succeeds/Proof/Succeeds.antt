@@ -10,7 +10,7 @@ use Rattle.calls.proofs.succeeds.Reads as succeeds
 use Rattle.calls.proofs.+any_succeeds+apply+call+chain+condition+construct+fill+fill_chain+finish+matches+replace+seek+step+succeeds.Lts-succeeds as succeeds-lts
 use Rattle.rewrite.proofs.arena.value_of.Reads as value-of-reads
 use Rattle.rewrite.proofs.arena.gather.Reads as gather-reads
-use Rattle.calls.proofs.rule_at.Reads as rule-at-reads
+use Rattle.rules.proofs.rule_at.Reads as rule-at-reads
 use Rattle.operations.proofs.holds.Reads as holds-reads
 use Rattle.words.proofs.word.Reads as word-reads
 use Rattle.calls.proofs.+any_succeeds+apply+call+chain+condition+construct+fill+fill_chain+finish+matches+replace+seek+step+succeeds.Proof.Common.{succeeds-at, matches-below}

@@ -1,9 +1,8 @@
 -- `rewrite::candidates::next_candidate` meets its contract. Assumes nothing.
 use Rattle.rewrite.proofs.Clashing.{Passing, passing-start, passing-done, passing-other, passing-clash}
-use borrow.Author.Tests.{not-true, not-false}
-use mathlib.Core.Path.{_≡_, refl, sym, ap, _∙_}
-use Prim.Native.Nat.{ℕ, _+_, _*_, _-_, _≤_, _<_}
-use lib.ListN.{length}
+use borrow.Author.Tests.{not-false}
+use mathlib.Core.Path.{refl, sym, _∙_}
+use Prim.Native.Nat.{_-_}
 use native.Mathlib.Omega.{arith}
 use borrow.Author.Needs.{needs}
 use Rattle.rewrite.proofs.candidates.next_candidate.Statement.{statement}
@@ -47,7 +46,7 @@ loop-again : tie.Need-loop-again Inv-loop μ-loop
 loop-again c = passing-other _ _ _ _ _ _ _ _ _ _ _ (c .before .before .before .before .loop .inv) (c .before .before .before .loop-test .taken) _ refl (λ q. c .if1 .taken (c .before .type-in .ensures ∙ q))
 
 returns : tie.Need-returns Inv-loop μ-loop
-returns c = passing-done _ _ _ _ _ _ _ _ _ _ _ (c .before .before .before .before .before .loop .inv)
+returns c = passing-done _ _ _ _ _ _ _ _ _ _ _ (c .before .before .before .before .before .loop .inv) (λ h. sym (c .before .before .type-in .ensures) ∙ c .before .if1 .left)
 
 mul-clashes : tie.Need-mul-clashes Inv-loop μ-loop
 mul-clashes c = let h = c .before .before .before .before .before .before .before .before .pre .2 (omega (arith, c .before .before .before .before .loop-test .taken)) in omega (arith, h .0, h .1, c .before .before .before .before .loop-test .taken)
@@ -65,7 +64,7 @@ clashes-requires : tie.Need-clashes-requires Inv-loop μ-loop
 clashes-requires c κs = (c .before .before .before .before .before .before .before .before .before .pre .0, c .before .before .before .before .before .before .before .before .before .pre .1)
 
 returns-2 : tie.Need-returns-2 Inv-loop μ-loop
-returns-2 c = passing-done _ _ _ _ _ _ _ _ _ _ _ (c .before .before .before .before .before .before .before .before .loop .inv)
+returns-2 c = passing-done _ _ _ _ _ _ _ _ _ _ _ (c .before .before .before .before .before .before .before .before .loop .inv) (λ h. sym (c .before .before .before .before .before .type-in .ensures) ∙ c .before .before .before .before .if1 .left)
 
 sub-left : tie.Need-sub-left Inv-loop μ-loop
 sub-left c = omega (arith, c .before .before .before .if2 .left)
@@ -80,7 +79,7 @@ loop-again-2 : tie.Need-loop-again-2 Inv-loop μ-loop
 loop-again-2 c = passing-clash _ _ _ _ _ _ _ _ _ _ _ (c .before .before .before .before .before .before .before .before .loop .inv) (c .before .before .before .before .before .before .before .loop-test .taken) _ refl (sym (c .before .before .before .before .before .type-in .ensures) ∙ c .before .before .before .before .if1 .left) _ (omega (arith, c .before .before .before .if2 .left)) _ refl (c .before .clashes .ensures (not-false _ (c .if3 .left)))
 
 returns-3 : tie.Need-returns-3 Inv-loop μ-loop
-returns-3 c = passing-done _ _ _ _ _ _ _ _ _ _ _ (c .before .loop .inv)
+returns-3 c = passing-done _ _ _ _ _ _ _ _ _ _ _ (c .before .loop .inv) (λ h. absurd (omega (arith, c .loop-test .left)))
 
 pub next-candidate-spec : {M : Type 1} → statement M
 next-candidate-spec =

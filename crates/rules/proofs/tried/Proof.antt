@@ -1,9 +1,9 @@
--- `calls::tried` meets its contract. Assumes nothing.
-use Rattle.calls.proofs.Searching.{tried-some, tried-none}
+-- `rules::tried` meets its contract. Assumes nothing.
+use Rattle.rules.proofs.Plans.{tried-some, tried-none}
 use native.Mathlib.Omega.{arith}
 use borrow.Author.Needs.{needs}
-use Rattle.calls.proofs.tried.Statement.{statement}
-use Rattle.calls.proofs.tried.Tie as tie
+use Rattle.rules.proofs.tried.Statement.{statement}
+use Rattle.rules.proofs.tried.Tie as tie
 
 enum-told : tie.Need-enum-told
 enum-told c = search needs

@@ -1,9 +1,9 @@
--- `calls::chain_count` meets its contract. Assumes nothing.
+-- `rules::chain_count` meets its contract. Assumes nothing.
 use native.Mathlib.Omega.{arith}
-use Rattle.calls.proofs.Chains.{count-over, count-is}
+use Rattle.rules.proofs.Plans.{count-over, count-is}
 use borrow.Author.Needs.{needs}
-use Rattle.calls.proofs.chain_count.Statement.{statement}
-use Rattle.calls.proofs.chain_count.Tie as tie
+use Rattle.rules.proofs.chain_count.Statement.{statement}
+use Rattle.rules.proofs.chain_count.Tie as tie
 
 word-requires : tie.Need-word-requires
 word-requires c κs = search needs

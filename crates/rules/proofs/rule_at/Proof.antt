@@ -1,10 +1,10 @@
--- `calls::rule_at` meets its contract. Assumes nothing.
+-- `rules::rule_at` meets its contract. Assumes nothing.
 use mathlib.Core.Path.{ap}
 use native.Mathlib.Omega.{arith}
 use lib.ListN.{getD}
 use borrow.Author.Needs.{needs}
-use Rattle.calls.proofs.rule_at.Statement.{statement}
-use Rattle.calls.proofs.rule_at.Tie as tie
+use Rattle.rules.proofs.rule_at.Statement.{statement}
+use Rattle.rules.proofs.rule_at.Tie as tie
 
 wide-requires : tie.Need-wide-requires
 wide-requires c κs = search needs
