@@ -4,6 +4,7 @@ use mathlib.Core.Path.{_≡_, refl, sym, ap, _∙_}
 use mathlib.Core.List.{List, [], map}
 use mathlib.Core.Bool.{Bool, true, false}
 use native.Mathlib.Omega.{arith}
+use native.Mathlib.Nat.{add-zero}
 use lib.ListN.{length, getD}
 use lib.Dec.{eqb}
 use borrow.Author.Tests.{ne-eqb, lt-ltb, le-ltb, lt-leb}
@@ -20,14 +21,13 @@ use Rattle.rules.specs.Views.{headRead, strategyAs}
 use Rattle.rules.specs.declared.Head.{Head as HeadFound}
 use Rattle.rules.specs.declared.HeadRead.{HeadRead}
 use Rattle.rules.specs.declared.HeadRead.the-variants.{Header, NoHead}
-use Rattle.rules.specs.declared.Strategy.{Strategy}
-use Rattle.rules.specs.declared.Strategy.the-variants.{RootOnly}
-use Rattle.judgement.specs.Typing.{Place, inPattern, inReplacement, inCondition, aTree, aChain, applicationCount, application, argument, numberArgument, Context, meets, appliesRule, appliesOperation, fitsScope, usable, noRule}
-use Rattle.pairs.specs.declared.Met.{Met}
-use Rattle.pairs.specs.declared.Met.the-variants.{Bad, Top}
-use Rattle.pairs.specs.Views.{dueOf, Pushed, Meets, wordsAt, Headed, Book, searchesAs, appliesMap, ruleUsable, argumentsCounted}
-use Rattle.pairs.proofs.Stack.{arguments-length, tree-due, chain-due, count-due, application-due, argument-due}
-use Rattle.pairs.proofs.Pairs.{arguments-other, arguments-met}
+use Rattle.judgement.specs.Typing.{Place, inPattern, inReplacement, inCondition, aTree, aChain, applicationCount, application, argument, numberArgument, Context, meets, appliesRule, appliesOperation, fitsScope, usable, argumentsDue, noRule}
+use Rattle.dues.specs.declared.Met.{Met}
+use Rattle.dues.specs.declared.Met.the-variants.{Bad, Top}
+use Rattle.dues.specs.Views.{dueOf, Pushed, Meets, wordsAt, searchesAs, appliesMap, operationDue, argumentsCounted}
+use Rattle.dues.proofs.Stack.{arguments-length, tree-due, chain-due, count-due, application-due, argument-due}
+use Rattle.dues.proofs.Pairs.{arguments-other, arguments-met}
+use Rattle.pairs.specs.Views.{Headed, Book, ruleUsable}
 
 -- A RULE'S PARAMETERS ARE THE WORDS BEFORE ITS PATTERN
 
@@ -206,16 +206,26 @@ module _ (g : Grammar) (rules : Rules) (here : Place) (s a : ℕ) (ws starts : W
     unfolding usable
     usable-number i k = k ∙ rw (le-ltb a (length rules) (rule-not-there h), ← eb, i)
 
--- WHERE RULES STAND
+-- AN APPLICATION
 
-pub start-at : (starts : Words) (a : ℕ) {x : ℕ} → x ≡ a → getD starts x 0 ≡ getD starts a 0
-start-at starts a e = rw e
+module _ (g : Grammar) (rules : Rules) (here : Place) (s t v at sp : ℕ) (st : Words) (Γ : Context) {b : Bool} (eb : b ≡ usable g rules here s t) where
+  pub application-unusable : b ≡ false → Meets (Bad 22 at) Γ st sp st (meets g rules here (application s) Γ t v at)
+  unfolding meets
+  application-unusable h = rw (← eb, h, add-zero at) (record { says = refl })
+
+  module _ (h : b ≡ true) {m : Met} {st′ : Words} where
+    pub application-rule : t < length rules → Meets m Γ st sp st′ (argumentsCounted (map argument (getD rules t noRule .parameters)) Γ v at) → Meets m Γ st sp st′ (meets g rules here (application s) Γ t v at)
+    unfolding meets argumentsDue argumentsCounted
+    application-rule l k = rw (← eb, h, lt-ltb t (length rules) l) k
+
+    pub application-operation : length rules ≤ t → Meets m Γ st sp st′ (argumentsCounted (operationDue t) Γ v at) → Meets m Γ st sp st′ (meets g rules here (application s) Γ t v at)
+    unfolding meets argumentsDue argumentsCounted
+    application-operation l k = rw (← eb, h, le-ltb t (length rules) l) k
+
+-- WHERE RULES STAND
 
 pub headed-at : {types : ℕ} {ws : Words} {at at′ : ℕ} {rule : Rule} → at′ ≡ at → Headed types ws at rule → Headed types ws at′ rule
 headed-at e h = rw e h
-
-pub root-only : (strategy : Strategy) (target s : ℕ) → strategy ≡ RootOnly → eqb target s ≡ or (searchesAs strategy) (eqb target s)
-root-only strategy target s h = rw h
 
 -- THE DUE ON TOP OF THE STACK
 

@@ -13,11 +13,12 @@ use Rattle.words.specs.declared.Check.the-variants.{Passed, Refused}
 use Rattle.tree.specs.Dues.{Next, pairs, whole}
 use Rattle.tree.proofs.Dues.{Steady, steady-next, none-due}
 use Rattle.judgement.specs.Typing.{Due, Context}
-use Rattle.pairs.specs.declared.Ctx.{Ctx}
-use Rattle.pairs.specs.declared.Met.{Met}
-use Rattle.pairs.specs.declared.Met.the-variants.{Bad, Top, New}
-use Rattle.pairs.specs.Views.{contextOf, Known, dueOf, dueAt, stackOf, Pushed, Meets, TypedAs, Left}
-use Rattle.pairs.proofs.Stack.{context-length, context-more}
+use Rattle.dues.specs.declared.Ctx.{Ctx}
+use Rattle.dues.specs.declared.Met.{Met}
+use Rattle.dues.specs.declared.Met.the-variants.{Bad, Top, New}
+use Rattle.dues.specs.Views.{contextOf, Known, dueOf, dueAt, stackOf, Pushed, Meets, Left}
+use Rattle.pairs.specs.Views.{TypedAs}
+use Rattle.dues.proofs.Stack.{context-length, context-more}
 
 -- THE LOOP
 

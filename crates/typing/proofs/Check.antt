@@ -25,7 +25,8 @@ use Rattle.rules.specs.Limits.{mostRules, mostRuleWords}
 use Rattle.rules.specs.Rules.{Rule, Rules, Piece, pieces}
 use Rattle.rules.specs.Layout.{bit, onlyIf, stretch, field, pairs, replacement, mainFits, mainBits, rule, layout, readLayout, rulesFit}
 use Rattle.judgement.specs.Typing.{isSome, fitsScope, noRule, ruleTyped, mainTarget, rulesTyped, readRules, checkRules}
-use Rattle.pairs.specs.Views.{wordsAt, Headed, Book, Given}
+use Rattle.dues.specs.Views.{wordsAt}
+use Rattle.pairs.specs.Views.{Headed, Book, Given}
 use Rattle.typing.specs.Views.{AreTablesOf, positions}
 use Rattle.typing.proofs.Places.{rule-shape, rule-next}
 

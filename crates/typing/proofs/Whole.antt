@@ -32,11 +32,12 @@ use Rattle.rules.specs.declared.FoundPart.{FoundPart}
 use Rattle.rules.specs.declared.PartRead.{PartRead}
 use Rattle.rules.specs.declared.PartRead.the-variants.{Found, NoPart}
 use Rattle.judgement.specs.Typing.{inPattern, inReplacement, inCondition, aTree, Context, typed, variableThere, partTyped, partsTyped, ruleTyped}
-use Rattle.pairs.specs.declared.Ctx.{Ctx}
+use Rattle.dues.specs.declared.Ctx.{Ctx}
 use Rattle.pairs.specs.declared.Typed.{Typed}
-use Rattle.pairs.specs.Views.{contextOf, dueOf, TypedAs, wordsAt}
+use Rattle.dues.specs.Views.{contextOf, dueOf, wordsAt}
+use Rattle.pairs.specs.Views.{TypedAs}
 use Rattle.typing.specs.Views.{deconstructOf, partsFor, replacementFor}
-use Rattle.pairs.proofs.Stack.{context-length, tree-due, chain-due}
+use Rattle.dues.proofs.Stack.{context-length, tree-due, chain-due}
 use Rattle.pairs.proofs.Book.{head-found, head-refused, head-words}
 use Rattle.pairs.proofs.Stretch.{stretch-accepted}
 use Rattle.typing.proofs.Places.{RuleAt, rule-shape, rule-replacement}

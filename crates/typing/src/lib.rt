@@ -1,9 +1,11 @@
 // The typing of a rule book (22 to 24, each with its position), and the single check of a rule book.
-use pairs::Ctx;
-use pairs::Place;
+use dues::Ctx;
+use dues::Place;
+use dues::limits::DUE_CHAIN;
+use dues::limits::STACK;
+use tables::HEADS;
+use tables::ROWS;
 use pairs::Typed;
-use pairs::limits::DUE_CHAIN;
-use pairs::limits::STACK;
 use rules::Deconstruct;
 use rules::HeadRead;
 use rules::Part;
@@ -12,8 +14,6 @@ use rules::limits::MOST_PARTS;
 use rules::limits::MOST_VARIABLES;
 use rules::limits::MOST_WORDS;
 use rules::limits::STARTS;
-use tables::HEADS;
-use tables::ROWS;
 use words::Check;
 use words::Got;
 ghost use mathlib.Core.Path.{_≡_};
@@ -28,7 +28,8 @@ ghost use Rattle.tree.specs.Views.{InTables};
 ghost use Rattle.rules.specs.Layout as Layout;
 ghost use Rattle.rules.specs.Rules.{Rule, Rules};
 ghost use Rattle.judgement.specs.Typing as Typing;
-ghost use Rattle.pairs.specs.Views.{contextOf, wordsAt, TypedAs, Headed, Book, Given};
+ghost use Rattle.dues.specs.Views.{contextOf, wordsAt};
+ghost use Rattle.pairs.specs.Views.{TypedAs, Headed, Book, Given};
 ghost use Rattle.typing.specs.Views.{AreTablesOf, deconstructOf, partsFor, replacementFor, positions};
 
 // A RULE
@@ -72,7 +73,7 @@ fn deconstruct_typed(
         );
     }
     let known = ctx.types;
-    let d = pairs::type_of(&known, n, v);
+    let d = dues::type_of(&known, n, v);
     pairs::stretch_typed(
         Place::Pattern,
         heads,
@@ -131,7 +132,7 @@ fn construct_typed(
             ctx,
         },
         Check::Passed(next) => {
-            let more = pairs::extended(ctx, s);
+            let more = dues::extended(ctx, s);
             Typed {
                 check: Check::Passed(next),
                 ctx: more,
@@ -452,13 +453,13 @@ fn main_fits(types: u32, ws: &[u32], starts: &[usize; STARTS]) -> bool
     requires { ⌜ 1 ≤ types ⌝ }
     ensures { λ r. ⌜ ((rule : Rule) → Headed types (now (ws .entry)) (getD (now (starts .entry)) 0 0) rule → r ≡ Typing.fitsScope rule 0) ⌝ }
 {
-    let at = pairs::start_of(starts, 0);
+    let at = dues::start_of(starts, 0);
     let h = rules::read_head(types, ws, at);
     match h {
         HeadRead::NoHead(no, p) => false,
         HeadRead::Header(head) => {
             let strategy = head.strategy;
-            pairs::fits_scope(strategy, head.target, 0)
+            dues::fits_scope(strategy, head.target, 0)
         }
     }
 }

@@ -2,7 +2,7 @@
 use borrow.Author.Needs.{needs}
 use lib.ListN.{take}
 use Rattle.pairs.proofs.Book.{due-tree}
-use Rattle.pairs.specs.Views.{placeAs}
+use Rattle.dues.specs.Views.{placeAs}
 use Rattle.pairs.proofs.meet.Statement.{statement}
 use Rattle.pairs.proofs.meet.Tie as tie
 

@@ -1,9 +1,8 @@
 -- `pairs::meet_application` meets its contract. Assumes nothing.
 use borrow.Author.Needs.{needs}
 use borrow.Author.Tests.{not-true, not-false}
-use Rattle.pairs.proofs.Book.{rule-head, rule-there, rule-not-there}
-use Rattle.pairs.proofs.Pairs.{application-unusable, application-rule, application-operation}
-use Rattle.pairs.specs.Views.{placeAs}
+use Rattle.pairs.proofs.Book.{rule-head, rule-there, rule-not-there, application-unusable, application-rule, application-operation}
+use Rattle.dues.specs.Views.{placeAs}
 use Rattle.pairs.proofs.meet_application.Statement.{statement}
 use Rattle.pairs.proofs.meet_application.Tie as tie
 

@@ -12,7 +12,8 @@ use Rattle.judgement.specs.Typing.{meets}
 use Rattle.tree.specs.Dues.{whole}
 use Rattle.judgement.proofs.Accept.{meets-steady}
 use Rattle.pairs.proofs.Loop.{rest, rest-all, loop-short, loop-fault, loop-next, loop-new, loop-over, loop-whole}
-use Rattle.pairs.specs.Views.{placeAs, contextOf, Known, dueOf, stackOf, Book}
+use Rattle.dues.specs.Views.{placeAs, contextOf, Known, dueOf, stackOf}
+use Rattle.pairs.specs.Views.{Book}
 use Rattle.pairs.proofs.pairs_typed.Statement.{statement}
 use Rattle.pairs.proofs.pairs_typed.Tie as tie
 

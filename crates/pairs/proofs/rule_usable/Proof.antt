@@ -2,7 +2,7 @@
 use borrow.Author.Needs.{needs}
 use borrow.Author.Tests.{not-true, not-false}
 use Rattle.pairs.proofs.Book.{headed-at, unheaded, usable-not, usable-fits}
-use Rattle.pairs.specs.Views.{placeAs}
+use Rattle.dues.specs.Views.{placeAs}
 use Rattle.pairs.proofs.rule_usable.Statement.{statement}
 use Rattle.pairs.proofs.rule_usable.Tie as tie
 

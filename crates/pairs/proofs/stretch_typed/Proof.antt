@@ -4,7 +4,7 @@ use mathlib.Core.Path.{_∙_}
 use native.Mathlib.Omega.{arith}
 use Rattle.pairs.proofs.Stretch.{stretch-inside}
 use Rattle.pairs.proofs.Stretch.{stretch-few, stretch-typed}
-use Rattle.pairs.specs.Views.{placeAs, contextOf, dueOf}
+use Rattle.dues.specs.Views.{placeAs, contextOf, dueOf}
 use Rattle.pairs.proofs.stretch_typed.Statement.{statement}
 use Rattle.pairs.proofs.stretch_typed.Tie as tie
 

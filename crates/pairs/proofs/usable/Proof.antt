@@ -2,7 +2,7 @@
 use borrow.Author.Needs.{needs}
 use borrow.Author.Tests.{not-true, not-false}
 use Rattle.pairs.proofs.Book.{usable-rule, rule-head, usable-other, usable-number}
-use Rattle.pairs.specs.Views.{placeAs}
+use Rattle.dues.specs.Views.{placeAs}
 use Rattle.pairs.proofs.usable.Statement.{statement}
 use Rattle.pairs.proofs.usable.Tie as tie
 

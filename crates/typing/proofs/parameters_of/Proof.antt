@@ -5,7 +5,7 @@ use lib.ListN.{length, take, length-set}
 use mathlib.Core.Path.{_≡_, refl}
 use native.Mathlib.Omega.{arith}
 use Rattle.typing.proofs.Check.{parameters-none, parameters-more, parameters-all}
-use Rattle.pairs.specs.Views.{wordsAt}
+use Rattle.dues.specs.Views.{wordsAt}
 use Rattle.typing.proofs.parameters_of.Statement.{statement}
 use Rattle.typing.proofs.parameters_of.Tie as tie
 

@@ -3,7 +3,7 @@ use borrow.Author.Needs.{needs}
 use Rattle.pairs.proofs.Stretch.{stretch-accepted}
 use Rattle.typing.proofs.Places.{part-pairs}
 use Rattle.typing.proofs.Whole.{no-part, part-taken, part-built, part-tested, part-refused, part-there, part-condition}
-use Rattle.pairs.specs.Views.{contextOf}
+use Rattle.dues.specs.Views.{contextOf}
 use Rattle.typing.proofs.part_typed.Statement.{statement}
 use Rattle.typing.proofs.part_typed.Tie as tie
 

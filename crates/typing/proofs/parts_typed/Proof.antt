@@ -9,7 +9,8 @@ use Rattle.tables.specs.Tables.{Tables}
 use Rattle.rules.specs.Rules.{Rules}
 use Rattle.judgement.specs.Typing.{partsTyped}
 use Rattle.typing.proofs.Whole.{parts-end, parts-fault, parts-more}
-use Rattle.pairs.specs.Views.{contextOf, Book}
+use Rattle.dues.specs.Views.{contextOf}
+use Rattle.pairs.specs.Views.{Book}
 use Rattle.typing.proofs.parts_typed.Statement.{statement}
 use Rattle.typing.proofs.parts_typed.Tie as tie
 

@@ -1,7 +1,7 @@
 -- `typing::read_replacement` meets its contract. Assumes nothing.
 use borrow.Author.Needs.{needs}
 use Rattle.typing.proofs.Whole.{pairs-accepted, replacement-none, replacement-there}
-use Rattle.pairs.specs.Views.{contextOf}
+use Rattle.dues.specs.Views.{contextOf}
 use Rattle.typing.proofs.read_replacement.Statement.{statement}
 use Rattle.typing.proofs.read_replacement.Tie as tie
 

@@ -1,0 +1,121 @@
+-- What the code that meets a pair keeps and hands back: the variables, the stack of what is due, and what a pair leaves. Assumes nothing: these are definitions.
+use Prim.Native.Nat.{ℕ, zero, suc, _+_, _*_, _≤_, _<_}
+use mathlib.Core.Path.{_≡_}
+use mathlib.Core.List.{List, [], _∷_, _++_, map}
+use mathlib.Core.Bool.{Bool, true, false}
+use lib.ListN.{length, getD, take}
+use lib.Dec.{leb, eqb}
+use Rattle.words.specs.Reader.{Words, pick, between, Read, value, refused, Reader, _>>=_, _>>_}
+use Rattle.grammar.specs.Grammar.{Grammar}
+use Rattle.grammar.specs.Kinds.{children}
+use Rattle.tables.specs.Tables.{Rows}
+use Rattle.tree.specs.Tree.{levels}
+use Rattle.tree.specs.Dues.{Next, secondWord, leaves}
+use Rattle.tree.specs.Reading.{tree, duesOf}
+use Rattle.tree.specs.Views.{level}
+use Rattle.rules.specs.Layout.{bit}
+use Rattle.rules.specs.declared.Strategy.{Strategy}
+use Rattle.rules.specs.declared.Strategy.the-variants.{RootOnly, FirstMatch, Exhaustive}
+use Rattle.judgement.specs.Typing as Typing
+use Rattle.judgement.specs.Typing.{Due, aTree, aChain, applicationCount, application, argument, numberArgument, Context, inPattern, inReplacement, inCondition}
+use Rattle.dues.specs.declared.Place.{Place}
+use Rattle.dues.specs.declared.Place.the-variants.{Pattern, Replacement, Condition}
+use Rattle.dues.specs.declared.Ctx.{Ctx}
+use Rattle.dues.specs.declared.Met.{Met}
+use Rattle.dues.specs.declared.Met.the-variants.{Bad, Top, New}
+
+-- the place, as the typing has it
+abbrev pub placeAs : Place → Typing.Place
+placeAs Pattern = inPattern
+placeAs Replacement = inReplacement
+placeAs Condition = inCondition
+
+-- the types of the variables that are there
+abbrev pub contextOf : Ctx → Context
+contextOf c = take (c .n) (c .types)
+
+-- the types of n variables lie in an array with room for 16
+abbrev pub Known : Words → ℕ → Type 0
+Known ts n = (length ts ≡ 16) × (n ≤ 16)
+
+-- THE STACK
+
+-- a due, by its two words on the stack
+unfoldable pub dueOf : ℕ → ℕ → Due
+dueOf a b =
+    pick (leb a 65) (aTree (tree a b)) (pick (eqb a 100) aChain (pick (eqb a 101) (applicationCount b) (pick (eqb a 102) (application b) (pick (eqb a 103) (argument b) numberArgument))))
+
+-- the due at a height of the stack
+abbrev pub dueAt : Words → ℕ → Due
+dueAt st k = dueOf (getD st (2 * k) 0) (getD st (2 * k + 1) 0)
+
+-- the stack's dues; the top is the last
+unfoldable pub stackOf : Words → ℕ → List Due
+stackOf st zero = []
+stackOf st (suc k) = dueAt st k ∷ stackOf st k
+
+-- the dues stand on top of what the stack held before
+pub record Pushed (st : Words) (sp : ℕ) (st′ : Words) (sp′ : ℕ) (ds : List Due) : Type 0 where
+  pub stack : stackOf st′ sp′ ≡ ds ++ stackOf st sp
+  pub size : sp′ ≡ length ds + sp
+
+-- children of these types, all at one nesting
+abbrev pub childrenDue : ℕ → List ℕ → List Due
+childrenDue nesting ts = map aTree (level nesting ts)
+
+-- what a node makes due
+abbrev pub nodeDue : Grammar → ℕ → ℕ → ℕ → List Due
+nodeDue g d v nesting = map aTree (duesOf (levels g d v nesting) (children g d v))
+
+-- k words from the position on; past the end they are 0
+unfoldable pub wordsAt : Words → ℕ → ℕ → Words
+wordsAt ws at zero = []
+wordsAt ws at (suc k) = getD ws at 0 ∷ wordsAt ws (at + 1) k
+
+-- the tables of children are those of a grammar
+abbrev pub AreRows : Words → Type 0
+AreRows rows = (g : Grammar) × Rows g rows
+
+-- WHAT A PAIR LEAVES
+
+-- the reading passes: these variables are there then, and what it makes due stands on the stack, up to the top
+pub record Left (Γ : Context) (st : Words) (sp : ℕ) (st′ : Words) (top : ℕ) (q : Read (Next Due Context)) : Type 0 where
+  pub dues : List Due
+  pub next : ℕ
+  pub read : q ≡ value (record { known = Γ; dues = dues }) next
+  pub pushed : Pushed st sp st′ top dues
+  pub most : top ≤ sp + 8
+
+-- what a pair comes to, where the variables Γ are there, says what its reading is
+abbrev pub Says : Met → Context → Words → ℕ → Words → Read (Next Due Context) → Type 0
+Says (Bad n p) Γ st sp st′ q = q ≡ refused n p
+Says (Top top) Γ st sp st′ q = Left Γ st sp st′ top q
+Says (New d) Γ st sp st′ q = (length Γ < 16) × Left (Γ ++ d ∷ []) st sp st′ sp q
+
+-- .. as a record, so that a law can infer what it is of
+pub record Meets (m : Met) (Γ : Context) (st : Words) (sp : ℕ) (st′ : Words) (q : Read (Next Due Context)) : Type 0 where
+  pub says : Says m Γ st sp st′ q
+
+-- WHAT IS APPLIED
+
+-- does the strategy search?
+abbrev pub searchesAs : Strategy → Bool
+searchesAs RootOnly = false
+searchesAs FirstMatch = true
+searchesAs Exhaustive = true
+
+-- is a rule with this map applied here?
+abbrev pub appliesMap : Typing.Place → ℕ → Bool
+appliesMap inPattern m = false
+appliesMap inReplacement m = bit 3 m
+appliesMap inCondition m = true
+
+-- what is due after an operation
+abbrev pub operationDue : ℕ → List Due
+operationDue a = pick (between 1004 1005 a) [] (numberArgument ∷ [])
+
+-- an application's second word, where these arguments are due
+unfoldable pub argumentsCounted : List Due → Context → ℕ → Reader (Next Due Context)
+argumentsCounted ds Γ v = do
+  secondWord (eqb v (length ds)) 22
+  leaves Γ ds
