@@ -1,2 +1,3 @@
 pub mod Stack
 pub mod Pairs
+pub mod Tokens

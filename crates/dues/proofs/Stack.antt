@@ -207,7 +207,7 @@ module _ (g : Grammar) (d v n : ℕ) {b : Bool} (eb : b ≡ isSequence g d) wher
   pub last-due : b ≡ true → (v ≡ 0 → ⊥) → [] ≡ nodeDue g d v n
   last-due h z = ap (map aTree) (sym (sequence-none g d v n (sym eb ∙ h) z))
 
-  some-due : {e : ℕ} → b ≡ true → v ≡ 0 → e ≡ getD (children g d 0) 0 0 → aTree (tree (n + 1) e) ∷ aTree (tree n d) ∷ [] ≡ nodeDue g d v n
+  pub some-due : {e : ℕ} → b ≡ true → v ≡ 0 → e ≡ getD (children g d 0) 0 0 → aTree (tree (n + 1) e) ∷ aTree (tree n d) ∷ [] ≡ nodeDue g d v n
   some-due h z i = rw (z, i, add-one n) (ap (map aTree) (sym (sequence-some g d n (sym eb ∙ h))))
 
   pub sequence-pushed : {e : ℕ} {st st₁ st₂ : Words} {sp : ℕ} → b ≡ true → v ≡ 0 → e ≡ getD (children g d 0) 0 0 → n ≤ 64

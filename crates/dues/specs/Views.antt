@@ -3,21 +3,23 @@ use Prim.Native.Nat.{ℕ, zero, suc, _+_, _*_, _≤_, _<_}
 use mathlib.Core.Path.{_≡_}
 use mathlib.Core.List.{List, [], _∷_, _++_, map}
 use mathlib.Core.Bool.{Bool, true, false}
-use lib.ListN.{length, getD, take}
-use lib.Dec.{leb, eqb}
-use Rattle.words.specs.Reader.{Words, pick, between, Read, value, refused, Reader, _>>=_, _>>_}
+use lib.ListN.{length, getD, take, drop}
+use lib.Dec.{ltb, leb, eqb}
+use Rattle.words.specs.Reader.{Words, pick, and, between, Read, value, refused, Reader, _>>=_, _>>_}
 use Rattle.grammar.specs.Grammar.{Grammar}
-use Rattle.grammar.specs.Kinds.{children}
-use Rattle.tables.specs.Tables.{Rows}
+use Rattle.grammar.specs.Kinds.{kindOf, children, isSequence}
+use Rattle.tables.specs.Tables.{mapOf, Rows}
+use Rattle.tree.specs.Limits.{mostNesting}
 use Rattle.tree.specs.Tree.{levels}
-use Rattle.tree.specs.Dues.{Next, secondWord, leaves}
+use Rattle.tree.specs.Dues.{Next, secondWord, leaves, pairs}
 use Rattle.tree.specs.Reading.{tree, duesOf}
-use Rattle.tree.specs.Views.{level}
+use Rattle.tree.specs.Views.{InTables, level}
+use Rattle.rules.specs.Rules.{Rules}
 use Rattle.rules.specs.Layout.{bit}
 use Rattle.rules.specs.declared.Strategy.{Strategy}
 use Rattle.rules.specs.declared.Strategy.the-variants.{RootOnly, FirstMatch, Exhaustive}
 use Rattle.judgement.specs.Typing as Typing
-use Rattle.judgement.specs.Typing.{Due, aTree, aChain, applicationCount, application, argument, numberArgument, Context, inPattern, inReplacement, inCondition}
+use Rattle.judgement.specs.Typing.{Due, aTree, aChain, applicationCount, application, argument, numberArgument, Context, inPattern, inReplacement, inCondition, mayStand, meets}
 use Rattle.dues.specs.declared.Place.{Place}
 use Rattle.dues.specs.declared.Place.the-variants.{Pattern, Replacement, Condition}
 use Rattle.dues.specs.declared.Ctx.{Ctx}
@@ -95,6 +97,19 @@ Says (New d) Γ st sp st′ q = (length Γ < 16) × Left (Γ ++ d ∷ []) st sp 
 -- .. as a record, so that a law can infer what it is of
 pub record Meets (m : Met) (Γ : Context) (st : Words) (sp : ℕ) (st′ : Words) (q : Read (Next Due Context)) : Type 0 where
   pub says : Says m Γ st sp st′ q
+
+-- THE TOKENS OF A SEQUENCE
+
+-- is d a sequence of tokens, which may stand here where d is due at the nesting n? A token's record has the map 1
+unfoldable pub tokensDue : Grammar → Typing.Place → ℕ → ℕ → Bool
+tokensDue g here n d = and (ltb n mostNesting) (and (isSequence g d) (and (eqb (mapOf (kindOf g (getD (children g d 0) 0 0))) 1) (mayStand here d d)))
+
+-- where (a, b) is due on top, the pairs from r on leave what those from `from` on leave
+pub record TokensPassed (heads rows : Words) (here : Typing.Place) (a b : ℕ) (ps : Words) (from r : ℕ) : Type 0 where
+  pub later : from ≤ r
+  pub within : r ≤ length ps
+  pub same : InTables heads rows (λ g. (rules : Rules) (ds : List Due) (Γ : Context) (start : ℕ)
+      → pairs (meets g rules here) 23 (drop from ps) (dueOf a b ∷ ds) Γ (start + from) ≡ pairs (meets g rules here) 23 (drop r ps) (dueOf a b ∷ ds) Γ (start + r))
 
 -- WHAT IS APPLIED
 

@@ -2,12 +2,11 @@
 // leave (22 to 24, each with its position), and what tells whether a rule or an operation may be applied.
 //
 // The grammar is seen through its tables.
-use tables::HEADS;
-use tables::ROWS;
 use limits::DUE_APPLICATION;
 use limits::DUE_ARGUMENT;
 use limits::DUE_COUNT;
 use limits::DUE_NUMBER;
+use limits::MAP_TOKEN;
 use limits::MOST_NESTING;
 use rules::Strategy;
 use rules::limits::FIRST_BARE;
@@ -21,6 +20,8 @@ use rules::limits::MARK_VARIABLE;
 use rules::limits::MOST_APPLICATIONS;
 use rules::limits::MOST_VARIABLES;
 use rules::limits::STARTS;
+use tables::HEADS;
+use tables::ROWS;
 use words::Check;
 ghost use mathlib.Core.Path.{_≡_};
 ghost use mathlib.Core.List.{[], _∷_, _++_, map};
@@ -37,7 +38,7 @@ ghost use Rattle.tree.specs.Reading.{tree};
 ghost use Rattle.tree.specs.Views.{InTables, AreTables};
 ghost use Rattle.rules.specs.Rules.{Rules};
 ghost use Rattle.judgement.specs.Typing as Typing;
-ghost use Rattle.dues.specs.Views.{placeAs, contextOf, Known, dueOf, Pushed, childrenDue, nodeDue, wordsAt, AreRows, Meets, searchesAs, appliesMap, operationDue, argumentsCounted};
+ghost use Rattle.dues.specs.Views.{placeAs, contextOf, Known, dueOf, Pushed, childrenDue, nodeDue, wordsAt, AreRows, Meets, searchesAs, appliesMap, operationDue, argumentsCounted, tokensDue, TokensPassed};
 
 pub mod limits;
 
@@ -339,6 +340,65 @@ pub fn meet_tree(
         return meet_variable(d, v, known, n, at, sp);
     }
     meet_chain(d, v, known, n, at, st, sp)
+}
+
+// THE TOKENS OF A SEQUENCE
+
+// Is d a sequence of tokens, which may stand here where d is due at the nesting? Mostly d is no sequence.
+fn of_tokens(here: Place, heads: &[u32; HEADS], rows: &[u8; ROWS], nesting: u32, d: u32) -> bool
+    ensures { λ r. ⌜ InTables (now (heads .entry)) (now (rows .entry)) (λ g. r ≡ tokensDue g (placeAs here) nesting d) ⌝ }
+{
+    if MOST_NESTING <= nesting {
+        return false;
+    }
+    let sequence = tables::is_sequence(heads, d);
+    if !sequence {
+        return false;
+    }
+    let e = tables::child(rows, d, 0, 0);
+    let m = tables::map_of(heads, e);
+    if m != MAP_TOKEN {
+        return false;
+    }
+    may_stand(here, d, d)
+}
+
+// Passes over elements of the sequence d that are tokens: after each the same sequence is due again, and the stack stays as it is.
+pub fn pass_tokens(
+    here: Place,
+    heads: &[u32; HEADS],
+    rows: &[u8; ROWS],
+    nesting: u32,
+    d: u32,
+    ps: &[u32],
+    from: usize,
+) -> usize
+    requires { ⌜ from ≤ length (now ps) ⌝ }
+    ensures { λ r. ⌜ TokensPassed (now (heads .entry)) (now (rows .entry)) (placeAs here) nesting d (now (ps .entry)) from r ⌝ }
+{
+    let tokens = of_tokens(here, heads, rows, nesting, d);
+    if !tokens {
+        return from;
+    }
+    let e = tables::child(rows, d, 0, 0);
+    let n = tables::values(heads, e);
+    let mut i = from;
+    while 4 <= ps.len() - i {
+        if ps[i] != d {
+            return i;
+        }
+        if ps[i + 1] != 0 {
+            return i;
+        }
+        if ps[i + 2] != e {
+            return i;
+        }
+        if n <= ps[i + 3] {
+            return i;
+        }
+        i = i + 4;
+    }
+    i
 }
 
 // THE PAIRS OF A CHAIN

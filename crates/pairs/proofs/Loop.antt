@@ -3,9 +3,7 @@ use Prim.Native.Nat.{ℕ, zero, suc, _+_, _-_, _<_, _≤_}
 use mathlib.Core.Path.{_≡_, refl, sym, ap, _∙_}
 use mathlib.Core.List.{List, [], _∷_, _++_}
 use native.Mathlib.Omega.{arith}
-use native.Mathlib.Numerals.{add-one, add-two}
 use lib.ListN.{length, getD, take, drop, set, length-drop, length-set}
-use lib.Seq.{drop-cons}
 use lib.Dec.{ltb}
 use borrow.Author.Tests.{lt-ltb, le-ltb}
 use Rattle.words.specs.Reader.{Words, pick, Read, value, refused, Reader, andThen}
@@ -19,6 +17,7 @@ use Rattle.dues.specs.declared.Met.the-variants.{Bad, Top, New}
 use Rattle.dues.specs.Views.{contextOf, Known, dueOf, dueAt, stackOf, Pushed, Meets, Left}
 use Rattle.pairs.specs.Views.{TypedAs}
 use Rattle.dues.proofs.Stack.{context-length, context-more}
+use Rattle.words.proofs.Stretches.{drop-pair}
 
 -- THE LOOP
 
@@ -34,9 +33,6 @@ no-stack : (st : Words) (sp : ℕ) → sp ≤ 0 → stackOf st sp ≡ []
 unfolding stackOf
 no-stack st zero h = refl
 no-stack st (suc k) h = absurd (omega arith)
-
-at-two : (ws : Words) (i : ℕ) → i + 2 ≤ length ws → drop i ws ≡ getD ws i 0 ∷ getD ws (i + 1) 0 ∷ drop (i + 2) ws
-at-two ws i h = drop-cons ws i 0 (omega arith) ∙ ap (λ l. getD ws i 0 ∷ l) (drop-cons ws (suc i) 0 (omega arith) ∙ rw (add-one, add-two))
 
 abbrev Meeting : Type 0
 Meeting = Due → Context → ℕ → ℕ → Reader (Next Due Context)
@@ -70,6 +66,12 @@ module _ (M : Meeting) (ps : Words) (start i sp : ℕ) (st : Words) (Γ : Contex
     loop-whole l known few = rw (nothing-due, le-ltb (start + i) (start + length ps) (omega arith)) (record { check = refl; left = record { known = known; few = few } })
 
   module _ (some : 0 < sp) where
+    -- where the pairs from r on leave what those from i on leave
+    pub loop-passed : (r : ℕ)
+        → ((ds : List Due) (Γ : Context) (start : ℕ) → pairs M 23 (drop i ps) (dueAt st (sp - 1) ∷ ds) Γ (start + i) ≡ pairs M 23 (drop r ps) (dueAt st (sp - 1) ∷ ds) Γ (start + r))
+        → all ≡ rest M ps start r (stackOf st sp) Γ
+    loop-passed r same = inv ∙ rw (stack-top st sp some, same (stackOf st (sp - 1)) Γ start)
+
     pub loop-short : (c : Ctx) → i ≤ length ps → length ps - i < 2 → TypedAs (record { check = Refused 23 (start + length ps); ctx = c }) all
     loop-short c k h =
         let q = pairs-short M (drop i ps) (dueAt st (sp - 1)) (stackOf st (sp - 1)) Γ (start + i) (omega (arith, length-drop i ps)) in
@@ -88,7 +90,7 @@ module _ (M : Meeting) (ps : Words) (start i sp : ℕ) (st : Words) (Γ : Contex
 
       loop-step : all ≡ andThen (one-pair (start + i)) after
       unfolding pairs after
-      loop-step = inv ∙ rw (at-two ps i two, stack-top st sp some) (go (one-pair (start + i)))
+      loop-step = inv ∙ rw (drop-pair ps i two, stack-top st sp some) (go (one-pair (start + i)))
         where
           go : (q : Read (Next Due Context))
               → andThen (andThen q (λ s. pairs M 23 (drop (i + 2) ps) (s .dues ++ stackOf st (sp - 1)) (s .known))) (λ known next. pick (ltb next (start + length ps)) (refused 23 next) (value known next)) ≡ andThen q after

@@ -9,11 +9,11 @@ use dues::limits::DUE_ARGUMENT;
 use dues::limits::DUE_CHAIN;
 use dues::limits::DUE_COUNT;
 use dues::limits::LAST_TREE;
-use tables::HEADS;
-use tables::ROWS;
 use rules::HeadRead;
 use rules::limits::MOST_VARIABLES;
 use rules::limits::STARTS;
+use tables::HEADS;
+use tables::ROWS;
 use words::Check;
 ghost use mathlib.Core.Path.{_≡_};
 ghost use mathlib.Core.Bool.{true};
@@ -249,13 +249,14 @@ fn pairs_typed(
     let mut known = ctx.types;
     let mut n = ctx.n;
     while 0 < sp {
-        if ps.len() - i < 2 {
+        let top = sp - 1;
+        let from = dues::pass_tokens(here, heads, rows, st[2 * top], st[2 * top + 1], ps, i);
+        if ps.len() - from < 2 {
             return Typed {
                 check: Check::Refused(23, start + ps.len()),
                 ctx,
             };
         }
-        let top = sp - 1;
         let m = meet(
             here,
             heads,
@@ -263,11 +264,11 @@ fn pairs_typed(
             types,
             ws,
             starts,
-            ps[i],
-            ps[i + 1],
+            ps[from],
+            ps[from + 1],
             &known,
             n,
-            start + i,
+            start + from,
             st,
             top,
         );
@@ -280,13 +281,13 @@ fn pairs_typed(
             }
             Met::Top(h) => {
                 sp = h;
-                i = i + 2;
+                i = from + 2;
             }
             Met::New(d) => {
                 known[n] = d;
                 n = n + 1;
                 sp = top;
-                i = i + 2;
+                i = from + 2;
             }
         }
     }
