@@ -1,4 +1,4 @@
-// The rule book: the readers of a rule's head, of a part and of a rule (20, 21, each with its position).
+// The rule book: the readers of a rule's head, of a part and of a rule (20, 21, each with its position); and what a call asks of a book that has passed.
 use limits::MOST_APPLICATIONS;
 use limits::MOST_PAIRS;
 use limits::MOST_PARAMETERS;

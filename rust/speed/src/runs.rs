@@ -48,6 +48,21 @@ pub fn print_table() {
         let input = reference::bench::parse(text).expect("a bench input");
         print_row(name, &input, &mut memories);
     }
+    print_clearing(&mut memories);
+}
+
+/// Prints how long the smallest run takes beside the clearing of its work memory,
+/// which every run does that is not refused.
+fn print_clearing(memories: &mut Memories) {
+    let input = reference::bench::parse(WORKLOADS[0].1).expect("a bench input");
+    let mut work = vec![u32::MAX; tamarind::WORK_WORDS];
+    let (run, clearing) = times(
+        || _ = black_box(memories.run(black_box(&input))),
+        || black_box(&mut work).fill(0),
+    );
+    let ratio = run / clearing;
+    println!();
+    println!("Clearing work memory alone takes {clearing:.0} ns, the smallest run {ratio:.2} times that.");
 }
 
 /// The two memories that a run is lent, never cleared from outside.
