@@ -1,8 +1,8 @@
 // The bench: one input from standard input, and what came of it to standard output. Only the bytes that go in and out are outside the proof.
 ghost use mathlib.Core.Path.{_≡_};
 ghost use mathlib.Core.Option.{some};
-ghost use Prim.Native.Nat.{ℕ, _+_, _≤_};
-ghost use lib.ListN.{length, take};
+ghost use Prim.Native.Nat.{_+_, _≤_};
+ghost use lib.ListN.{length};
 ghost use Rattle.meaning.specs.Limits.{leastResult, leastWork};
 ghost use Rattle.tamarind.specs.Run.{said, filledOf, memories};
 ghost use Rattle.decimal.specs.Numbers.{said as readAs};

@@ -9,9 +9,9 @@ use lib.ListN.{length, getD, take, drop, set, getElem?}
 use lib.Seq.{getD-take, getD-drop, take-set-lt, drop-set-add}
 use lib.Dec.{eqb, leb, ltb}
 use borrow.Author.Tests.{lt-ltb, le-ltb, leb-true, eqb-true}
-use Rattle.words.specs.Reader.{Words, value, _>>=_, return, many}
+use Rattle.words.specs.Reader.{Words, value, many}
 use Rattle.words.proofs.Laws.{and-both}
-use Rattle.grammar.specs.Limits.{mostTypes, greatestNumber}
+use Rattle.grammar.specs.Limits.{greatestNumber}
 use Rattle.grammar.specs.Grammar.{Kind, token, opt, sequence, forms, Grammar}
 use Rattle.grammar.specs.Kinds.{kindOf, childrenOf, children, isNumberKind, isNumber}
 use Rattle.tree.specs.Tree as T
@@ -25,15 +25,13 @@ use Rattle.rules.proofs.Laid.{head-few, rule-value}
 use Rattle.meaning.specs.Computation.{Result, ok, stop, stuck, Comp, thenOf, stopUnless, check, present}
 use Rattle.meaning.specs.Operations.{rounded, truncated, inRange, divisor, withOne, withNone, compute, compare}
 use Rattle.meaning.specs.Meaning.{Env, live, start, fits, begin, liveWithin, variables, valueOf, valuesOf, withValue, isNumberToken}
-use Rattle.meaning.proofs.Level.{values-length, number-tree}
+use Rattle.meaning.proofs.Level.{number-tree}
 use Rattle.operations.specs.Operating.{argumentsOf}
 use Rattle.marks.specs.Marked.{markOf, marked, Stands}
 use Rattle.rewrite.specs.Vars.{EnvAt, startsOf, startAt, Sound}
 use Rattle.rewrite.specs.declared.Vars.{Vars}
-use Rattle.rewrite.proofs.Matcher.{starts-length, start-is}
-use Rattle.rewrite.specs.Arena.{Standing, Gathered}
+use Rattle.rewrite.specs.Arena.{Standing}
 use Rattle.calls.specs.Engine.{Sure}
-use Rattle.rewrite.specs.declared.arena.Args.{Args}
 use Rattle.rewrite.proofs.Leaves.{variables-more, variables-none, variable-stands, arguments-more, arguments-none}
 use Rattle.calls.proofs.Frames.{tree-length, some-nodes, stands-whole}
 use Rattle.calls.proofs.Going.{then-ok, sure-first, sure-as, check-sure, surely-sure, present-sure, variable-sure}

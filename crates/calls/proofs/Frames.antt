@@ -4,7 +4,7 @@ use mathlib.Core.Path.{_≡_, refl, sym, ap, _∙_}
 use mathlib.Core.List.{List, [], _∷_}
 use native.Mathlib.Omega.{arith}
 use mathlib.Core.Option.{some}
-use lib.ListN.{length, getD, take, drop, getElem?, length-take, length-drop}
+use lib.ListN.{length, take, drop, getElem?, length-take, length-drop}
 use lib.Seq.{take-take}
 use Rattle.words.specs.Reader.{Words}
 use Rattle.grammar.specs.Grammar.{Grammar}
@@ -15,10 +15,9 @@ use Rattle.meaning.specs.Meaning.{Env, Bindings}
 use Rattle.marks.specs.Marked.{marked, Stands}
 use Rattle.marks.proofs.Marks.{marked-length}
 use Rattle.marks.proofs.Spans.{drop-take}
-use Rattle.rewrite.specs.Vars.{EnvAt, startsOf, startAt, Sound}
+use Rattle.rewrite.specs.Vars.{EnvAt, Sound}
 use Rattle.rewrite.specs.declared.Vars.{Vars}
 use Rattle.rewrite.specs.declared.arena.Frame.{Frame}
-use Rattle.rewrite.proofs.Matcher.{env-length, env-get, starts-length, start-is}
 use Rattle.calls.specs.Engine.{Room, Grown, Held}
 use Rattle.rewrite.specs.Arena.{Standing}
 

@@ -1,5 +1,5 @@
 -- What a part's step does: a variable is taken apart or searched here; the other kinds are the cycle's own. Assumes nothing.
-use Prim.Native.Nat.{ℕ, zero, suc, _+_, _-_, _*_, _≤_}
+use Prim.Native.Nat.{ℕ, zero, suc, _+_, _*_, _≤_}
 use mathlib.Core.Path.{_≡_, refl, sym, ap, _∙_}
 use mathlib.Core.List.{[], _∷_}
 use mathlib.Core.Bool.{Bool, true, false}
@@ -21,8 +21,6 @@ use Rattle.rules.specs.declared.Condition.{Condition}
 use Rattle.rules.specs.declared.Part.{Part}
 use Rattle.rules.specs.declared.Part.the-variants as Part
 use Rattle.rules.specs.declared.FoundPart.{FoundPart}
-use Rattle.rules.specs.declared.PartRead.{PartRead}
-use Rattle.rules.specs.declared.PartRead.the-variants.{Found, NoPart}
 use Rattle.rules.proofs.Laid.{Told, part-tells}
 use Rattle.meaning.specs.Computation.{Result, Comp}
 use Rattle.meaning.specs.Meaning as M

@@ -23,7 +23,7 @@ use rules::limits::STARTS;
 use tables::HEADS;
 use tables::ROWS;
 ghost use mathlib.Core.Path.{_≡_};
-ghost use Prim.Native.Nat.{ℕ, _+_, _*_, _<_, _≤_, _^_};
+ghost use Prim.Native.Nat.{_+_, _*_, _<_, _≤_, _^_};
 ghost use lib.ListN.{length};
 ghost use Rattle.rewrite.specs.Vars.{Sound};
 ghost use Rattle.calls.specs.Engine.{turnedBy, Room, Deconstructs, Constructs, Conditions, Steps, Seeks, CallMatches, Succeeds, AnySucceeds, Applies, Chains, FillsChain, Fills, Finishes, Replaces, Calls};

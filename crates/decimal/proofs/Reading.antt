@@ -9,7 +9,7 @@ use lib.ListN.{length, getD, take, drop, set, length-append, take-append-drop, d
 use lib.Seq.{length-take-le, take-nil, drop-cons, append-snoc, set-split, take-append-seam, drop-append-seam}
 use lib.Dec.{ltb, leb}
 use borrow.Author.Tests.{lt-ltb, le-ltb, le-leb, lt-leb, eq-eqb, ne-eqb, leb-true}
-use Rattle.words.specs.Reader.{Words, pick, and}
+use Rattle.words.specs.Reader.{Words, pick}
 use Rattle.words.proofs.Laws.{and-both}
 use Rattle.decimal.proofs.Lists.{drop-more}
 use Rattle.decimal.specs.Numbers.{Bytes, isDigit, isWhite, mostWord, Numbers, at, grown, outside, added, byteAt, byte, bytes, lastAt, said, Stands}

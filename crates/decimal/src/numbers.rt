@@ -1,8 +1,8 @@
 // The numbers of a text, byte by byte: a text may come in pieces of any length.
 ghost use mathlib.Core.Path.{_≡_};
 ghost use mathlib.Core.List.{[]};
-ghost use mathlib.Core.Bool.{Bool, true, false};
-ghost use Prim.Native.Nat.{ℕ, _+_, _*_, _-_, _≤_, min};
+ghost use mathlib.Core.Bool.{true, false};
+ghost use Prim.Native.Nat.{_+_, _*_, _-_, _≤_, min};
 ghost use lib.ListN.{length, take};
 ghost use Rattle.words.specs.Reader.{Words};
 ghost use Rattle.decimal.specs.declared.numbers.Place.the-variants.{Unread};

@@ -1,11 +1,10 @@
 // The lines that tell an outcome, put into lent bytes: as much as there is room for.
-ghost use mathlib.Core.Path.{_≡_};
-ghost use mathlib.Core.List.{_∷_, [], _++_};
-ghost use Prim.Native.Nat.{ℕ, _+_, _≤_};
+ghost use mathlib.Core.List.{_∷_, []};
+ghost use Prim.Native.Nat.{_+_, _≤_};
 ghost use lib.ListN.{length};
 ghost use Rattle.meaning.specs.Meaning.{done, stopped};
 ghost use Rattle.meaning.specs.Outcome.{refused, ended};
-ghost use Rattle.decimal.specs.Printed.{digits, decimal, spaced, allSpaced, line, lineEnd, counts, printed, printedUnread, Put};
+ghost use Rattle.decimal.specs.Printed.{digits, spaced, allSpaced, line, counts, printed, printedUnread, Put};
 
 const MOST_DIGITS: usize = 20;
 

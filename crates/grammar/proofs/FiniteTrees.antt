@@ -1,18 +1,18 @@
 -- The rounds find just the types of which a finite tree exists. Assumes nothing.
 use Prim.Native.Nat.{ℕ, zero, suc, _+_, _-_, _<_, _≤_}
 use mathlib.Core.Path.{_≡_, refl, sym, ap, _∙_}
-use mathlib.Core.List.{List, [], _∷_, _++_}
+use mathlib.Core.List.{List, [], _∷_}
 use mathlib.Core.Bool.{Bool, true, false}
 use native.Mathlib.Omega.{arith}
 use lib.ListN.{length, getD}
-use lib.Dec.{ltb, leb, eqb, leb·zero}
+use lib.Dec.{eqb, leb·zero}
 use borrow.Author.Tests.{lt-ltb, ltb-true}
 use Rattle.words.specs.Reader.{pick, and, or}
 use Rattle.words.proofs.Laws.{and-both, or-true}
 use Rattle.grammar.specs.Grammar.{Kind, token, opt, sequence, forms, Grammar, all, any, finishes, round, rounds, finite}
 use Rattle.grammar.specs.Kinds.{kindOf, allows, allowed, childrenOf, children}
 use Rattle.grammar.specs.Finite.{Finite, none, node}
-use Rattle.grammar.proofs.Laws.{round-same, round-length, finite-length}
+use Rattle.grammar.proofs.Laws.{round-same, round-length}
 
 -- WHAT THE ROUNDS FIND IS FINITE
 

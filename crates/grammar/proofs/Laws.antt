@@ -7,16 +7,14 @@ use native.Mathlib.Omega.{arith}
 use native.Mathlib.Numerals.{add-one}
 use lib.ListN.{length, getD, take, drop, set, replicate, length-take, drop-of-length-le, List·getD-eq-default}
 use lib.Seq.{drop-cons, take-suc, take-all, getD-take, getD-drop, sets, sets-eq, take-at}
-use lib.Dec.{ltb, leb, eqb}
 use borrow.Author.Tests.{ne-eqb, lt-ltb, le-ltb, le-leb, lt-leb}
-use Rattle.words.specs.Reader.{Words, pick, and, or, between, Read, value, refused, Reader, andThen, return, word, wordIn, many, end}
+use Rattle.words.specs.Reader.{Words, pick, and, or, Read, value, refused, andThen, return, word, many, end}
 use Rattle.words.specs.declared.Check.{Check}
 use Rattle.words.specs.declared.Check.the-variants.{Passed, Refused}
 use Rattle.words.specs.declared.Got.{Got}
 use Rattle.words.specs.declared.Got.the-variants.{Word, Bad}
 use Rattle.words.specs.Views.{answer, got}
 use Rattle.words.proofs.Laws.{read-word, read-bad, answer-passed, answer-refused, answer-then, in-value, many-none, many-bad, many-more, many-length, and-true, and-assoc, or-false, or-assoc, loop-refused, loop-more}
-use Rattle.grammar.specs.Limits.{mostTypes, mostForms, mostElements, firstLiteral, lastLiteral}
 use Rattle.grammar.specs.Grammar.{Kind, token, opt, sequence, forms, Grammar, isLiteral, typesOf, field, element, form, kind, all, any, finishes, round, rounds, finite, finiteRecords, grammar, readGrammar, grammarFits, checkGrammar}
 use Rattle.grammar.specs.declared.Seen.{Seen}
 use Rattle.grammar.specs.declared.Seen.the-variants.{Whole, Fault}

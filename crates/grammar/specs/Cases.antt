@@ -1,9 +1,8 @@
 -- The single check of a grammar, run on document 01's grammars, their near misses and damaged ones: one table, one proof. Assumes nothing.
-use Prim.Native.Nat.{ℕ}
 use mathlib.Core.Path.{_≡_, refl}
 use mathlib.Core.List.{List, [], _∷_, _++_, map}
-use lib.ListN.{length, replicate}
-use Rattle.words.specs.Reader.{Words, Read, value, refused, word, wordIn, many, end}
+use lib.ListN.{replicate}
+use Rattle.words.specs.Reader.{Words, word, wordIn, many, end}
 use Rattle.words.specs.declared.Check.{Check}
 use Rattle.words.specs.declared.Check.the-variants.{Passed, Refused}
 use Rattle.words.specs.Views.{answer}

@@ -1,10 +1,10 @@
 -- What the code hands back of a reading. Assumes nothing: these are definitions.
 use Prim.Native.Nat.{ℕ, zero, suc}
-use mathlib.Core.List.{List, [], _∷_}
+use mathlib.Core.List.{List}
 use mathlib.Core.Bool.{Bool, true, false}
 use lib.ListN.{getD, replicate}
 use lib.Seq.{sets}
-use Rattle.words.specs.Reader.{Words, pick, and, or, Read, value, refused}
+use Rattle.words.specs.Reader.{pick, and, or, Read, value, refused}
 use Rattle.grammar.specs.Grammar.{Kind, Grammar, all, any, finishes, round, typesOf, isLiteral}
 use Rattle.words.specs.declared.Got.{Got}
 use Rattle.words.specs.declared.Got.the-variants.{Word, Bad}

@@ -158,10 +158,3 @@ module _ (gs ws : Words) (g : Grammar) (m : ℕ) (e : readGrammar gs ≡ value g
 
   pub passes-exactly : (rules : Rules) → Exactly g ws rules
   passes-exactly rules = record { sound = passes-sound rules; complete = passes-complete rules }
-
-  -- whatever the check accepts: the rules that were decoded, and that they are well typed
-  pub accepted-well-typed : accepted (readRules g ws) ≡ true → (rules : Rules) × (n : ℕ) × (readLayout (length g) ws ≡ value rules n) × WellTyped g rules
-  accepted-well-typed h =
-      let a = accepted-value (readRules g ws) h in
-      let b = passes-sound (a .0) (a .1, a .2) in
-      (a .0, b .0 .0, b .0 .1, b .1)

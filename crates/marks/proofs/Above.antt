@@ -7,7 +7,7 @@ use lib.ListN.{length, getD, take, drop, length-drop}
 use lib.Seq.{take-take, getD-take, set-getD}
 use Rattle.words.specs.Reader.{Words}
 use Rattle.grammar.specs.Grammar.{Grammar}
-use Rattle.tree.specs.Tree.{Trees, size, nesting, first, firstTree}
+use Rattle.tree.specs.Tree.{Trees, size, nesting, firstTree}
 use Rattle.tree.proofs.Trees.{split, first-take, first-even, prefix-first}
 use Rattle.marks.specs.Marked.{mark, sizeIn, marked}
 use Rattle.marks.specs.Post.{Kept, AboveMarked}

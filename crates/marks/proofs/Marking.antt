@@ -1,22 +1,22 @@
 -- The loop over a node's children that makes its mark. Assumes nothing.
-use Prim.Native.Nat.{ℕ, zero, suc, _+_, _-_, _*_, _/_, _%_, _^_, _<_, _≤_, max}
+use Prim.Native.Nat.{ℕ, zero, suc, _+_, _-_, _*_, _%_, _^_, _<_, _≤_, max}
 use mathlib.Core.Path.{_≡_, refl, sym, ap, ap₂, _∙_}
 use mathlib.Core.List.{List, [], _∷_, _++_, map, append-nil}
 use mathlib.Core.Bool.{Bool, true, false}
 use native.Mathlib.Omega.{arith}
 use native.Mathlib.Numerals.{add-one}
-use lib.ListN.{length, getD, take, drop, length-drop, drop-of-length-le, List·getD-eq-default}
-use lib.Seq.{drop-cons, drop-drop, getD-drop, drop-nil}
+use lib.ListN.{length, getD, drop, length-drop}
+use lib.Seq.{drop-cons, drop-drop}
 use lib.Dec.{eqb, ltb}
-use borrow.Author.Tests.{eq-eqb, ne-eqb, ltb-true}
+use borrow.Author.Tests.{ne-eqb, ltb-true}
 use Rattle.words.specs.Reader.{Words, pick, and}
 use Rattle.grammar.specs.Grammar.{Kind, token, opt, sequence, forms, Grammar}
 use Rattle.grammar.specs.Kinds.{kindOf, allows, allowed, childrenOf, children, isSequenceKind, isSequence}
 use Rattle.tables.specs.Tables.{Tables, Counted, InHeads}
 use Rattle.tables.proofs.Lookups.{no-kind}
-use Rattle.tree.specs.Tree.{Trees, none, node, size, levelsOf, levels, nestingFrom, nesting, first, after, firstTree}
+use Rattle.tree.specs.Tree.{Trees, size, levelsOf, levels, nestingFrom, nesting, first, after, firstTree}
 use Rattle.tree.proofs.Trees.{tells, split, first-none, first-even, after-drop, levels-length, nesting-append, size-append}
-use Rattle.marks.specs.Marked.{mark, typeIn, sizeIn, nestingIn, markOf, marked}
+use Rattle.marks.specs.Marked.{mark, sizeIn, nestingIn, markOf, marked}
 use Rattle.marks.specs.Post.{MarkMade}
 use Rattle.marks.proofs.Marks.{mark-size, mark-nesting, marked-drop, first-more, tree-deeper, nesting-size}
 

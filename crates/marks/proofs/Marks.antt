@@ -1,15 +1,15 @@
 -- Laws of marked trees. Assumes nothing.
-use Prim.Native.Nat.{ℕ, zero, suc, _+_, _-_, _*_, _/_, _%_, _<_, _≤_, max}
+use Prim.Native.Nat.{ℕ, zero, suc, _+_, _*_, _<_, _≤_, max}
 use mathlib.Core.Path.{_≡_, refl, sym, ap, ap₂, _∙_}
 use mathlib.Core.List.{List, [], _∷_, _++_, map, append-assoc}
 use mathlib.Core.Bool.{Bool, true, false}
 use native.Mathlib.Omega.{arith}
-use lib.ListN.{length, getD, take, drop}
+use lib.ListN.{length, getD, drop}
 use lib.Seq.{drop-nil}
 use lib.Dec.{eqb}
 use Rattle.words.specs.Reader.{Words, pick}
 use Rattle.grammar.specs.Grammar.{Kind, token, opt, sequence, forms, Grammar}
-use Rattle.grammar.specs.Kinds.{kindOf, allowed, children}
+use Rattle.grammar.specs.Kinds.{kindOf, children}
 use Rattle.tree.specs.Tree.{Trees, none, node, size, levelsOf, levels, nestingFrom, nesting, first, after, firstTree}
 use Rattle.tree.proofs.Trees.{tells, split, first-append, first-after}
 use Rattle.marks.specs.Marked.{mark, typeIn, sizeIn, nestingIn, markOf, marked, unmarked}

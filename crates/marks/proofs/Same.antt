@@ -1,18 +1,18 @@
 -- Marked trees that are compared: two are the same exactly if the trees are. Assumes nothing.
-use Prim.Native.Nat.{ℕ, zero, suc, _+_, _-_, _*_, _%_, _<_, _≤_}
+use Prim.Native.Nat.{ℕ, _+_, _-_, _*_, _<_, _≤_}
 use mathlib.Core.Path.{_≡_, refl, sym, ap, ap₂, _∙_}
-use mathlib.Core.List.{List, [], _∷_, _++_, append-nil}
+use mathlib.Core.List.{List, [], _∷_, append-nil}
 use mathlib.Core.Bool.{Bool, true, false}
 use native.Mathlib.Omega.{arith}
-use lib.ListN.{length, getD, take, drop, length-append}
+use lib.ListN.{length, getD, take, drop}
 use lib.Seq.{take-at}
 use Rattle.words.specs.Reader.{Words}
 use Rattle.words.specs.Views.{equalWords}
 use Rattle.words.proofs.Stretches.{equal-true, equal-alike}
 use Rattle.grammar.specs.Grammar.{Grammar}
-use Rattle.tree.specs.Tree.{Trees, none, node, size, first, after, firstTree}
-use Rattle.tree.proofs.Trees.{tells, split, trees-even, tree-some, first-append, first-after, first-even}
-use Rattle.marks.specs.Marked.{typeIn, sizeIn, nestingIn, mark, markOf, marked, unmarked, Stands}
+use Rattle.tree.specs.Tree.{Trees, none, node, size, after, firstTree}
+use Rattle.tree.proofs.Trees.{split, trees-even, tree-some, first-append, first-after, first-even}
+use Rattle.marks.specs.Marked.{sizeIn, markOf, marked, unmarked, Stands}
 use Rattle.marks.specs.Post.{SameTree}
 use Rattle.marks.proofs.Marks.{mark-type, marked-append, marked-length}
 use Rattle.marks.proofs.Marking.{type-there, Child, child-of}
@@ -25,12 +25,6 @@ unfolding unmarked marked markOf
 unmark l none = refl
 unmark {g} l (node {t} {v} {ts} {ws} fine r) =
     ap₂ (λ a b. a ∷ v ∷ b) (mark-type t (size (firstTree g (t ∷ v ∷ ws))) _ (omega (arith, type-there g t v fine))) (unmark l r)
-
--- a tree without marks has none to take off
-pub unmarked-same : {g : Grammar} {ts : List ℕ} {ws : Words} → length g ≤ 64 → Trees g ts ws → unmarked ws ≡ ws
-unfolding unmarked
-unmarked-same l none = refl
-unmarked-same {g} l (node {t} {v} {ts} {ws} fine r) = let e : t % 64 ≡ t = omega (arith, type-there g t v fine) in ap₂ (λ a b. a ∷ v ∷ b) e (unmarked-same l r)
 
 pub equal-marked : {g : Grammar} {ts us : List ℕ} {a b : Words} → length g ≤ 64 → Trees g ts a → Trees g us b → equalWords (marked g a) (marked g b) ≡ equalWords a b
 equal-marked {g} {a = a} {b} l p q = equal-alike (marked g a) (marked g b) a b (λ e. sym (unmark l p) ∙ ap unmarked e ∙ unmark l q) (λ e. ap (marked g) e)

@@ -2,7 +2,7 @@
 use tables::HEADS;
 use tables::ROWS;
 ghost use mathlib.Core.Path.{_≡_};
-ghost use Prim.Native.Nat.{ℕ, _+_, _-_, _*_, _%_, _<_, _≤_, _^_, max};
+ghost use Prim.Native.Nat.{_+_, _-_, _*_, _%_, _<_, _≤_, _^_, max};
 ghost use Rattle.words.specs.Reader.{pick, and};
 ghost use lib.Dec.{eqb};
 ghost use lib.ListN.{length};

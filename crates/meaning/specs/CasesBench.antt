@@ -1,6 +1,5 @@
 -- "The two-to-forty-two bench": its cases, from words to the whole outcome, refusals included, and the words to post: one table, one proof. Memories are as
 -- short as they may be. Assumes nothing.
-use Prim.Native.Nat.{ℕ}
 use mathlib.Core.Path.{_≡_, refl}
 use mathlib.Core.List.{List, [], _∷_}
 use mathlib.Core.Bool.{true, false}

@@ -1,21 +1,19 @@
 -- The operations on numbers. Assumes nothing.
 use Prim.Native.Nat.{ℕ, zero, suc, _+_, _-_, _*_, _/_, _<_, _≤_}
-use mathlib.Core.Path.{_≡_, refl, sym, ap, _∙_}
-use mathlib.Core.Bool.{Bool, true, false, not}
-use mathlib.Core.List.{List, [], _∷_}
+use mathlib.Core.Path.{_≡_, refl, _∙_}
+use mathlib.Core.Bool.{Bool, true, false}
 use native.Mathlib.Omega.{arith}
 use native.Mathlib.Nat.{mul-div-le, div-le-self}
 use lib.ListN.{getD}
 use lib.Dec.{ltb, leb, eqb}
-use borrow.Author.Tests.{le-leb, lt-leb, eq-eqb, ne-eqb, leb-true, leb-false, ltb-true, ltb-false}
+use borrow.Author.Tests.{le-leb, lt-leb, eq-eqb, ne-eqb, ltb-false}
 use Rattle.words.specs.Reader.{pick}
-use Rattle.grammar.specs.Limits.{greatestNumber}
-use Rattle.rules.specs.Rules.{Operation, add, subtract, quotient, remainder, round, truncate, equal, greater, Applied, rule, operation, nothing, applied, operations}
-use Rattle.meaning.specs.Computation.{Result, ok, stop, stuck, thenOf, stopUnless}
+use Rattle.rules.specs.Rules.{Operation, add, subtract, quotient, remainder, round, truncate, equal, greater, rule, operation, nothing, applied, operations}
+use Rattle.meaning.specs.Computation.{ok, thenOf, stopUnless}
 use Rattle.meaning.specs.Operations.{rounded, truncated, inRange, divisor, withOne, withNone, compute, compare}
 use Rattle.operations.specs.declared.Number.{Number}
 use Rattle.operations.specs.declared.Number.the-variants.{Is, OutOfRange}
-use Rattle.operations.specs.Operating.{inRangeAs, argumentsOf, MeansNumber, Operated, Compared}
+use Rattle.operations.specs.Operating.{inRangeAs, MeansNumber, Operated, Compared}
 
 -- THE NUMBERS OF THE OPERATIONS
 

@@ -1,7 +1,7 @@
 // The operations on numbers, in hundredths.
 use grammar::limits::GREATEST_NUMBER;
 ghost use mathlib.Core.Path.{_≡_};
-ghost use Prim.Native.Nat.{ℕ, _+_, _*_, _/_, _<_, _^_};
+ghost use Prim.Native.Nat.{_+_, _*_, _/_, _<_};
 ghost use Rattle.operations.specs.Operating.{inRangeAs, Operated, Compared};
 
 // A number, or a stop 45.

@@ -8,7 +8,7 @@ use native.Mathlib.Nat.{add-zero}
 use lib.ListN.{length, getD}
 use lib.Dec.{eqb}
 use borrow.Author.Tests.{ne-eqb, lt-ltb, le-ltb, lt-leb}
-use Rattle.words.specs.Reader.{Words, or, Read, value, refused, _>>=_, return, many}
+use Rattle.words.specs.Reader.{Words, or, value, refused, _>>=_, return, many}
 use Rattle.words.proofs.Laws.{then-value, in-value, many-suc, many-length}
 use Rattle.grammar.specs.Grammar.{Grammar}
 use Rattle.grammar.specs.Kinds.{isNumber}
@@ -18,6 +18,7 @@ use Rattle.rules.specs.Rules.{Rule, Rules, rootOnly, firstMatch, exhaustive, se
 use Rattle.rules.specs.Rules as Rules
 use Rattle.rules.specs.Layout.{Head, bit, onlyIf, strategyOf, field, reach, typeField, parameters, headFields, head, rule}
 use Rattle.rules.specs.Views.{headRead, strategyAs}
+use Rattle.rules.proofs.Laws.{head-refused, head-found}
 use Rattle.rules.specs.declared.Head.{Head as HeadFound}
 use Rattle.rules.specs.declared.HeadRead.{HeadRead}
 use Rattle.rules.specs.declared.HeadRead.the-variants.{Header, NoHead}
@@ -99,30 +100,14 @@ head-parameters types ws at h next e =
 -- WHAT A RULE'S HEAD, AS THE CODE READS IT, TELLS
 
 module _ (types : ℕ) (ws : Words) (at : ℕ) (r : HeadRead) (e : r ≡ headRead (head types ws at)) where
-  pub head-refused : {n p : ℕ} → r ≡ NoHead n p → head types ws at ≡ refused n p
-  head-refused {n} {p} b = go (head types ws at) e
-    where
-      go : (q : Read Head) → r ≡ headRead q → q ≡ refused n p
-      go (value h k) d = let z : _≡_ {A = ℕ} 0 1 = cc in absurd (omega arith)
-      go (refused k q) d = cc
-
   module _ {f : HeadFound} (b : r ≡ Header f) where
-    pub head-found : (h : Head) × (next : ℕ) × (head types ws at ≡ value h next)
-        × (f ≡ record { map = h .map; target = h .target; strategy = strategyAs (h .strategy); count = length (h .parameters); parameters = next - length (h .parameters); pattern = next })
-    head-found = go (head types ws at) refl e
-      where
-        go : (q : Read Head) → head types ws at ≡ q → r ≡ headRead q → (h : Head) × (next : ℕ) × (head types ws at ≡ value h next)
-            × (f ≡ record { map = h .map; target = h .target; strategy = strategyAs (h .strategy); count = length (h .parameters); parameters = next - length (h .parameters); pattern = next })
-        go (value h k) i d = (h, k, i, cc)
-        go (refused k q) i d = let z : _≡_ {A = ℕ} 0 1 = cc in absurd (omega arith)
-
     pub head-few : (f .count ≤ 4) × (f .parameters ≤ length ws)
-    head-few = let u = head-found in let p = head-parameters types ws at (u .0) (u .1) (u .2) in rw (u .3) (p .few, omega (arith, p .within))
+    head-few = let u = head-found types ws at r e b in let p = head-parameters types ws at (u .0) (u .1) (u .2) in rw (u .3) (p .few, omega (arith, p .within))
 
     -- the parameters' types are words
     pub head-words : (h : Head) (next : ℕ) → head types ws at ≡ value h next → h .parameters ≡ wordsAt ws (f .parameters) (f .count)
     head-words h next i =
-        let u = head-found in
+        let u = head-found types ws at r e b in
         let p = head-parameters types ws at h next i in
         let j : value (u .0) (u .1) ≡ value h next = sym (u .2) ∙ i in
         let y : u .0 ≡ h = cc j in
@@ -131,12 +116,12 @@ module _ (types : ℕ) (ws : Words) (at : ℕ) (r : HeadRead) (e : r ≡ headRea
 
   module _ (rule : Rule) (H : Headed types ws at rule) where
     headed-none : {n p : ℕ} → r ≡ NoHead n p → ⊥
-    headed-none {n} {p} b = let c : value (H .head) (H .next) ≡ refused n p = sym (H .read) ∙ head-refused b in let z : _≡_ {A = ℕ} 0 1 = cc in omega arith
+    headed-none {n} {p} b = let c : value (H .head) (H .next) ≡ refused n p = sym (H .read) ∙ head-refused types ws at r e b in let z : _≡_ {A = ℕ} 0 1 = cc in omega arith
 
     headed-is : {f : HeadFound} → r ≡ Header f
         → f ≡ record { map = H .head .map; target = H .head .target; strategy = strategyAs (H .head .strategy); count = length (H .head .parameters); parameters = H .next - length (H .head .parameters); pattern = H .next }
     headed-is {f} b =
-        let u = head-found b in
+        let u = head-found types ws at r e b in
         let j : value (u .0) (u .1) ≡ value (H .head) (H .next) = sym (u .2) ∙ H .read in
         let y : u .0 ≡ H .head = cc j in
         let z : u .1 ≡ H .next = cc j in

@@ -1,34 +1,30 @@
 -- The search for the first node that a pattern matches. Assumes nothing.
-use Prim.Native.Nat.{ℕ, zero, suc, _+_, _-_, _*_, _<_, _≤_}
-use mathlib.Core.Path.{_≡_, refl, sym, ap, ap₂, _∙_}
+use Prim.Native.Nat.{ℕ, _+_, _-_, _<_, _≤_}
+use mathlib.Core.Path.{_≡_, refl, sym, ap, _∙_}
 use mathlib.Core.List.{List, [], _∷_, _++_}
-use mathlib.Core.Bool.{Bool, true, false}
+use mathlib.Core.Bool.{Bool}
 use mathlib.Core.Option.{Option, none, some}
 use native.Mathlib.Omega.{arith}
 use native.Mathlib.Nat.{add-zero}
-use lib.ListN.{length, getD, take, drop, length-drop}
+use lib.ListN.{length, getD, drop, length-drop}
 use lib.Seq.{getD-drop}
-use lib.Dec.{eqb}
 use borrow.Author.Tests.{eq-eqb, ne-eqb}
 use Rattle.words.specs.Reader.{Words}
-use Rattle.words.proofs.Stretches.{part-rest}
 use Rattle.grammar.specs.Grammar.{Grammar}
 use Rattle.grammar.specs.Kinds.{children}
-use Rattle.tree.specs.Tree.{size}
-use Rattle.tree.proofs.Trees.{trees-even}
+use Rattle.tree.proofs.Trees.{trees-even, even-none}
 use Rattle.rules.specs.Rules.{Shape, shapes}
 use Rattle.meaning.specs.Computation.{Result, ok, stop, stuck, Comp, thenOf, choose, whether}
-use Rattle.meaning.specs.Meaning.{Env, Bindings, match, matchFirst}
-use Rattle.tree.specs.Rest.{Rest}
+use Rattle.meaning.specs.Meaning.{Bindings, match, matchFirst}
 use Rattle.tree.proofs.Rest.{rest-node}
-use Rattle.marks.specs.Marked.{typeIn, marked}
+use Rattle.marks.specs.Marked.{typeIn}
 use Rattle.marks.proofs.Marks.{marked-length}
 use Rattle.rewrite.specs.declared.Vars.{Vars}
 use Rattle.rewrite.specs.declared.Verdict.{Verdict}
 use Rattle.rewrite.specs.declared.Verdict.the-variants.{Matches, Differs, Stops}
 use Rattle.rewrite.specs.declared.Matched.{Matched}
 use Rattle.rewrite.specs.Vars.{Sound}
-use Rattle.rewrite.specs.Matching.{Stage, bindings, Means, Answers, MatchAnswers, FirstAnswers}
+use Rattle.rewrite.specs.Matching.{Stage, bindings, Means, MatchAnswers, FirstAnswers}
 use Rattle.rewrite.proofs.Matcher.{Node, node-of, stage-on, moved, two-marked, due-as, node-as}
 
 -- THE DEFINITION, one law a way
@@ -98,13 +94,9 @@ module _ (ty : ℕ) (pairs arena part : Words) (at : ℕ) (vars : Vars) (live p 
     grows = omega arith;
     meant = λ g ws ts b left st ns.
         let q = go .run strict g ws ts b left st ns in
-        let e : q .rest ≡ [] = empty (q .rest) (trees-even (q .stage .rest .typed)) (omega (arith, ap length (q .stage .marks), marked-length g (q .rest), length-drop p part, q .inside)) in
+        let e : q .rest ≡ [] = even-none (q .rest) (trees-even (q .stage .rest .typed)) (omega (arith, ap length (q .stage .marks), marked-length g (q .rest), length-drop p part, q .inside)) in
         q .same-run ∙ ap (λ x. matchFirst strict g ty (shapes pairs) x b left) e ∙ none-left strict g ty (shapes pairs) b left;
   })
-    where
-      empty : (x : Words) → length x ≡ 2 * size x → length x < 2 → x ≡ []
-      empty [] e h = refl
-      empty (a ∷ x) e h = absurd (omega arith)
 
   module _ (two : 2 ≤ length part - p) (w : ℕ) (ew : w ≡ getD part p 0) where
     here : {strict : Bool} {g : Grammar} {ws : Words} {b : Bindings} {left : ℕ} (r : Run strict g ty pairs arena part at vars live p ws b left) → Node g (drop p part) (r .rest) (r .types)

@@ -3,27 +3,26 @@ use Prim.Native.Nat.{ℕ, zero, suc, _+_, _-_, _*_, _/_, _<_, _≤_}
 use mathlib.Core.Path.{_≡_, refl, sym, ap, ap₂, _∙_}
 use mathlib.Core.List.{List, [], _∷_, _++_}
 use mathlib.Core.Bool.{Bool, true, false}
-use mathlib.Core.Option.{Option, none, some}
+use mathlib.Core.Option.{none, some}
 use native.Mathlib.Omega.{arith}
 use native.Mathlib.Nat.{add-zero}
 use native.Mathlib.Numerals.{add-one}
-use lib.ListN.{length, getD, take, drop, set, getElem?, length-set, length-drop, length-take, length-append}
+use lib.ListN.{length, getD, take, drop, set, getElem?, length-set, length-drop, length-take}
 use lib.Seq.{drop-at, drop-drop, getD-drop, getD-take, take-suc-set, take-take}
-use lib.Dec.{ltb, leb, eqb}
-use borrow.Author.Tests.{eq-eqb, ne-eqb, eqb-true, eqb-false, lt-ltb, le-ltb, ltb-true, ltb-false, le-leb, lt-leb, leb-true, leb-false}
-use Rattle.words.specs.Reader.{Words, pick, and}
+use borrow.Author.Tests.{eq-eqb, ne-eqb, lt-ltb, le-ltb}
+use Rattle.words.specs.Reader.{Words}
 use Rattle.words.specs.Views.{equalWords}
-use Rattle.words.proofs.Stretches.{drop-pair, part-rest}
+use Rattle.words.proofs.Stretches.{drop-pair}
 use Rattle.grammar.specs.Grammar.{Grammar}
 use Rattle.grammar.specs.Kinds.{children}
-use Rattle.tree.specs.Tree.{Trees, Tree, size, isTree, first, after, firstTree}
-use Rattle.tree.proofs.Trees.{split, first-after, tells, trees-even, first-even, after-drop, first-take, tree-passes, tree-type, tree-some}
+use Rattle.tree.specs.Tree.{Trees, size, isTree, after, firstTree}
+use Rattle.tree.proofs.Trees.{split, first-after, tells, trees-even, first-even, tree-passes, tree-some, even-none}
 use Rattle.rules.specs.Rules.{Shape, node, new, same, shapes}
-use Rattle.meaning.specs.Computation.{Result, ok, stop, stuck}
+use Rattle.meaning.specs.Computation.{stuck}
 use Rattle.meaning.specs.Meaning.{Env, Bindings, total, live, match}
 use Rattle.tree.specs.Rest.{Rest}
 use Rattle.tree.proofs.Rest.{rest-node, onward}
-use Rattle.marks.specs.Marked.{typeIn, sizeIn, mark, markOf, marked, Stands}
+use Rattle.marks.specs.Marked.{typeIn, sizeIn, markOf, marked, Stands}
 use Rattle.marks.specs.Post.{SameTree}
 use Rattle.marks.proofs.Marks.{mark-type, mark-size, marked-length, marked-append}
 use Rattle.marks.proofs.Marking.{type-there}
@@ -32,9 +31,8 @@ use Rattle.marks.proofs.Same.{marked-first}
 use Rattle.rewrite.specs.declared.Vars.{Vars}
 use Rattle.rewrite.specs.declared.Verdict.{Verdict}
 use Rattle.rewrite.specs.declared.Verdict.the-variants.{Matches, Differs, Stops}
-use Rattle.rewrite.specs.declared.Matched.{Matched}
 use Rattle.rewrite.specs.Vars.{EnvAt, startsOf, bound, startAt, Sound}
-use Rattle.rewrite.specs.Matching.{Stage, bindings, Means, Answers, matchOf, MatchAnswers, NewTold, PairTold, failedBy}
+use Rattle.rewrite.specs.Matching.{Stage, bindings, Means, MatchAnswers, NewTold, PairTold, failedBy}
 use Rattle.rewrite.specs.Matching.NewTold.{other, over, past, taken}
 use Rattle.rewrite.specs.Matching.PairTold.{short, new, unlike, like, type, value, node}
 use Rattle.rewrite.proofs.Steps.{pair-new, pair-same, pair-node, no-pair, match-end, match-short, node-type, node-value, node-both, new-type, new-full, new-seventeenth, new-bound, same-unbound, same-other, same-there}
@@ -264,13 +262,9 @@ module _ (pairs arena part : Words) (at : ℕ) (vars : Vars) (held₀ : ℕ) (en
     pub going-short : length part < p + 2 → MatchAnswers pairs arena part at vars held₀ (record { verdict = Differs; vars = env; live = held })
     going-short h = answered Differs (λ strict g ws b left ns r.
         let st = r .stage in
-        let none-left : r .rest ≡ [] = empty (r .rest) (trees-even (st .rest .typed)) (omega (arith, ap length (st .marks), marked-length g (r .rest), length-drop p part, r .inside)) in
+        let none-left : r .rest ≡ [] = even-none (r .rest) (trees-even (st .rest .typed)) (omega (arith, ap length (st .marks), marked-length g (r .rest), length-drop p part, r .inside)) in
         r .same-run ∙ at-shape (some-shape .0) (some-shape .1) strict g (r .rest) (bindings (r .bound-to) (b .besides)) left
         ∙ ap (λ x. match strict g (some-shape .0 ∷ shapes (drop (i + 2) pairs)) x (bindings (r .bound-to) (b .besides)) left) none-left ∙ match-short strict g (shapes (drop (i + 2) pairs)) (bindings (r .bound-to) (b .besides)) left (some-shape .0))
-      where
-        empty : (x : Words) → length x ≡ 2 * size x → length x < 2 → x ≡ []
-        empty [] e h = refl
-        empty (a ∷ x) e h = absurd (omega arith)
 
     module _ (more : p + 2 ≤ length part) (w : ℕ) (ew : w ≡ getD part p 0) where
       -- the node that stands here

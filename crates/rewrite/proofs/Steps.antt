@@ -1,20 +1,19 @@
 -- What the first pair of a pattern does, one law a way. Assumes nothing.
-use Prim.Native.Nat.{ℕ, zero, suc, _+_, _≤_, _<_}
-use mathlib.Core.Path.{_≡_, refl, sym, ap, _∙_}
+use Prim.Native.Nat.{ℕ, _+_, _≤_, _<_}
+use mathlib.Core.Path.{_≡_, refl}
 use mathlib.Core.List.{List, [], _∷_, _++_}
 use mathlib.Core.Bool.{Bool, true, false}
-use mathlib.Core.Option.{Option, none, some}
+use mathlib.Core.Option.{none, some}
 use native.Mathlib.Omega.{arith}
-use lib.ListN.{length, getD, drop, getElem?}
-use lib.Dec.{eqb, leb, ltb}
+use lib.ListN.{length, getElem?}
 use borrow.Author.Tests.{eq-eqb, ne-eqb, le-leb, lt-leb, lt-ltb, le-ltb}
-use Rattle.words.specs.Reader.{Words, pick, and}
+use Rattle.words.specs.Reader.{Words}
 use Rattle.words.specs.Views.{equalWords}
 use Rattle.grammar.specs.Grammar.{Grammar}
 use Rattle.tree.specs.Tree.{size, isTree, after, firstTree}
 use Rattle.rules.specs.Rules.{Shape, node, new, same, shapes}
-use Rattle.meaning.specs.Computation.{Result, ok, stop, stuck, Comp, thenOf, stopUnless, surely, check, present, choose}
-use Rattle.meaning.specs.Meaning.{Env, Bindings, live, liveWithin, variable, sameTree, bind, match}
+use Rattle.meaning.specs.Computation.{ok, stop, stuck, thenOf, stopUnless, surely, check, present, choose}
+use Rattle.meaning.specs.Meaning.{Bindings, live, liveWithin, variable, sameTree, bind, match}
 
 -- THE PAIR
 

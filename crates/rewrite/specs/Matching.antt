@@ -2,7 +2,7 @@
 use Prim.Native.Nat.{ℕ, _+_, _*_, _<_, _≤_}
 use mathlib.Core.Path.{_≡_}
 use mathlib.Core.Bool.{Bool, true, false}
-use mathlib.Core.List.{List, [], _∷_}
+use mathlib.Core.List.{List}
 use mathlib.Core.Option.{Option, none, some}
 use lib.ListN.{length, getD, take, drop}
 use lib.Dec.{eqb}
@@ -10,7 +10,7 @@ use Rattle.words.specs.Reader.{Words, pick}
 use Rattle.grammar.specs.Grammar.{Grammar}
 use Rattle.grammar.specs.Limits.{mostTypes}
 use Rattle.rules.specs.Limits.{mostVariables, markNew, markVariable}
-use Rattle.rules.specs.Rules.{Shape, shapes}
+use Rattle.rules.specs.Rules.{shapes}
 use Rattle.meaning.specs.Limits.{mostLive}
 use Rattle.meaning.specs.Computation.{Result, ok, stop, stuck, Comp}
 use Rattle.meaning.specs.Meaning.{Env, Bindings, total, match, matchFirst}

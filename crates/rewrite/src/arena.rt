@@ -9,7 +9,7 @@ use tree::limits::MOST_NESTING;
 use tree::limits::MOST_NODES;
 ghost use mathlib.Core.Path.{_≡_};
 ghost use mathlib.Core.List.{_∷_, _++_};
-ghost use Prim.Native.Nat.{ℕ, _+_, _*_, _<_, _≤_, _^_};
+ghost use Prim.Native.Nat.{_+_, _*_, _<_, _≤_, _^_};
 ghost use lib.ListN.{length, getD, take, drop, replicate};
 ghost use Rattle.rewrite.specs.Vars.{Sound, startAt};
 ghost use Rattle.rewrite.specs.Arena.{NodesAt, overBy, Gathered, Closed, TooDeep, Replaced, Computed};

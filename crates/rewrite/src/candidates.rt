@@ -3,7 +3,7 @@ use crate::MOST_LIVE;
 use rules::limits::MARK_NEW;
 use rules::limits::MARK_VARIABLE;
 ghost use mathlib.Core.Path.{_≡_};
-ghost use Prim.Native.Nat.{ℕ, _+_, _*_, _<_, _≤_, _^_};
+ghost use Prim.Native.Nat.{_+_, _*_, _<_, _≤_};
 ghost use mathlib.Core.Bool.{true};
 ghost use lib.ListN.{length};
 ghost use Rattle.rewrite.specs.Candidates.{Clashes, NextCandidate};

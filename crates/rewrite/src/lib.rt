@@ -3,7 +3,7 @@ use rules::limits::MARK_NEW;
 use rules::limits::MARK_VARIABLE;
 use rules::limits::MOST_VARIABLES;
 ghost use mathlib.Core.Path.{_≡_};
-ghost use Prim.Native.Nat.{ℕ, _+_, _<_, _≤_, _^_};
+ghost use Prim.Native.Nat.{_+_, _<_, _≤_, _^_};
 ghost use lib.ListN.{length};
 ghost use Rattle.rewrite.specs.Vars.{startAt, Sound};
 ghost use Rattle.rewrite.specs.Matching.{NewTold, PairTold, failedBy, MatchAnswers, FirstAnswers};

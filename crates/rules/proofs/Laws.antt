@@ -1,6 +1,6 @@
 -- Laws of the layout's readers, over plain variables: what each path through the code hands back is a view of the definition. Assumes nothing.
 use Prim.Native.Nat.{ℕ, zero, suc, _+_, _-_, _*_, _/_, _%_, _<_, _≤_}
-use mathlib.Core.Path.{_≡_, refl, _∙_}
+use mathlib.Core.Path.{_≡_, refl, sym, ap, _∙_}
 use mathlib.Core.List.{List, []}
 use mathlib.Core.Bool.{Bool, true, false}
 use mathlib.Core.Option.{Option, none, some}
@@ -309,23 +309,29 @@ module _ (types : ℕ) (ws : Words) (at : ℕ) (f : Got) (e : f ≡ got (field w
 -- A RULE
 
 module _ (types : ℕ) (ws : Words) (at : ℕ) (r : HeadRead) (e : r ≡ headRead (head types ws at)) where
-  pub rule-bad : {n p : ℕ} → r ≡ NoHead n p → Refused n p ≡ answer (rule types ws at)
-  unfolding rule
-  rule-bad {n} {p} b = rw (go (head types ws at) e)
+  pub head-refused : {n p : ℕ} → r ≡ NoHead n p → head types ws at ≡ refused n p
+  head-refused {n} {p} b = go (head types ws at) e
     where
       go : (q : Read Head) → r ≡ headRead q → q ≡ refused n p
       go (value h k) d = let z : _≡_ {A = ℕ} 0 1 = cc in absurd (omega arith)
       go (refused k q) d = cc
 
+  pub rule-bad : {n p : ℕ} → r ≡ NoHead n p → Refused n p ≡ answer (rule types ws at)
+  unfolding rule
+  rule-bad b = rw (head-refused b)
+
   module _ {f : HeadFound} (b : r ≡ Header f) where
-    read-head : (h : Head) × (head types ws at ≡ value h (f .pattern)) × (f .map ≡ h .map)
-    read-head = go (head types ws at) e
+    pub head-found : (h : Head) × (next : ℕ) × (head types ws at ≡ value h next)
+        × (f ≡ record { map = h .map; target = h .target; strategy = strategyAs (h .strategy); count = length (h .parameters); parameters = next - length (h .parameters); pattern = next })
+    head-found = go (head types ws at) refl e
       where
-        go : (q : Read Head) → r ≡ headRead q → (h : Head) × (q ≡ value h (f .pattern)) × (f .map ≡ h .map)
-        go (value h k) d =
-            let z : f ≡ record { map = h .map; target = h .target; strategy = strategyAs (h .strategy); count = length (h .parameters); parameters = k - length (h .parameters); pattern = k } = cc in
-            (h, rw z, rw z)
-        go (refused k q) d = let z : _≡_ {A = ℕ} 0 1 = cc in absurd (omega arith)
+        go : (q : Read Head) → head types ws at ≡ q → r ≡ headRead q → (h : Head) × (next : ℕ) × (head types ws at ≡ value h next)
+            × (f ≡ record { map = h .map; target = h .target; strategy = strategyAs (h .strategy); count = length (h .parameters); parameters = next - length (h .parameters); pattern = next })
+        go (value h k) i d = (h, k, i, cc)
+        go (refused k q) i d = let z : _≡_ {A = ℕ} 0 1 = cc in absurd (omega arith)
+
+    read-head : (h : Head) × (head types ws at ≡ value h (f .pattern)) × (f .map ≡ h .map)
+    read-head = let u = head-found in (u .0, u .2 ∙ ap (value (u .0)) (sym (ap (λ (x : HeadFound). x .pattern) (u .3))), ap (λ (x : HeadFound). x .map) (u .3))
 
     module _ (c : Check) (d : c ≡ answer (pairs ws (f .pattern))) where
       pub rule-pattern : {n p : ℕ} → c ≡ Refused n p → Refused n p ≡ answer (rule types ws at)

@@ -1,5 +1,5 @@
 -- The loops that fill the tables. Assumes nothing.
-use Prim.Native.Nat.{ℕ, zero, suc, _+_, _-_, _*_, _<_, _≤_}
+use Prim.Native.Nat.{ℕ, suc, _+_, _-_, _*_, _<_, _≤_}
 use mathlib.Core.Path.{_≡_, refl, sym, ap, _∙_}
 use mathlib.Core.List.{List, [], _∷_, _++_}
 use mathlib.Core.Bool.{Bool, true, false}
@@ -7,16 +7,16 @@ use native.Mathlib.Omega.{arith}
 use native.Mathlib.Numerals.{add-one, add-two}
 use lib.ListN.{length, getD, set, length-append}
 use lib.Seq.{sets}
-use lib.Dec.{ltb, leb, eqb}
+use lib.Dec.{ltb, leb}
 use borrow.Author.Tests.{ltb-true, lt-ltb, le-leb, lt-leb, ne-eqb}
-use Rattle.words.specs.Reader.{Words, pick, and, or, Read, value, refused, many, accepted}
+use Rattle.words.specs.Reader.{Words, pick, or, value, many, accepted}
 use Rattle.words.proofs.Laws.{accepted-value, many-none, many-suc, many-length, or-true}
 use Rattle.words.proofs.Sets.{sets-append, set-below}
 use Rattle.grammar.specs.Grammar.{Kind, token, opt, sequence, forms, Grammar, isLiteral, typesOf, element, form, kind}
 use Rattle.grammar.specs.Values.{valuesOf}
 use Rattle.tables.specs.Tables.{mapOf, rowAt}
 use Rattle.tables.specs.Filling.{listOf, kindRead, nextOf, typeCount, rowOf, rowsOf, putRows, putKinds, putHeads, ElementPut, FormPut, FormsPut, KindPut}
-use Rattle.tables.proofs.Records.{ElementAt, element-at, FormAt, form-at, KindAt, isToken, isOpt, isSequence, hasForms, RecordAt, record-at}
+use Rattle.tables.proofs.Records.{element-at, FormAt, form-at, KindAt, isToken, isOpt, isSequence, hasForms, RecordAt, record-at}
 
 -- AN ELEMENT
 

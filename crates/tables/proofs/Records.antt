@@ -1,15 +1,15 @@
 -- What the words of a record that was read are. Assumes nothing.
-use Prim.Native.Nat.{ℕ, zero, suc, _+_, _-_, _<_, _≤_}
+use Prim.Native.Nat.{ℕ, suc, _+_, _-_, _<_, _≤_}
 use mathlib.Core.Path.{_≡_, refl, sym, ap, _∙_}
-use mathlib.Core.List.{List, [], _∷_, _++_}
+use mathlib.Core.List.{List, [], _∷_}
 use mathlib.Core.Bool.{Bool, true, false}
 use native.Mathlib.Omega.{arith}
 use lib.ListN.{length, getD}
-use lib.Dec.{ltb, leb, eqb}
-use borrow.Author.Tests.{eqb-true, ltb-true, lt-ltb}
-use Rattle.words.specs.Reader.{Words, pick, and, or, Read, value, refused, Reader, andThen, _>>=_, return, word, many, accepted}
-use Rattle.words.proofs.Laws.{then-value, pick-value, word-value, in-value, many-suc, many-length}
-use Rattle.grammar.specs.Grammar.{Kind, token, opt, sequence, forms, Grammar, isLiteral, typesOf, field, element, form, kind}
+use lib.Dec.{ltb, eqb}
+use borrow.Author.Tests.{eqb-true}
+use Rattle.words.specs.Reader.{Words, pick, or, value, refused, andThen, _>>=_, return, word, many}
+use Rattle.words.proofs.Laws.{then-value, pick-value, word-value, in-value, many-length}
+use Rattle.grammar.specs.Grammar.{Kind, token, opt, sequence, forms, isLiteral, typesOf, field, element, form, kind}
 
 -- AN ELEMENT
 

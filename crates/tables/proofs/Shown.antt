@@ -1,15 +1,13 @@
 -- The tables that are filled show the grammar. Assumes nothing.
 use Prim.Native.Nat.{ℕ, zero, suc, _+_, _-_, _*_, _<_, _≤_}
 use mathlib.Core.Path.{_≡_, refl, sym, ap, _∙_}
-use mathlib.Core.List.{List, [], _∷_, _++_}
-use mathlib.Core.Bool.{Bool, true, false}
+use mathlib.Core.List.{List, [], _∷_}
+use mathlib.Core.Bool.{true}
 use native.Mathlib.Omega.{arith}
-use native.Mathlib.Numerals.{add-one}
-use lib.ListN.{length, getD, replicate, length-replicate, getD-replicate, List·getD-eq-default}
+use lib.ListN.{length, getD, replicate, length-replicate, List·getD-eq-default}
 use lib.Seq.{sets, length-sets}
-use lib.Dec.{eqb, eqb·suc-zero}
-use borrow.Author.Tests.{ne-eqb}
-use Rattle.words.specs.Reader.{Words, pick, Read, value, refused, Reader, andThen, _>>=_, _>>_, return, many, end, accepted}
+use lib.Dec.{eqb·suc-zero}
+use Rattle.words.specs.Reader.{Words, value, andThen, _>>=_, _>>_, return, many, end, accepted}
 use Rattle.words.proofs.Laws.{accepted-value, then-value, in-value, many-suc, many-length}
 use Rattle.words.proofs.Sets.{getD-below, getD-above, getD-within}
 use Rattle.grammar.specs.Grammar.{Kind, token, opt, sequence, forms, Grammar, field, form, kind, grammar, finite, finiteRecords, readGrammar}

@@ -12,10 +12,10 @@ use Rattle.words.specs.Reader.{Words, pick, and, between, Read, value, refused,
 use Rattle.grammar.specs.Grammar.{Grammar}
 use Rattle.grammar.specs.Kinds.{allowed, children}
 use Rattle.tree.specs.Limits.{mostTreeWords, mostNodes, mostNesting}
-use Rattle.tree.specs.Tree.{levels, areTrees, nestingFrom, nesting, size, isTree, Trees, Tree}
+use Rattle.tree.specs.Tree.{levels, areTrees, nestingFrom, nesting, size, isTree, Tree}
 use Rattle.tree.specs.Dues.{firstWord, secondWord, leaves, whole}
 use Rattle.tree.specs.Reading.{Due, tree, duesOf, meetsNode, readTreeOf, readTree}
-use Rattle.tree.proofs.Trees.{levels-length, more-length, trees-even, tree-some, trees-pass, pass-trees, tree-passes, passes-tree}
+use Rattle.tree.proofs.Trees.{levels-length, more-length, trees-even, tree-some, pass-trees, tree-passes, passes-tree}
 use Rattle.tree.proofs.Dues.{plain, placed, done, bind, Steady, leaves-steady, require-steady, exact, whole-exact}
 
 -- A NODE READS ONE PAIR, the same at every position
@@ -126,8 +126,3 @@ accepted-tree g t ws e = passes-tree ws (sym (tree-of-accepted g t ws) ∙ e)
 
 pub tree-is-accepted : {g : Grammar} {t : ℕ} {ws : Words} → Tree g t ws → accepted (readTreeOf g t ws) ≡ true
 tree-is-accepted {g} {t} {ws} x = tree-of-accepted g t ws ∙ tree-passes x
-
--- of trees that are not too large, only the nesting can be refused
-pub typed-accepted : {g : Grammar} {t : ℕ} {ws : Words} → Trees g (t ∷ []) ws → size ws ≤ mostNodes → accepted (readTreeOf g t ws) ≡ leb (nesting g ws) mostNesting
-unfolding isTree
-typed-accepted {g} {t} {ws} r small = tree-of-accepted g t ws ∙ rw (trees-pass r, le-leb (size ws) mostNodes small)

@@ -1,5 +1,5 @@
 -- Laws of trees: what they are made of, the first of them and what follows, their nesting, and the test. Assumes nothing.
-use Prim.Native.Nat.{ℕ, zero, suc, _+_, _*_, _%_, _≤_, max}
+use Prim.Native.Nat.{ℕ, zero, suc, _+_, _*_, _%_, _≤_, max, _<_}
 use mathlib.Core.Path.{_≡_, refl, sym, ap, _∙_}
 use mathlib.Core.List.{List, [], _∷_, _++_, map, append-assoc, append-nil}
 use mathlib.Core.Bool.{Bool, true, false}
@@ -33,6 +33,12 @@ no-odd x h = omega arith
 pub even-tail : (x y : ℕ) (ws : Words) → Even (x ∷ y ∷ ws) → Even ws
 unfolding size
 even-tail x y ws h = omega arith
+
+pub even-none : (x : Words) → Even x → length x < 2 → x ≡ []
+unfolding size
+even-none [] e h = refl
+even-none (a ∷ []) e h = absurd (omega arith)
+even-none (a ∷ b ∷ x) e h = absurd (omega arith)
 
 pub size-append : (a b : Words) → Even a → size (a ++ b) ≡ size a + size b
 unfolding size

@@ -38,7 +38,8 @@ use Rattle.dues.specs.Views.{contextOf, dueOf, wordsAt}
 use Rattle.pairs.specs.Views.{TypedAs}
 use Rattle.typing.specs.Views.{deconstructOf, partsFor, replacementFor}
 use Rattle.dues.proofs.Stack.{context-length, tree-due, chain-due}
-use Rattle.pairs.proofs.Book.{head-found, head-refused, head-words}
+use Rattle.rules.proofs.Laws.{head-refused, head-found}
+use Rattle.pairs.proofs.Book.{head-words}
 use Rattle.pairs.proofs.Stretch.{stretch-accepted}
 use Rattle.typing.proofs.Places.{RuleAt, rule-shape, rule-replacement}
 

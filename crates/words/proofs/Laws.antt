@@ -8,7 +8,7 @@ use native.Mathlib.Omega.{arith}
 use lib.ListN.{length, getD, getElem?}
 use lib.Dec.{ltb, leb}
 use borrow.Author.Tests.{lt-ltb, le-ltb, le-leb, lt-leb, ltb-true, leb-true}
-use Rattle.words.specs.Reader.{Words, pick, and, or, between, Read, value, refused, Reader, andThen, _>>=_, return, require, word, wordIn, many, end, accepted}
+use Rattle.words.specs.Reader.{Words, pick, and, or, between, Read, value, refused, Reader, andThen, _>>=_, return, require, word, wordIn, many, accepted}
 use Rattle.words.specs.declared.Check.{Check}
 use Rattle.words.specs.declared.Check.the-variants.{Passed, Refused}
 use Rattle.words.specs.declared.Got.{Got}

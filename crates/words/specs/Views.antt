@@ -1,6 +1,6 @@
 -- What the code hands back of a reading, and the comparison of words. Assumes nothing: these are definitions.
 use Prim.Native.Nat.{ℕ}
-use mathlib.Core.List.{List, [], _∷_}
+use mathlib.Core.List.{[], _∷_}
 use mathlib.Core.Bool.{Bool, true, false}
 use lib.Dec.{eqb}
 use Rattle.words.specs.Reader.{Words, and, Read, value, refused}

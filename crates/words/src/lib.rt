@@ -1,7 +1,7 @@
 // Lent words: reading one, comparing, copying and clearing stretches.
 ghost use mathlib.Core.Path.{_≡_};
 ghost use mathlib.Core.List.{_++_};
-ghost use Prim.Native.Nat.{ℕ, _+_, _≤_};
+ghost use Prim.Native.Nat.{_+_, _≤_};
 ghost use lib.ListN.{length, getD, take, drop, replicate};
 ghost use Rattle.words.specs.Reader as Reader;
 ghost use Rattle.words.specs.Views.{got, equalWords};

@@ -1,6 +1,5 @@
 -- `grammar::field` meets its contract. Assumes nothing.
 use Rattle.grammar.specs.Grammar.{field}
-use mathlib.Core.Path.{_∙_, sym}
 use borrow.Author.Needs.{needs}
 use Rattle.grammar.proofs.field.Statement.{statement}
 use Rattle.grammar.proofs.field.Tie as tie

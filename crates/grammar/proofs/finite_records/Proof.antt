@@ -4,8 +4,8 @@ use borrow.Author.Needs.{needs}
 use Rattle.words.specs.Views.{answer}
 use Rattle.grammar.specs.Grammar.{finiteRecords}
 use native.Mathlib.Omega.{arith}
-use lib.ListN.{take, drop, length}
-use Prim.Native.Nat.{_+_, _-_, _≤_}
+use lib.ListN.{take, drop}
+use Prim.Native.Nat.{_-_, _≤_}
 use mathlib.Core.Path.{_≡_, refl}
 use Rattle.grammar.proofs.Laws.{records-end, records-false, records-fault, records-more}
 use Rattle.grammar.proofs.finite_records.Statement.{statement}

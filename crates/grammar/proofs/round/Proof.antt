@@ -5,7 +5,7 @@ use Rattle.grammar.specs.Views.{filled}
 use Rattle.grammar.specs.Grammar.{kind}
 use Rattle.words.specs.Reader.{many}
 use native.Mathlib.Omega.{arith}
-use lib.ListN.{replicate, length}
+use lib.ListN.{replicate}
 use Prim.Native.Nat.{_+_}
 use mathlib.Core.Bool.{false}
 use mathlib.Core.Path.{_≡_, refl}

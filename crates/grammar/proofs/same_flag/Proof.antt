@@ -1,6 +1,6 @@
 -- `grammar::same_flag` meets its contract. Assumes nothing.
 use borrow.Author.Tests.{not-true}
-use mathlib.Core.Path.{_≡_, refl, sym, ap, _∙_}
+use mathlib.Core.Path.{sym, _∙_}
 use Rattle.grammar.proofs.same_flag.Statement.{statement}
 use Rattle.grammar.proofs.same_flag.Tie as tie
 use Rattle.grammar.proofs.same_flag.Reads as reads

@@ -2,12 +2,10 @@
 use borrow.Author.Needs.{needs}
 use Rattle.grammar.proofs.Laws.{same-more, same-whole}
 use borrow.Author.Tests.{not-false}
-use mathlib.Core.Bool.{Bool, true, false}
-use lib.Seq.{take-all}
-use lib.ListN.{length, getD, take}
+use lib.ListN.{take}
 use native.Mathlib.Omega.{arith}
-use Prim.Native.Nat.{ℕ, _+_, _-_, _≤_, _<_}
-use mathlib.Core.Path.{_≡_, refl, sym, ap, _∙_}
+use Prim.Native.Nat.{ℕ, _-_, _≤_}
+use mathlib.Core.Path.{_≡_, refl}
 use Rattle.grammar.proofs.same_flags.Statement.{statement}
 use Rattle.grammar.proofs.same_flags.Tie as tie
 use Rattle.grammar.proofs.same_flags.Reads as reads

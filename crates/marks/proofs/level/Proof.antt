@@ -1,7 +1,6 @@
 -- `marks::level` meets its contract. Assumes nothing.
 use Rattle.marks.proofs.Marking.{level-rest, level-other, level-plain}
 use native.Mathlib.Omega.{arith}
-use borrow.Author.Needs.{needs}
 use Rattle.marks.proofs.level.Statement.{statement}
 use Rattle.marks.proofs.level.Tie as tie
 use Rattle.marks.proofs.level.Reads as reads

@@ -2,8 +2,7 @@
 use borrow.Author.Needs.{needs}
 use Rattle.marks.proofs.Marking.{Marking, marking-start, marking-more, marking-end}
 use native.Mathlib.Omega.{arith}
-use Prim.Native.Nat.{ℕ, _+_, _*_, _-_, _≤_, _<_}
-use mathlib.Core.Path.{_≡_, refl, sym, ap, _∙_}
+use Prim.Native.Nat.{_-_, _≤_}
 use Rattle.marks.proofs.mark_of.Statement.{statement}
 use Rattle.marks.proofs.mark_of.Tie as tie
 use Rattle.marks.proofs.mark_of.Reads as reads

@@ -1,8 +1,7 @@
 -- `marks::nesting_at` meets its contract. Assumes nothing.
 use borrow.Author.Needs.{needs}
-use lib.ListN.{length}
-use mathlib.Core.Path.{_≡_, refl, sym, ap, _∙_}
-use Prim.Native.Nat.{ℕ, _+_, _*_, _-_, _≤_, _<_}
+use mathlib.Core.Path.{refl}
+use Prim.Native.Nat.{_-_}
 use native.Mathlib.Omega.{arith}
 use Rattle.marks.proofs.Descent.{Descent, descent-start, descent-none, descent-over, descent-into, descent-end}
 use Rattle.marks.proofs.nesting_at.Statement.{statement}

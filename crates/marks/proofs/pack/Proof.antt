@@ -1,6 +1,6 @@
 -- `marks::pack` meets its contract. Assumes nothing.
 use Rattle.marks.proofs.Marking.{packed}
-use mathlib.Core.Path.{_≡_, refl}
+use mathlib.Core.Path.{refl}
 use borrow.Author.Needs.{needs}
 use Rattle.marks.proofs.pack.Statement.{statement}
 use Rattle.marks.proofs.pack.Tie as tie

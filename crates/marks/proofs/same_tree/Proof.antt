@@ -2,8 +2,7 @@
 use lib.ListN.{length-take}
 use Rattle.marks.proofs.Same.{same-sizes, same-arena, same-part, same-words}
 use native.Mathlib.Omega.{arith}
-use Prim.Native.Nat.{ℕ, _+_, _*_, _-_, _≤_, _<_}
-use mathlib.Core.Path.{_≡_, refl, sym, ap, _∙_}
+use Prim.Native.Nat.{_*_}
 use borrow.Author.Needs.{needs}
 use Rattle.marks.proofs.same_tree.Statement.{statement}
 use Rattle.marks.proofs.same_tree.Tie as tie

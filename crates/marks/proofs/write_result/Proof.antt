@@ -1,8 +1,7 @@
 -- `marks::write_result` meets its contract. Assumes nothing.
 use borrow.Author.Needs.{needs}
 use lib.ListN.{length, length-set}
-use mathlib.Core.Path.{_≡_, refl, sym, ap, _∙_}
-use Prim.Native.Nat.{ℕ, _+_, _*_, _-_, _≤_, _<_}
+use Prim.Native.Nat.{_-_}
 use native.Mathlib.Omega.{arith}
 use Rattle.marks.proofs.Writing.{WriteLoop, write-start, write-more, write-end}
 use Rattle.marks.proofs.write_result.Statement.{statement}

@@ -1,8 +1,7 @@
 -- `operations::operate` meets its contract. Assumes nothing.
 use Rattle.operations.proofs.Numbers.{adds, below-zero, subtracts, rounds, truncates, by-zero, divides, remains, quotient-fits, quotient-small}
 use native.Mathlib.Omega.{arith}
-use Prim.Native.Nat.{ℕ, _+_, _*_, _-_, _/_, _≤_, _<_}
-use mathlib.Core.Path.{_≡_, refl, sym, ap, _∙_}
+use mathlib.Core.Path.{refl}
 use borrow.Author.Needs.{needs}
 use Rattle.operations.proofs.operate.Statement.{statement}
 use Rattle.operations.proofs.operate.Tie as tie

@@ -2,10 +2,10 @@
 use borrow.Author.Needs.{needs}
 use Rattle.rewrite.proofs.Finding.{Finding, finding-start, finding-none, finding-other, finding-matches, finding-stops, finding-differs}
 use Rattle.words.proofs.Stretches.{part-rest}
-use lib.ListN.{length, length-drop}
+use lib.ListN.{length}
 use native.Mathlib.Omega.{arith}
-use Prim.Native.Nat.{ℕ, _+_, _*_, _-_, _≤_, _<_}
-use mathlib.Core.Path.{_≡_, refl, sym, ap, _∙_}
+use Prim.Native.Nat.{_-_}
+use mathlib.Core.Path.{refl, sym, _∙_}
 use Rattle.rewrite.proofs.match_first.Statement.{statement}
 use Rattle.rewrite.proofs.match_first.Tie as tie
 use Rattle.rewrite.proofs.match_first.Reads as reads

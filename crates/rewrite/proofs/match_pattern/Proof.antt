@@ -1,7 +1,7 @@
 -- `rewrite::match_pattern` meets its contract. Assumes nothing.
 use Rattle.rewrite.proofs.Matcher.{Going, going-start, going-end, pair-failed, pair-bound, pair-on}
-use mathlib.Core.Path.{_≡_, refl, sym, ap, _∙_}
-use Prim.Native.Nat.{ℕ, _+_, _*_, _-_, _≤_, _<_}
+use mathlib.Core.Path.{refl}
+use Prim.Native.Nat.{_-_}
 use native.Mathlib.Omega.{arith}
 use lib.ListN.{length}
 use borrow.Author.Needs.{needs}

@@ -1,8 +1,6 @@
 -- `rewrite::start_in` meets its contract. Assumes nothing.
 use Rattle.rewrite.proofs.Matcher.{start-there, start-past, start-over}
 use native.Mathlib.Omega.{arith}
-use Prim.Native.Nat.{ℕ, _+_, _*_, _-_, _≤_, _<_}
-use mathlib.Core.Path.{_≡_, refl, sym, ap, _∙_}
 use borrow.Author.Needs.{needs}
 use Rattle.rewrite.proofs.start_in.Statement.{statement}
 use Rattle.rewrite.proofs.start_in.Tie as tie

@@ -1,6 +1,6 @@
 -- `rules::construct_at` meets its contract. Assumes nothing.
 use mathlib.Core.Path.{ap}
-use Rattle.rules.specs.declared.Part.the-variants.{Deconstruct, Construct, Condition}
+use Rattle.rules.specs.declared.Part.the-variants.{Construct}
 use borrow.Author.Needs.{needs}
 use Rattle.rules.proofs.construct_at.Statement.{statement}
 use Rattle.rules.proofs.construct_at.Tie as tie

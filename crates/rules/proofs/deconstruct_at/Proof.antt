@@ -1,7 +1,7 @@
 -- `rules::deconstruct_at` meets its contract. Assumes nothing.
 use Prim.Native.Nat.{_+_}
 use mathlib.Core.Path.{ap}
-use Rattle.rules.specs.declared.Part.the-variants.{Deconstruct, Construct, Condition}
+use Rattle.rules.specs.declared.Part.the-variants.{Deconstruct}
 use borrow.Author.Needs.{needs}
 use Rattle.rules.proofs.deconstruct_at.Statement.{statement}
 use Rattle.rules.proofs.deconstruct_at.Tie as tie

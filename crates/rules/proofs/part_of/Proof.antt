@@ -1,6 +1,6 @@
 -- `rules::part_of` meets its contract. Assumes nothing.
 use Rattle.rules.proofs.Laid.{found-read, found-short, found-apart, found-searched, found-built, found-tested, found-untested}
-use mathlib.Core.Path.{refl, _∙_}
+use mathlib.Core.Path.{_∙_}
 use native.Mathlib.Omega.{arith}
 use borrow.Author.Needs.{needs}
 use Rattle.rules.proofs.part_of.Statement.{statement}

@@ -2,7 +2,7 @@
 use Rattle.tables.proofs.Lookups.{no-type, child-in, child-out}
 use lib.ListN.{getD}
 use native.Mathlib.Omega.{arith}
-use mathlib.Core.Path.{_≡_, refl, sym, ap, _∙_}
+use mathlib.Core.Path.{sym, ap, _∙_}
 use borrow.Author.Needs.{needs}
 use Rattle.tables.proofs.child.Statement.{statement}
 use Rattle.tables.proofs.child.Tie as tie

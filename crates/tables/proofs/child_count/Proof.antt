@@ -1,7 +1,7 @@
 -- `tables::child_count` meets its contract. Assumes nothing.
 use Rattle.tables.proofs.Lookups.{no-type, count-in, none-counted}
 use native.Mathlib.Omega.{arith}
-use mathlib.Core.Path.{_≡_, refl, sym, ap, _∙_}
+use mathlib.Core.Path.{_∙_}
 use borrow.Author.Needs.{needs}
 use Rattle.tables.proofs.child_count.Statement.{statement}
 use Rattle.tables.proofs.child_count.Tie as tie

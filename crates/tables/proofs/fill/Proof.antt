@@ -5,8 +5,7 @@ use Rattle.tables.proofs.Filling.{FillLoop, fill-record, fill-more, fil
 use Rattle.tables.specs.Tables.{readOf}
 use Rattle.grammar.specs.Grammar.{readGrammar}
 use native.Mathlib.Omega.{arith}
-use Prim.Native.Nat.{ℕ, _+_, _*_, _-_, _≤_, _<_}
-use mathlib.Core.Path.{_≡_, refl, sym, ap, _∙_}
+use mathlib.Core.Path.{refl}
 use Rattle.tables.proofs.fill.Statement.{statement}
 use Rattle.tables.proofs.fill.Tie as tie
 use Rattle.tables.proofs.fill.Reads as reads

@@ -2,8 +2,6 @@
 use borrow.Author.Needs.{needs}
 use Rattle.tables.proofs.Filling.{FormLoop, form-start, form-inside, form-element, form-more, form-end}
 use native.Mathlib.Omega.{arith}
-use Prim.Native.Nat.{ℕ, _+_, _*_, _-_, _≤_, _<_}
-use mathlib.Core.Path.{_≡_, refl, sym, ap, _∙_}
 use Rattle.tables.proofs.fill_form.Statement.{statement}
 use Rattle.tables.proofs.fill_form.Tie as tie
 use Rattle.tables.proofs.fill_form.Reads as reads

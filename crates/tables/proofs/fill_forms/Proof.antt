@@ -2,8 +2,7 @@
 use borrow.Author.Needs.{needs}
 use Rattle.tables.proofs.Filling.{FormsLoop, forms-start, forms-form, forms-more, forms-end}
 use native.Mathlib.Omega.{arith}
-use Prim.Native.Nat.{ℕ, _+_, _*_, _-_, _≤_, _<_}
-use mathlib.Core.Path.{_≡_, refl, sym, ap, _∙_}
+use mathlib.Core.Path.{refl}
 use Rattle.tables.proofs.fill_forms.Statement.{statement}
 use Rattle.tables.proofs.fill_forms.Tie as tie
 use Rattle.tables.proofs.fill_forms.Reads as reads

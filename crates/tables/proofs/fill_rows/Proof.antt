@@ -1,8 +1,6 @@
 -- `tables::fill_rows` meets its contract. Assumes nothing.
 use Rattle.tables.proofs.Filling.{record-inside, record-forms, record-opt, record-sequence, put-forms, put-token, put-opt, put-sequence}
 use native.Mathlib.Omega.{arith}
-use Prim.Native.Nat.{ℕ, _+_, _*_, _-_, _≤_, _<_}
-use mathlib.Core.Path.{_≡_, refl, sym, ap, _∙_}
 use borrow.Author.Needs.{needs}
 use Rattle.tables.proofs.fill_rows.Statement.{statement}
 use Rattle.tables.proofs.fill_rows.Tie as tie

@@ -1,8 +1,6 @@
 -- `tables::put_element` meets its contract. Assumes nothing.
 use Rattle.tables.proofs.Filling.{put-literal, put-type, type-small}
 use native.Mathlib.Omega.{arith}
-use Prim.Native.Nat.{ℕ, _+_, _*_, _-_, _≤_, _<_}
-use mathlib.Core.Path.{_≡_, refl, sym, ap, _∙_}
 use borrow.Author.Needs.{needs}
 use Rattle.tables.proofs.put_element.Statement.{statement}
 use Rattle.tables.proofs.put_element.Tie as tie

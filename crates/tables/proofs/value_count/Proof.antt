@@ -1,8 +1,6 @@
 -- `tables::value_count` meets its contract. Assumes nothing.
 use Rattle.tables.proofs.Filling.{record-inside, values-forms, values-number, values-name, values-two}
 use native.Mathlib.Omega.{arith}
-use Prim.Native.Nat.{ℕ, _+_, _*_, _-_, _≤_, _<_}
-use mathlib.Core.Path.{_≡_, refl, sym, ap, _∙_}
 use borrow.Author.Needs.{needs}
 use Rattle.tables.proofs.value_count.Statement.{statement}
 use Rattle.tables.proofs.value_count.Tie as tie

@@ -2,10 +2,10 @@
 use borrow.Author.Needs.{needs}
 use Rattle.words.proofs.Stretches.{up-turn}
 use lib.Seq.{paste, paste-zero}
-use lib.ListN.{length, getD, take, drop, length-set}
+use lib.ListN.{length, drop, length-set}
 use native.Mathlib.Omega.{arith}
-use Prim.Native.Nat.{ℕ, _+_, _*_, _-_, _≤_, _<_}
-use mathlib.Core.Path.{_≡_, refl, sym, ap, _∙_}
+use Prim.Native.Nat.{_-_, _≤_}
+use mathlib.Core.Path.{_≡_, refl}
 use Rattle.words.proofs.copy_up.Statement.{statement}
 use Rattle.words.proofs.copy_up.Tie as tie
 use Rattle.words.proofs.copy_up.Reads as reads

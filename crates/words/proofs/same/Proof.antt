@@ -2,10 +2,10 @@
 use borrow.Author.Needs.{needs}
 use Rattle.words.proofs.Stretches.{equal-lengths, equal-differs, equal-more, equal-end}
 use Rattle.words.specs.Views.{equalWords}
-use lib.ListN.{length, getD, take, drop, length-set}
+use lib.ListN.{drop}
 use native.Mathlib.Omega.{arith}
-use Prim.Native.Nat.{ℕ, _+_, _*_, _-_, _≤_, _<_}
-use mathlib.Core.Path.{_≡_, refl, sym, ap, _∙_}
+use Prim.Native.Nat.{_-_, _≤_}
+use mathlib.Core.Path.{_≡_, sym}
 use Rattle.words.proofs.same.Statement.{statement}
 use Rattle.words.proofs.same.Tie as tie
 use Rattle.words.proofs.same.Reads as reads

@@ -1,9 +1,6 @@
 -- `words::word` meets its contract. Assumes nothing.
 use lib.ListN.{List·getD-eq-default}
-use lib.ListN.{length, getD, take, drop, length-set}
-use native.Mathlib.Omega.{arith}
-use Prim.Native.Nat.{ℕ, _+_, _*_, _-_, _≤_, _<_}
-use mathlib.Core.Path.{_≡_, refl, sym, ap, _∙_}
+use mathlib.Core.Path.{sym}
 use borrow.Author.Needs.{needs}
 use Rattle.words.proofs.word.Statement.{statement}
 use Rattle.words.proofs.word.Tie as tie

@@ -1,6 +1,6 @@
 -- The parts of the proof that `calls::any_succeeds` meets its contract. Assumes nothing.
 use Rattle.calls.proofs.Testing.{Ended, Trying, trying-start, trying-stop, trying-more, trying-end}
-use Prim.Native.Nat.{ℕ, _-_}
+use Prim.Native.Nat.{ℕ}
 use mathlib.Core.Path.{sym, _∙_, subst}
 use native.Mathlib.Omega.{arith}
 use borrow.Author.Needs.{needs}

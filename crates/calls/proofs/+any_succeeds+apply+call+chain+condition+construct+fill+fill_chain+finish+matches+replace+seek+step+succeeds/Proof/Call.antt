@@ -1,5 +1,5 @@
 -- The parts of the proof that `calls::call` meets its contract. Assumes nothing.
-use Prim.Native.Nat.{ℕ, _-_}
+use Prim.Native.Nat.{ℕ}
 use native.Mathlib.Omega.{arith}
 use borrow.Author.Needs.{needs}
 use Rattle.calls.proofs.Rounds.{Calling, Searched, Placed, calling-start, calls-over, searched, placed}

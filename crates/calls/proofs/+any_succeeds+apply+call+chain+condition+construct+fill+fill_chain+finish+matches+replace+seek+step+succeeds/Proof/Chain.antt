@@ -1,6 +1,6 @@
 -- The parts of the proof that `calls::chain` meets its contract. Assumes nothing.
 use Rattle.calls.proofs.Applying.{Chaining, chaining-start, chaining-stop, chaining-more, chaining-end}
-use Prim.Native.Nat.{ℕ, _-_}
+use Prim.Native.Nat.{ℕ}
 use mathlib.Core.Path.{_∙_}
 use native.Mathlib.Omega.{arith}
 use borrow.Author.Needs.{needs}

@@ -1,6 +1,6 @@
 -- The parts of the proof that `calls::condition` meets its contract. Assumes nothing.
 use Rattle.calls.proofs.Testing.{condition-over, condition-tested}
-use Prim.Native.Nat.{ℕ, _-_}
+use Prim.Native.Nat.{ℕ}
 use borrow.Author.Needs.{needs}
 use Rattle.calls.proofs.any_succeeds.Reads as any-succeeds
 use Rattle.calls.proofs.condition.Reads as condition

@@ -2,7 +2,7 @@
 use Rattle.rewrite.specs.declared.Verdict.{Verdict}
 use Rattle.calls.proofs.Testing.{foundVerdict, matches-over, matches-found}
 use Rattle.calls.specs.Engine.{CallMatches}
-use Prim.Native.Nat.{ℕ, _-_}
+use Prim.Native.Nat.{ℕ}
 use mathlib.Core.Path.{_≡_, ap}
 use native.Mathlib.Omega.{arith}
 use borrow.Author.Needs.{needs}

@@ -1,5 +1,5 @@
 -- The parts of the proof that `calls::replace` meets its contract. Assumes nothing.
-use Prim.Native.Nat.{ℕ, _-_}
+use Prim.Native.Nat.{ℕ}
 use native.Mathlib.Omega.{arith}
 use borrow.Author.Needs.{needs}
 use Rattle.calls.proofs.Replacing.{replaces-stopped, replaces-put}

@@ -1,6 +1,6 @@
 -- The parts of the proof that `calls::succeeds` meets its contract. Assumes nothing.
 use Rattle.calls.proofs.Testing.{testVerdict, succeeds-deep, succeeds-called, succeeds-holds}
-use Prim.Native.Nat.{ℕ, _+_, _-_}
+use Prim.Native.Nat.{ℕ, _+_}
 use lib.ListN.{getD}
 use mathlib.Core.Path.{refl, ap}
 use native.Mathlib.Omega.{arith}

@@ -1,7 +1,7 @@
 -- `rewrite::candidates::clashes` meets its contract. Assumes nothing.
 use Rattle.rewrite.proofs.Clashing.{Clashing, clashing-start, clashing-type, clashing-value, clashing-node, clashing-other, clashing-new}
-use mathlib.Core.Path.{_≡_, refl, sym, ap, _∙_}
-use Prim.Native.Nat.{ℕ, _+_, _*_, _-_, _≤_, _<_}
+use mathlib.Core.Path.{_≡_, refl, sym, _∙_}
+use Prim.Native.Nat.{ℕ, _-_}
 use lib.ListN.{length}
 use native.Mathlib.Omega.{arith}
 use borrow.Author.Needs.{needs}
