@@ -216,9 +216,6 @@ module _ (g : Grammar) (rules : Rules) (here : Place) (t v at sp : ℕ) (st : Wo
 
 -- WHAT IS APPLIED
 
-pub start-at : (starts : Words) (a : ℕ) {x : ℕ} → x ≡ a → getD starts x 0 ≡ getD starts a 0
-start-at starts a e = rw e
-
 pub root-only : (strategy : Strategy) (target s : ℕ) → strategy ≡ RootOnly → eqb target s ≡ or (searchesAs strategy) (eqb target s)
 root-only strategy target s h = rw h
 

@@ -5,14 +5,14 @@ use mathlib.Core.List.{List, [], _∷_, _++_, map}
 use mathlib.Core.Bool.{Bool, true, false}
 use native.Mathlib.Omega.{arith}
 use lib.ListN.{length, getD, drop}
-use lib.Dec.{ltb, eqb}
-use borrow.Author.Tests.{eq-eqb, ne-eqb, lt-ltb, le-ltb, le-leb, eqb-true, ltb-true}
+use lib.Dec.{ltb}
+use borrow.Author.Tests.{eq-eqb, lt-ltb, le-ltb, le-leb, eqb-true, ltb-true}
 use Rattle.words.specs.Reader.{Words, and, value, Reader}
 use Rattle.words.proofs.Laws.{and-both}
 use Rattle.words.proofs.Stretches.{drop-pair}
 use Rattle.grammar.specs.Grammar.{Kind, token, opt, sequence, forms, Grammar}
 use Rattle.grammar.specs.Kinds.{kindOf, allows, allowed, childrenOf, children, isSequenceKind, isSequence}
-use Rattle.tables.specs.Tables.{mapOf}
+use Rattle.tables.specs.Tables.{mapOf, isToken}
 use Rattle.grammar.specs.Values.{valuesOf}
 use Rattle.tables.proofs.Lookups.{allowed-by}
 use Rattle.tree.specs.Tree.{levelsOf, levels}
@@ -36,32 +36,32 @@ module _ (g : Grammar) (here : Place) (n d : ℕ) where
     unfolding tokensDue
     tokens-single h = rw (lt-ltb n 64 low, ← eb, h)
 
-    module _ (some : b ≡ true) {e m : ℕ} (ee : e ≡ getD (children g d 0) 0 0) (em : m ≡ mapOf (kindOf g e)) where
-      pub tokens-other : (m ≡ 1 → ⊥) → false ≡ tokensDue g here n d
+    module _ (some : b ≡ true) {e : ℕ} {t : Bool} (ee : e ≡ getD (children g d 0) 0 0) (et : t ≡ isToken g e) where
+      pub tokens-other : t ≡ false → false ≡ tokensDue g here n d
       unfolding tokensDue
-      tokens-other h = rw (lt-ltb n 64 low, ← eb, some, ← ee, ← em, ne-eqb m 1 h)
+      tokens-other h = rw (lt-ltb n 64 low, ← eb, some, ← ee, ← et, h)
 
-      pub tokens-stand : m ≡ 1 → {r : Bool} → r ≡ mayStand here d d → r ≡ tokensDue g here n d
+      pub tokens-stand : t ≡ true → {r : Bool} → r ≡ mayStand here d d → r ≡ tokensDue g here n d
       unfolding tokensDue
-      tokens-stand h k = k ∙ rw (lt-ltb n 64 low, ← eb, some, ← ee, ← em, eq-eqb m 1 h)
+      tokens-stand h k = k ∙ rw (lt-ltb n 64 low, ← eb, some, ← ee, ← et, h)
 
 -- what it tells where it holds
 record Elements (g : Grammar) (here : Place) (n d e : ℕ) : Type 0 where
   low : n < 64
   sequence : isSequence g d ≡ true
-  token : mapOf (kindOf g e) ≡ 1
+  token : isToken g e ≡ true
   stand : mayStand here d d ≡ true
 
 elements : (g : Grammar) (here : Place) (n d : ℕ) → tokensDue g here n d ≡ true → Elements g here n d (getD (children g d 0) 0 0)
 unfolding tokensDue
 elements g here n d h =
     let sequence = isSequence g d in
-    let token = eqb (mapOf (kindOf g (getD (children g d 0) 0 0))) 1 in
+    let token = isToken g (getD (children g d 0) 0 0) in
     let stand = mayStand here d d in
     let a = and-both (ltb n 64) (and sequence (and token stand)) h in
     let b = and-both sequence (and token stand) (a .1) in
     let c = and-both token stand (b .1) in
-    record { low = ltb-true n 64 (a .0); sequence = b .0; token = eqb-true _ 1 (c .0); stand = c .1 }
+    record { low = ltb-true n 64 (a .0); sequence = b .0; token = c .0; stand = c .1 }
 
 -- THE PAIR OF A SEQUENCE, AND A TOKEN'S
 
@@ -84,9 +84,9 @@ kind-ends (sequence x) e v n h = absurd (omega arith)
 kind-ends (forms []) e v n h = absurd (omega arith)
 kind-ends (forms (f ∷ fs)) e v n h = absurd (omega arith)
 
-token-ends : (g : Grammar) (e v n : ℕ) → mapOf (kindOf g e) ≡ 1 → nodeDue g e v n ≡ []
-unfolding levels children
-token-ends g e v n h = kind-ends (kindOf g e) e v n h
+token-ends : (g : Grammar) (e v n : ℕ) → isToken g e ≡ true → nodeDue g e v n ≡ []
+unfolding levels children isToken
+token-ends g e v n h = kind-ends (kindOf g e) e v n (eqb-true (mapOf (kindOf g e)) 1 h)
 
 -- a node may stand in a pattern and in a replacement, whatever its type
 stand-any : (here : Place) (d e : ℕ) → mayStand here d d ≡ true → mayStand here e e ≡ true

@@ -7,8 +7,8 @@ use lib.ListN.{length, getD, take, drop}
 use lib.Dec.{ltb, leb, eqb}
 use Rattle.words.specs.Reader.{Words, pick, and, between, Read, value, refused, Reader, _>>=_, _>>_}
 use Rattle.grammar.specs.Grammar.{Grammar}
-use Rattle.grammar.specs.Kinds.{kindOf, children, isSequence}
-use Rattle.tables.specs.Tables.{mapOf, Rows}
+use Rattle.grammar.specs.Kinds.{children, isSequence}
+use Rattle.tables.specs.Tables.{isToken, Rows}
 use Rattle.tree.specs.Limits.{mostNesting}
 use Rattle.tree.specs.Tree.{levels}
 use Rattle.tree.specs.Dues.{Next, secondWord, leaves, pairs}
@@ -100,9 +100,9 @@ pub record Meets (m : Met) (Γ : Context) (st : Words) (sp : ℕ) (st′ : Words
 
 -- THE TOKENS OF A SEQUENCE
 
--- is d a sequence of tokens, which may stand here where d is due at the nesting n? A token's record has the map 1
+-- is d a sequence of tokens, which may stand here where d is due at the nesting n?
 unfoldable pub tokensDue : Grammar → Typing.Place → ℕ → ℕ → Bool
-tokensDue g here n d = and (ltb n mostNesting) (and (isSequence g d) (and (eqb (mapOf (kindOf g (getD (children g d 0) 0 0))) 1) (mayStand here d d)))
+tokensDue g here n d = and (ltb n mostNesting) (and (isSequence g d) (and (isToken g (getD (children g d 0) 0 0)) (mayStand here d d)))
 
 -- where (a, b) is due on top, the pairs from r on leave what those from `from` on leave
 pub record TokensPassed (heads rows : Words) (here : Typing.Place) (a b : ℕ) (ps : Words) (from r : ℕ) : Type 0 where

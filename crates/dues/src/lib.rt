@@ -6,7 +6,6 @@ use limits::DUE_APPLICATION;
 use limits::DUE_ARGUMENT;
 use limits::DUE_COUNT;
 use limits::DUE_NUMBER;
-use limits::MAP_TOKEN;
 use limits::MOST_NESTING;
 use rules::Strategy;
 use rules::limits::FIRST_BARE;
@@ -19,7 +18,6 @@ use rules::limits::MARK_NEW;
 use rules::limits::MARK_VARIABLE;
 use rules::limits::MOST_APPLICATIONS;
 use rules::limits::MOST_VARIABLES;
-use rules::limits::STARTS;
 use tables::HEADS;
 use tables::ROWS;
 use words::Check;
@@ -356,8 +354,8 @@ fn of_tokens(here: Place, heads: &[u32; HEADS], rows: &[u8; ROWS], nesting: u32,
         return false;
     }
     let e = tables::child(rows, d, 0, 0);
-    let m = tables::map_of(heads, e);
-    if m != MAP_TOKEN {
+    let token = tables::is_token(heads, e);
+    if !token {
         return false;
     }
     may_stand(here, d, d)
@@ -498,15 +496,6 @@ pub fn meet_number(
 }
 
 // WHAT IS APPLIED
-
-// Where rule a stands.
-pub fn start_of(starts: &[usize; STARTS], a: u32) -> usize
-    requires { ⌜ a < 64 ⌝ }
-    ensures { λ r. ⌜ r ≡ getD (now (starts .entry)) a 0 ⌝ }
-{
-    let i = words::wide(a);
-    starts[i]
-}
 
 // Is a rule with this map applied here? In a replacement it needs one itself.
 pub fn applies_rule(here: Place, map: u32) -> bool

@@ -2,9 +2,6 @@
 
 pub const MOST_NESTING: u32 = 64;
 
-// The map of a token's record in a grammar.
-pub const MAP_TOKEN: u32 = 1;
-
 // The words of the stack, two a due: 128 pairs never need more.
 pub const STACK: usize = 2048;
 

@@ -50,7 +50,7 @@ fn rule_usable(
     requires { ⌜ (1 ≤ types) × (a < 64) ⌝ }
     ensures { λ r. ⌜ ((rule : Rule) → Headed types (now (ws .entry)) (getD (now (starts .entry)) a 0) rule → r ≡ ruleUsable (placeAs here) rule s) ⌝ }
 {
-    let at = dues::start_of(starts, a);
+    let at = rules::rule_at(starts, a);
     let h = rules::read_head(types, ws, at);
     match h {
         HeadRead::NoHead(no, p) => false,
@@ -103,7 +103,7 @@ fn meet_rule(
     requires { ⌜ (1 ≤ types) × (t < 64) × (length (now ws) < 2 ^ 32) × (sp < 890) × (at < 2 ^ 40) × (length (now st) ≡ 2048) ⌝ }
     ensures { λ r. ⌜ ((rule : Rule) → Headed types (now (ws .entry)) (getD (now (starts .entry)) t 0) rule → (Γ : Typing.Context) → Meets r Γ (now (st .entry)) sp (now (st .exit)) (argumentsCounted (map Typing.argument (rule .parameters)) Γ v at)) ⌝ }
 {
-    let start = dues::start_of(starts, t);
+    let start = rules::rule_at(starts, t);
     let h = rules::read_head(types, ws, start);
     match h {
         HeadRead::NoHead(no, p) => Met::Bad(no, p),

@@ -12,7 +12,7 @@ use Rattle.grammar.specs.Grammar.{Kind, token, opt, sequence, forms, Grammar}
 use Rattle.grammar.specs.Kinds.{kindOf, allowed, childrenOf, children, isSequenceKind, isSequence, isNumberKind, isNumber}
 use Rattle.grammar.specs.Values.{valuesOf}
 use Rattle.grammar.proofs.Values.{values-allow}
-use Rattle.tables.specs.Tables.{mapOf, formsOf, Heads, Rows, rowAt, Counted}
+use Rattle.tables.specs.Tables.{mapOf, isToken, formsOf, Heads, Rows, rowAt, Counted}
 
 -- A TYPE THAT IS NOT THERE
 
@@ -56,6 +56,10 @@ map-sequence (forms (f ∷ fs)) = refl
 pub sequence-by : (g : Grammar) (t m : ℕ) → m ≡ mapOf (kindOf g t) → eqb m 4 ≡ isSequence g t
 unfolding isSequence
 sequence-by g t m e = rw e (map-sequence (kindOf g t))
+
+pub token-by : (g : Grammar) (t m : ℕ) → m ≡ mapOf (kindOf g t) → eqb m 1 ≡ isToken g t
+unfolding isToken
+token-by g t m e = rw e
 
 values-number : (k : Kind) → length (formsOf k) ≤ 16 → eqb (valuesOf k) 1000000000 ≡ isNumberKind k
 unfolding valuesOf isNumberKind formsOf

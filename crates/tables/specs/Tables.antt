@@ -2,7 +2,9 @@
 use Prim.Native.Nat.{ℕ, _+_, _*_, _≤_, _<_}
 use mathlib.Core.Path.{_≡_}
 use mathlib.Core.List.{List, [], _∷_}
+use mathlib.Core.Bool.{Bool}
 use lib.ListN.{length, getD}
+use lib.Dec.{eqb}
 use Rattle.words.specs.Reader.{Read, value, refused}
 use Rattle.grammar.specs.Limits.{mostTypes, mostForms, mostElements}
 use Rattle.grammar.specs.Grammar.{Kind, token, opt, sequence, forms, Grammar}
@@ -16,6 +18,10 @@ mapOf (opt e) = 2
 mapOf (sequence e) = 4
 mapOf (forms []) = 0
 mapOf (forms (f ∷ fs)) = 8
+
+-- is the type a token, whose nodes have no children?
+unfoldable pub isToken : Grammar → ℕ → Bool
+isToken g t = eqb (mapOf (kindOf g t)) 1
 
 -- the forms of a kind
 unfoldable pub formsOf : Kind → List (List ℕ)

@@ -17,7 +17,7 @@ ghost use Rattle.words.specs.Reader.{accepted, or};
 ghost use Rattle.grammar.specs.Grammar as Grammar;
 ghost use Rattle.grammar.specs.Kinds.{kindOf, allowed, children, isNumber, isSequence};
 ghost use Rattle.grammar.specs.Values.{valuesOf};
-ghost use Rattle.tables.specs.Tables.{Tables, InHeads, InRows, Counted, mapOf, readOf};
+ghost use Rattle.tables.specs.Tables.{Tables, InHeads, InRows, Counted, mapOf, isToken, readOf};
 ghost use Rattle.tables.specs.Filling.{typeCount, kindRead, ElementPut, FormPut, FormsPut, KindPut};
 
 // The entries of the tables: two words a type, and a row of nine for each type and each of 16 values.
@@ -198,6 +198,14 @@ pub fn is_sequence(heads: &[u32; HEADS], t: u32) -> bool
 {
     let m = map_of(heads, t);
     m == 4
+}
+
+// Is the type a token?
+pub fn is_token(heads: &[u32; HEADS], t: u32) -> bool
+    ensures { λ r. ⌜ InHeads (now (heads .entry)) (λ g. r ≡ isToken g t) ⌝ }
+{
+    let m = map_of(heads, t);
+    m == 1
 }
 
 // Is the type a number token? No other type has as many values.

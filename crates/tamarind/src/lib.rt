@@ -243,7 +243,7 @@ fn execute(
 {
     let types = words::word(grammar, 0);
     let starts = typing::rule_starts(types, rules, words::word(rules, 0));
-    let main = dues::start_of(&starts, 0);
+    let main = rules::rule_at(&starts, 0);
     let vars = no_variables();
     lay_tree(heads, rows, tree, work);
     let c = calls::call(

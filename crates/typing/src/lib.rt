@@ -453,7 +453,7 @@ fn main_fits(types: u32, ws: &[u32], starts: &[usize; STARTS]) -> bool
     requires { ⌜ 1 ≤ types ⌝ }
     ensures { λ r. ⌜ ((rule : Rule) → Headed types (now (ws .entry)) (getD (now (starts .entry)) 0 0) rule → r ≡ Typing.fitsScope rule 0) ⌝ }
 {
-    let at = dues::start_of(starts, 0);
+    let at = rules::rule_at(starts, 0);
     let h = rules::read_head(types, ws, at);
     match h {
         HeadRead::NoHead(no, p) => false,
