@@ -17,6 +17,7 @@ use Rattle.judgement.specs.Typing.{readRules}
 use Rattle.judgement.specs.WellTyped.{WellTyped}
 use Rattle.judgement.proofs.Exactly.{passes-exactly}
 use Rattle.meaning.specs.Limits.{leastResult, leastWork}
+use Rattle.meaning.specs.declared.State.{State}
 use Rattle.meaning.specs.Meaning.{Called, run}
 use Rattle.meaning.specs.Outcome.{Inputs, Decoded, callFits, decode, endedAs, outcomeOf, outcome}
 use Rattle.meaning.specs.Runs.{Went, Sure}
@@ -59,7 +60,7 @@ module _ (result work : ℕ) (x : Inputs) (d : Decoded) (q : Read-all result wor
   read-sound = soundness (d .grammar) (d .rules) read-typed (x .tree) read-tree (x .budget)
 
 went : (result work : ℕ) (x : Inputs) (d : Decoded) (next : ℕ) → decode result work x ≡ value d next → (c : Called) → c ≡ run false (d .grammar) (d .rules) (x .tree) (x .budget)
-    → Went result work x (c .ending) (x .budget - c .left) (c .replacements) (c .scope)
+    → Went result work x (c .ending) (x .budget - c .left .attempts) (c .replacements) (c .scope)
 unfolding endedAs
 went result work x d next e c is =
     let q = read-all result work x d next e in

@@ -21,6 +21,7 @@ use Rattle.tree.proofs.Trees.{tells, trees-append, trees-even, size-append, and
 use Rattle.rules.specs.Limits.{mostVariables}
 use Rattle.rules.specs.Rules.{Operation, Applied, rule, operation, Application, Piece, Part, Strategy, rootOnly, firstMatch, exhaustive, searches, Rule, Rules}
 use Rattle.judgement.specs.WellTyped.{Types, Role, replacing, testing, Operates, adds, subtracts, divides, remains, rounds, truncates, equals, exceeds, Usable, Applies, aRule, anOperation, AllApply, allNone, allMore, Replacement, piecesEnd, aWritten, aCopy, aChain, PartFits, deconstructs, searchesFor, constructs, tests, PartsFit, noPart, aPart, RuleFits}
+use Rattle.meaning.specs.declared.State.{State}
 use Rattle.meaning.specs.Computation.{Result, thenOf, stopUnless}
 use Rattle.meaning.specs.Operations.{rounded, truncated, inRange, divisor, withOne, withNone, compute, compare}
 use Rattle.meaning.specs.Meaning as M
@@ -34,19 +35,19 @@ use Rattle.judgement.proofs.Parts.{parts-grow}
 
 -- NUMBERS
 
-abbrev InRange : ℕ → ℕ → Type 0
+abbrev InRange : ℕ → State → Type 0
 InRange r l = r ≤ greatestNumber
 
-inRange-safe : (m n : ℕ) → Safe InRange n (inRange m n) (inRange m n)
+inRange-safe : (m : ℕ) (n : State) → Safe InRange n (inRange m n) (inRange m n)
 unfolding inRange
 inRange-safe m n =
     andThen (stopUnless-safe 45 (leb m greatestNumber) n (omega arith) (omega arith)) λ u l _ e.
     returns (leb-true m greatestNumber e)
 
-guarded-safe : (b : Bool) (m n : ℕ) → Safe InRange n (thenOf (stopUnless 45 b n) (λ u. inRange m)) (thenOf (stopUnless 45 b n) (λ u. inRange m))
+guarded-safe : (b : Bool) (m : ℕ) (n : State) → Safe InRange n (thenOf (stopUnless 45 b n) (λ u. inRange m)) (thenOf (stopUnless 45 b n) (λ u. inRange m))
 guarded-safe b m n = andThen (stopUnless-safe 45 b n (omega arith) (omega arith)) λ u l _ e. inRange-safe m l
 
-compute-safe : {o : Operation} {k : ℕ} → Operates replacing o k → (a : ℕ) (bs : List ℕ) → length bs ≡ k → (n : ℕ) → Safe InRange n (compute o a bs n) (compute o a bs n)
+compute-safe : {o : Operation} {k : ℕ} → Operates replacing o k → (a : ℕ) (bs : List ℕ) → length bs ≡ k → (n : State) → Safe InRange n (compute o a bs n) (compute o a bs n)
 unfolding compute withOne withNone divisor
 compute-safe adds a [] h n = absurd (omega arith)
 compute-safe adds a (b ∷ []) h n = inRange-safe (a + b) n
@@ -65,7 +66,7 @@ compute-safe rounds a (b ∷ bs) h n = absurd (omega arith)
 compute-safe truncates a [] h n = inRange-safe (truncated a) n
 compute-safe truncates a (b ∷ bs) h n = absurd (omega arith)
 
-compare-safe : {o : Operation} {k : ℕ} → Operates testing o k → (a : ℕ) (bs : List ℕ) → length bs ≡ k → (n : ℕ) → Safe Any n (compare o a bs n) (compare o a bs n)
+compare-safe : {o : Operation} {k : ℕ} → Operates testing o k → (a : ℕ) (bs : List ℕ) → length bs ≡ k → (n : State) → Safe Any n (compare o a bs n) (compare o a bs n)
 unfolding compare withOne
 compare-safe equals a [] h n = absurd (omega arith)
 compare-safe equals a (b ∷ []) h n = returns tt
@@ -107,7 +108,7 @@ data Suits (g : Grammar) (rules : Rules) (role : Role) (t : ℕ) : Applied → L
   suitsRule : {n : ℕ} {r : Rule} {args : List Words} → getElem? rules n ≡ some r → Usable role r → OfTypes g (r .parameters) args → (searches (r .strategy) ≡ false → t ≡ r .target) → Suits g rules role t (rule n) args
   suitsOperation : {o : Operation} {k : ℕ} {args : List Words} → Operates role o k → isNumber g t ≡ true → areNumberTokens g args ≡ true → length args ≡ k → Suits g rules role t (operation o) args
 
-suits-safe : {g : Grammar} {rules : Rules} {Γ : Types} {env : Env} {role : Role} {t : ℕ} {xs : List ℕ} {p : Applied} → OfTypes g Γ env → Applies g rules Γ role t xs p → (n : ℕ)
+suits-safe : {g : Grammar} {rules : Rules} {Γ : Types} {env : Env} {role : Role} {t : ℕ} {xs : List ℕ} {p : Applied} → OfTypes g Γ env → Applies g rules Γ role t xs p → (n : State)
     → Safe (λ args l. Suits g rules role t p args) n (variables env xs n) (variables env xs n)
 suits-safe typed (aRule there usable f) n = safe-map (λ args l _ q. suitsRule there usable q (f .scope)) (variables-safe typed (f .arguments) n)
 suits-safe typed (anOperation o number xs) n = safe-map (λ args l _ q. suitsOperation o number (q .0) (q .1)) (numbers-safe typed xs n)
@@ -121,9 +122,9 @@ pub record Fitting (g : Grammar) (rules : Rules) (t : ℕ) (r : Rule) (args : En
 
 -- WHAT A LEVEL OF CALLS OWES, strict and plain: a rewriting call that fits leaves a tree of its scope's type, and one in a condition answers
 pub record SoundCalls (g : Grammar) (rules : Rules) (strict plain : Calls) : Type 0 where
-  pub rewriting : {t : ℕ} {r : Rule} {args : Env} {scope : Words} {ps : List Piece} → Fitting g rules t r args scope → r .replacement ≡ some ps → (besides n : ℕ)
+  pub rewriting : {t : ℕ} {r : Rule} {args : Env} {scope : Words} {ps : List Piece} → Fitting g rules t r args scope → r .replacement ≡ some ps → (besides : ℕ) (n : State)
       → Safe (λ ws l. Tree g t ws) n (strict .rewrites r args scope besides n) (plain .rewrites r args scope besides n)
-  pub matching : {t : ℕ} {r : Rule} {args : Env} {scope : Words} → Fitting g rules t r args scope → (besides n : ℕ)
+  pub matching : {t : ℕ} {r : Rule} {args : Env} {scope : Words} → Fitting g rules t r args scope → (besides : ℕ) (n : State)
       → Safe Any n (strict .matches r args scope besides n) (plain .matches r args scope besides n)
 
 -- where a match stands: in its place is a tree of the target type, and any other of that type may take it
@@ -174,25 +175,25 @@ fits-true {g} {t = t} {r} scope f =
 sound-less : {g : Grammar} {t n m : ℕ} {c c′ : Called} → n ≤ m → Sound g t n c c′ → Sound g t m c c′
 sound-less h s = record { agree = s .agree; ends = s .ends; scope = s .scope; attempts = le-trans (s .attempts) h }
 
-resultAs-safe : {g : Grammar} {t n : ℕ} (c : Called) (e : Ending) → WellEnded e → Tree g t (c .scope) → c .left ≤ n → Safe (λ ws l. Tree g t ws) n (resultAs e c) (resultAs e c)
+resultAs-safe : {g : Grammar} {t : ℕ} {n : State} (c : Called) (e : Ending) → WellEnded e → Tree g t (c .scope) → c .left .attempts ≤ n .attempts → Safe (λ ws l. Tree g t ws) n (resultAs e c) (resultAs e c)
 unfolding resultAs
 resultAs-safe c done w x h = goes h x
 resultAs-safe c (stopped k) w x h = stops h (w .0) (w .1)
 resultAs-safe c cannotGoOn w x h = absurd w
 
-pub resultOf-safe : {g : Grammar} {t n : ℕ} {c c′ : Called} → Sound g t n c c′ → Safe (λ ws l. Tree g t ws) n (resultOf c) (resultOf c′)
+pub resultOf-safe : {g : Grammar} {t : ℕ} {n : State} {c c′ : Called} → Sound g t (n .attempts) c c′ → Safe (λ ws l. Tree g t ws) n (resultOf c) (resultOf c′)
 unfolding resultOf
 resultOf-safe {c = c} s = rw (← s .agree) (resultAs-safe c (c .ending) (s .ends) (s .scope) (s .attempts))
 
-opened-sound : {g : Grammar} {t n : ℕ} {scope : Words} {x y : Result (Unit {0})} {rest rest′ : ℕ → Called} → Tree g t scope → Safe Any n x y
-    → ((l : ℕ) → l ≤ n → Sound g t l (rest l) (rest′ l)) → Sound g t n (opened scope rest x) (opened scope rest′ y)
+opened-sound : {g : Grammar} {t : ℕ} {n : State} {scope : Words} {x y : Result (Unit {0})} {rest rest′ : State → Called} → Tree g t scope → Safe Any n x y
+    → ((l : State) → l .attempts ≤ n .attempts → Sound g t (l .attempts) (rest l) (rest′ l)) → Sound g t (n .attempts) (opened scope rest x) (opened scope rest′ y)
 unfolding opened
 opened-sound tree (goes {l = l} h p) f = sound-less h (f l h)
 opened-sound tree (stops h a b) f = record { agree = refl; ends = (a, b); scope = tree; attempts = h }
 
-afterRound-sound : {g : Grammar} {t n : ℕ} {scope : Words} {x y : Result (Option Words)} {rest rest′ : Words → ℕ → Called} → Tree g t scope → (k : ℕ) (s : Strategy)
-    → Safe (λ m l. Maybe (λ next. Tree g t next × (l < n)) m) n x y → ((next : Words) (l : ℕ) → Tree g t next → l < n → Sound g t l (rest next l) (rest′ next l))
-    → Sound g t n (afterRound scope k s rest x) (afterRound scope k s rest′ y)
+afterRound-sound : {g : Grammar} {t : ℕ} {n : State} {scope : Words} {x y : Result (Option Words)} {rest rest′ : Words → State → Called} → Tree g t scope → (k : ℕ) (s : Strategy)
+    → Safe (λ m l. Maybe (λ next. Tree g t next × (l .attempts < n .attempts)) m) n x y → ((next : Words) (l : State) → Tree g t next → l .attempts < n .attempts → Sound g t (l .attempts) (rest next l) (rest′ next l))
+    → Sound g t (n .attempts) (afterRound scope k s rest x) (afterRound scope k s rest′ y)
 unfolding afterRound
 afterRound-sound tree k s (goes {a = none} {l} h p) f = record { agree = refl; ends = tt; scope = tree; attempts = h }
 afterRound-sound tree k exhaustive (goes {a = some next} {l} h p) f = sound-less h (f next l (p .0) (p .1))
@@ -204,7 +205,7 @@ afterRound-sound tree k s (stops h a b) f = record { agree = refl; ends = (a, b)
 
 module _ (g : Grammar) (rules : Rules) (each : (n : ℕ) (r : Rule) → getElem? rules n ≡ some r → RuleFits g rules r)
     (deeper deeper′ : Calls) (below : SoundCalls g rules deeper deeper′) where
-  apply-safe : {t : ℕ} {p : Applied} {args : List Words} {scope : Words} → Suits g rules replacing t p args → Tree g t scope → (besides n : ℕ)
+  apply-safe : {t : ℕ} {p : Applied} {args : List Words} {scope : Words} → Suits g rules replacing t p args → Tree g t scope → (besides : ℕ) (n : State)
       → Safe (λ ws l. Tree g t ws) n (apply true g rules deeper p args scope besides n) (apply false g rules deeper′ p args scope besides n)
   unfolding apply
   apply-safe (suitsRule {n = k} {r} there usable typed fit) x besides n =
@@ -215,7 +216,7 @@ module _ (g : Grammar) (rules : Rules) (each : (n : ℕ) (r : Rule) → getElem?
       andThen (compute-safe change (valueOf scope) (valuesOf args) (values-length args ∙ count) l) λ m l _ h.
       returns (withValue-tree scope m number x h)
 
-  applyChain-safe : {Γ : Types} {env : Env} {t : ℕ} {apps : List Application} → OfTypes g Γ env → AllApply g rules Γ replacing t apps → (scope : Words) → Tree g t scope → (besides n : ℕ)
+  applyChain-safe : {Γ : Types} {env : Env} {t : ℕ} {apps : List Application} → OfTypes g Γ env → AllApply g rules Γ replacing t apps → (scope : Words) → Tree g t scope → (besides : ℕ) (n : State)
       → Safe (λ ws l. Tree g t ws) n (applyChain true g rules deeper apps env scope besides n) (applyChain false g rules deeper′ apps env scope besides n)
   unfolding applyChain
   applyChain-safe typed allNone scope x besides n = returns x
@@ -224,7 +225,7 @@ module _ (g : Grammar) (rules : Rules) (each : (n : ℕ) (r : Rule) → getElem?
       andThen (apply-safe suits x besides l) λ next l _ y.
       applyChain-safe typed more next y besides l
 
-  fill-safe : {Γ : Types} {env : Env} {due : Types} {ps : List Piece} → OfTypes g Γ env → Replacement g rules Γ due ps → (besides k : ℕ) → k ≤ mostNodes → (n : ℕ)
+  fill-safe : {Γ : Types} {env : Env} {due : Types} {ps : List Piece} → OfTypes g Γ env → Replacement g rules Γ due ps → (besides k : ℕ) → k ≤ mostNodes → (n : State)
       → Safe (λ ws l. Trees g due ws × (k + size ws ≤ mostNodes)) n (fill true g rules deeper ps env besides k n) (fill false g rules deeper′ ps env besides k n)
   unfolding fill size
   fill-safe typed piecesEnd besides k h n = returns (T.none, omega arith)
@@ -247,7 +248,7 @@ module _ (g : Grammar) (rules : Rules) (each : (n : ℕ) (r : Rule) → getElem?
       andThen (fill-safe typed r besides (k + size v) small l) λ ws l _ q.
       returns (trees-append (y .typed) (q .0), omega (arith, q .1, size-append v ws (trees-even (y .typed))))
 
-  finish-safe : {Γ : Types} {t : ℕ} {ps : List Piece} (b : Bindings) → OfTypes g Γ (b .env) → Replacement g rules Γ (t ∷ []) ps → (n : ℕ)
+  finish-safe : {Γ : Types} {t : ℕ} {ps : List Piece} (b : Bindings) → OfTypes g Γ (b .env) → Replacement g rules Γ (t ∷ []) ps → (n : State)
       → Safe (λ ws l. Tree g t ws) n (finish true g rules deeper t ps b n) (finish false g rules deeper′ t ps b n)
   unfolding finish
   finish-safe {t = t} b typed r n =
@@ -256,7 +257,7 @@ module _ (g : Grammar) (rules : Rules) (each : (n : ℕ) (r : Rule) → getElem?
       andThen (nesting-safe g ws l) λ u l _ flat.
       returns (record { typed = q .0; nodes = omega (arith, q .1); nested = flat })
 
-  succeeds-safe : {t : ℕ} {p : Applied} {args : List Words} {scope : Words} → Suits g rules testing t p args → Tree g t scope → (besides n : ℕ)
+  succeeds-safe : {t : ℕ} {p : Applied} {args : List Words} {scope : Words} → Suits g rules testing t p args → Tree g t scope → (besides : ℕ) (n : State)
       → Safe Any n (succeeds true g rules deeper p args scope besides n) (succeeds false g rules deeper′ p args scope besides n)
   unfolding succeeds
   succeeds-safe (suitsRule {n = k} {r} there usable typed fit) x besides n =
@@ -266,7 +267,7 @@ module _ (g : Grammar) (rules : Rules) (each : (n : ℕ) (r : Rule) → getElem?
       andThen (check-safe (and (isNumberToken g scope) (areNumberTokens g args)) n (and-intro (isNumberToken-true scope number x) all)) λ u l _ _.
       compare-safe compares (valueOf scope) (valuesOf args) (values-length args ∙ count) l
 
-  anySucceeds-safe : {Γ : Types} {env : Env} {t : ℕ} {apps : List Application} {scope : Words} → OfTypes g Γ env → AllApply g rules Γ testing t apps → Tree g t scope → (besides n : ℕ)
+  anySucceeds-safe : {Γ : Types} {env : Env} {t : ℕ} {apps : List Application} {scope : Words} → OfTypes g Γ env → AllApply g rules Γ testing t apps → Tree g t scope → (besides : ℕ) (n : State)
       → Safe Any n (anySucceeds true g rules deeper apps env scope besides n) (anySucceeds false g rules deeper′ apps env scope besides n)
   unfolding anySucceeds
   anySucceeds-safe typed allNone x besides n = returns tt
@@ -275,7 +276,7 @@ module _ (g : Grammar) (rules : Rules) (each : (n : ℕ) (r : Rule) → getElem?
       andThen (succeeds-safe suits x besides l) λ b l _ _.
       choose-safe b (λ l _ e. returns tt) (λ l _ e. anySucceeds-safe typed more x besides l)
 
-  part-safe : {Γ Γ′ : Types} {p : Part} → PartFits g rules Γ p Γ′ → length Γ′ ≤ mostVariables → (b : Bindings) → OfTypes g Γ (b .env) → (n : ℕ)
+  part-safe : {Γ Γ′ : Types} {p : Part} → PartFits g rules Γ p Γ′ → length Γ′ ≤ mostVariables → (b : Bindings) → OfTypes g Γ (b .env) → (n : State)
       → Safe (Binds g Γ′) n (part true g rules deeper p b n) (part false g rules deeper′ p b n)
   unfolding part
   part-safe (deconstructs {x = x} has p) few b typed n =
@@ -294,7 +295,7 @@ module _ (g : Grammar) (rules : Rules) (each : (n : ℕ) (r : Rule) → getElem?
       andThen (anySucceeds-safe typed all tree (live b) l) λ r l _ _.
       choose-safe (pick negated (not r) r) (λ l _ e. returns typed) (λ l _ e. returns tt)
 
-  parts-safe : {Γ Γ′ : Types} {ps : List Part} → PartsFit g rules Γ ps Γ′ → length Γ′ ≤ mostVariables → (b : Bindings) → OfTypes g Γ (b .env) → (n : ℕ)
+  parts-safe : {Γ Γ′ : Types} {ps : List Part} → PartsFit g rules Γ ps Γ′ → length Γ′ ≤ mostVariables → (b : Bindings) → OfTypes g Γ (b .env) → (n : State)
       → Safe (Binds g Γ′) n (parts true g rules deeper ps b n) (parts false g rules deeper′ ps b n)
   unfolding parts
   parts-safe noPart few b typed n = returns typed
@@ -302,20 +303,20 @@ module _ (g : Grammar) (rules : Rules) (each : (n : ℕ) (r : Rule) → getElem?
       andThen (part-safe p (le-trans (parts-grow ps) few) b typed n) λ m l _ q.
       whether-safe m q (λ c l _ typed′. parts-safe ps few c typed′ l) (λ l _. returns tt)
 
-  attempt-safe : {r : Rule} {ts : Types} (fit : RuleFits g rules r) (ws : Words) (b : Bindings) → Rest g (r .target ∷ ts) ws → OfTypes g (r .parameters) (b .env) → (most n : ℕ) → n ≤ most
-      → Safe (λ m l. Maybe (λ c. OfTypes g (fit .all) (c .env) × (l < most)) m) n (attempt true g rules deeper r ws b n) (attempt false g rules deeper′ r ws b n)
+  attempt-safe : {r : Rule} {ts : Types} (fit : RuleFits g rules r) (ws : Words) (b : Bindings) → Rest g (r .target ∷ ts) ws → OfTypes g (r .parameters) (b .env) → (most : ℕ) (n : State) → n .attempts ≤ most
+      → Safe (λ m l. Maybe (λ c. OfTypes g (fit .all) (c .env) × (l .attempts < most)) m) n (attempt true g rules deeper r ws b n) (attempt false g rules deeper′ r ws b n)
   unfolding attempt
   attempt-safe {ts = ts} fit ws b rest typed most n small =
       andThen (spend-safe n) λ u l₁ _ less.
       andThen (match-safe (fit .pattern .typed) (le-trans (parts-grow (fit .parts)) (fit .few)) ts ws b rest typed l₁) λ m l₂ h₂ q.
       whether-safe m q
-      (λ c l₃ h₃ typed′. safe-map (λ o l₄ h₄ p. with-fact {R = l₄ < most} (λ c. OfTypes g (fit .all) (c .env)) o (omega arith) p) (parts-safe (fit .parts) (fit .few) c typed′ l₃))
+      (λ c l₃ h₃ typed′. safe-map (λ o l₄ h₄ p. with-fact {R = l₄ .attempts < most} (λ c. OfTypes g (fit .all) (c .env)) o (omega arith) p) (parts-safe (fit .parts) (fit .few) c typed′ l₃))
       (λ l₃ _. returns tt)
 
   -- the first match from the words on, which stand in the scope after `before`; it has cost an attempt
   seek-safe : {t : ℕ} {r : Rule} {scope : Words} (fit : RuleFits g rules r) (b : Bindings) → OfTypes g (r .parameters) (b .env) → (most : ℕ) (ws : Words) (ts : Types) (before : Words) (place : ℕ)
-      → Rest g ts ws → typeOf scope ≡ t → scope ≡ before ++ ws → length before ≡ place → Opens g t before ts → (n : ℕ) → n ≤ most
-      → Safe (λ m l. Maybe (λ f. Spot g t (r .target) (fit .all) scope f × (l < most)) m) n (seek true g rules deeper r ws place b n) (seek false g rules deeper′ r ws place b n)
+      → Rest g ts ws → typeOf scope ≡ t → scope ≡ before ++ ws → length before ≡ place → Opens g t before ts → (n : State) → n .attempts ≤ most
+      → Safe (λ m l. Maybe (λ f. Spot g t (r .target) (fit .all) scope f × (l .attempts < most)) m) n (seek true g rules deeper r ws place b n) (seek false g rules deeper′ r ws place b n)
   unfolding seek
   seek-safe fit b typed most [] ts before place rest root e h open′ n small = returns tt
   seek-safe fit b typed most (w ∷ []) ts before place rest root e h open′ n small = returns tt
@@ -325,12 +326,12 @@ module _ (g : Grammar) (rules : Rules) (each : (n : ℕ) (r : Rule) → getElem?
       let onto : Opens g t (before ++ w ∷ v ∷ []) (children g x v ++ ts) = rw (q .0) (opens-node before v (q .1) open′) in
       let e′ : scope ≡ (before ++ w ∷ v ∷ []) ++ ws = rw append-assoc e in
       let h′ : length (before ++ w ∷ v ∷ []) ≡ place + 2 = omega (arith, length-append before (w ∷ v ∷ [])) in
-      let Good : Option Bindings → ℕ → Type 0 = λ m l. Maybe (λ c. (OfTypes g (fit .all) (c .env) × (l < most)) × (x ≡ r .target)) m in
+      let Good : Option Bindings → State → Type 0 = λ m l. Maybe (λ c. (OfTypes g (fit .all) (c .env) × (l .attempts < most)) × (x ≡ r .target)) m in
       andThen
       (choose-safe {P = Good} (eqb w (r .target))
       (λ l₁ h₁ is.
       let a : x ≡ r .target = sym (q .0) ∙ eqb-true w (r .target) is in
-      safe-map (λ m l _ y. with-fact {R = x ≡ r .target} (λ c. OfTypes g (fit .all) (c .env) × (l < most)) m a y) (attempt-safe fit (w ∷ v ∷ ws) b (rw a at rest) typed most l₁ (omega arith)))
+      safe-map (λ m l _ y. with-fact {R = x ≡ r .target} (λ c. OfTypes g (fit .all) (c .env) × (l .attempts < most)) m a y) (attempt-safe fit (w ∷ v ∷ ws) b (rw a at rest) typed most l₁ (omega arith)))
       (λ l₁ h₁ is. returns tt))
       λ m l₂ h₂ y.
       whether-safe m y
@@ -342,7 +343,7 @@ module _ (g : Grammar) (rules : Rules) (each : (n : ℕ) (r : Rule) → getElem?
       (λ l h₄ _. seek-safe fit b typed most ws (children g x v ++ ts) (before ++ w ∷ v ∷ []) (place + 2) (rest-node rest) root e′ h′ onto l (omega arith))
       (λ l _ _. returns tt))
 
-  replace-safe : {t target : ℕ} {Γ : Types} {scope : Words} {ps : List Piece} (f : Found) → Spot g t target Γ scope f → Replacement g rules Γ (target ∷ []) ps → (n : ℕ)
+  replace-safe : {t target : ℕ} {Γ : Types} {scope : Words} {ps : List Piece} (f : Found) → Spot g t target Γ scope f → Replacement g rules Γ (target ∷ []) ps → (n : State)
       → Safe (λ ws l. Tree g t ws) n (replace true g rules deeper target ps scope f n) (replace false g rules deeper′ target ps scope f n)
   unfolding replace
   replace-safe {t} {target} {scope = scope} f s p n =
@@ -355,7 +356,7 @@ module _ (g : Grammar) (rules : Rules) (each : (n : ℕ) (r : Rule) → getElem?
       returns whole
 
   module _ {t : ℕ} {r : Rule} {args : Env} {scope : Words} (besides : ℕ) (fit : Fitting g rules t r args scope) where
-    begin-safe : (n : ℕ) → Safe Any n (begin true g r args scope besides n) (begin false g r args scope besides n)
+    begin-safe : (n : State) → Safe Any n (begin true g r args scope besides n) (begin false g r args scope besides n)
     unfolding begin
     begin-safe n =
         andThen (surely-safe (eqb (length args) (length (r .parameters))) n (eq-eqb (length args) (length (r .parameters)) (ofTypes-length (fit .arguments)))) λ u l _ _.
@@ -363,19 +364,19 @@ module _ (g : Grammar) (rules : Rules) (each : (n : ℕ) (r : Rule) → getElem?
         live-safe (live (start args scope besides)) l
 
     -- the first match in the scope
-    search-safe : (n : ℕ) → Safe (λ m l. Maybe (λ f. Spot g t (r .target) (fit .rule .all) scope f × (l < n)) m) n
+    search-safe : (n : State) → Safe (λ m l. Maybe (λ f. Spot g t (r .target) (fit .rule .all) scope f × (l .attempts < n .attempts)) m) n
         (seek true g rules deeper r scope 0 (start args scope besides) n) (seek false g rules deeper′ r scope 0 (start args scope besides) n)
-    search-safe n = seek-safe (fit .rule) _ (fit .arguments) n scope (t ∷ []) [] 0 (tree-rest (fit .tree)) (tree-type scope (fit .tree .typed)) refl refl (λ us q. q) n (le-refl n)
+    search-safe n = seek-safe (fit .rule) _ (fit .arguments) (n .attempts) scope (t ∷ []) [] 0 (tree-rest (fit .tree)) (tree-type scope (fit .tree .typed)) refl refl (λ us q. q) n (le-refl (n .attempts))
 
-    pub callMatches-safe : (n : ℕ) → Safe Any n (callMatches true g rules deeper r args scope besides n) (callMatches false g rules deeper′ r args scope besides n)
+    pub callMatches-safe : (n : State) → Safe Any n (callMatches true g rules deeper r args scope besides n) (callMatches false g rules deeper′ r args scope besides n)
     unfolding callMatches
     callMatches-safe n =
         andThen (begin-safe n) λ u l₁ _ _.
         andThen (search-safe l₁) λ m l₂ _ q.
         whether-safe m q (λ c l _ _. returns tt) (λ l _. returns tt)
 
-    turn-safe : {ps : List Piece} → r .replacement ≡ some ps → (n : ℕ)
-        → Safe (λ m l. Maybe (λ next. Tree g t next × (l < n)) m) n (turn true g rules deeper r ps args scope besides n) (turn false g rules deeper′ r ps args scope besides n)
+    turn-safe : {ps : List Piece} → r .replacement ≡ some ps → (n : State)
+        → Safe (λ m l. Maybe (λ next. Tree g t next × (l .attempts < n .attempts)) m) n (turn true g rules deeper r ps args scope besides n) (turn false g rules deeper′ r ps args scope besides n)
     unfolding turn
     turn-safe {ps} replaces n =
         andThen (search-safe n) λ m l₁ _ q.
@@ -388,8 +389,8 @@ module _ (g : Grammar) (rules : Rules) (each : (n : ℕ) (r : Rule) → getElem?
   -- a rule with a replacement, and its arguments
   module _ {t : ℕ} {r : Rule} {ps : List Piece} {args : Env} (besides : ℕ) (rule : RuleFits g rules r) (replaces : r .replacement ≡ some ps) (arguments : OfTypes g (r .parameters) args)
       (reach : searches (r .strategy) ≡ false → t ≡ r .target) where
-    rounds-sound : (most : ℕ) (scope : Words) → Tree g t scope → (k n : ℕ) → n < most
-        → Sound g t n (M.rounds true g rules deeper most r ps args scope besides k n) (M.rounds false g rules deeper′ most r ps args scope besides k n)
+    rounds-sound : (most : ℕ) (scope : Words) → Tree g t scope → (k : ℕ) (n : State) → n .attempts < most
+        → Sound g t (n .attempts) (M.rounds true g rules deeper most r ps args scope besides k n) (M.rounds false g rules deeper′ most r ps args scope besides k n)
     unfolding M.rounds
     rounds-sound zero scope tree k n h = absurd (omega arith)
     rounds-sound (suc most) scope tree k n h =
@@ -397,15 +398,15 @@ module _ (g : Grammar) (rules : Rules) (each : (n : ℕ) (r : Rule) → getElem?
         (turn-safe besides (record { rule = rule; arguments = arguments; tree = tree; reach = reach }) replaces n)
         (λ next l tree′ less. rounds-sound most next tree′ (suc k) l (omega arith))
 
-  callWith-sound : {t : ℕ} {r : Rule} {args : Env} {scope : Words} (ps : List Piece) (o : Option (List Piece)) → r .replacement ≡ o → o ≡ some ps → Fitting g rules t r args scope → (besides n : ℕ)
-      → Sound g t n (callWith true g rules deeper o r args scope besides n) (callWith false g rules deeper′ o r args scope besides n)
+  callWith-sound : {t : ℕ} {r : Rule} {args : Env} {scope : Words} (ps : List Piece) (o : Option (List Piece)) → r .replacement ≡ o → o ≡ some ps → Fitting g rules t r args scope → (besides : ℕ) (n : State)
+      → Sound g t (n .attempts) (callWith true g rules deeper o r args scope besides n) (callWith false g rules deeper′ o r args scope besides n)
   unfolding callWith
   callWith-sound ps none e q fit besides n = let z : _≡_ {A = ℕ} 0 1 = cc in absurd (omega arith)
   callWith-sound {scope = scope} ps (some qs) e q fit besides n =
       opened-sound (fit .tree) (begin-safe besides fit n)
-      (λ l h. rounds-sound besides (fit .rule) e (fit .arguments) (fit .reach) (suc l) scope (fit .tree) 0 l (omega arith))
+      (λ l h. rounds-sound besides (fit .rule) e (fit .arguments) (fit .reach) (suc (l .attempts)) scope (fit .tree) 0 l (omega arith))
 
-  pub call-sound : {t : ℕ} {r : Rule} {args : Env} {scope : Words} {ps : List Piece} → Fitting g rules t r args scope → r .replacement ≡ some ps → (besides n : ℕ)
-      → Sound g t n (call true g rules deeper r args scope besides n) (call false g rules deeper′ r args scope besides n)
+  pub call-sound : {t : ℕ} {r : Rule} {args : Env} {scope : Words} {ps : List Piece} → Fitting g rules t r args scope → r .replacement ≡ some ps → (besides : ℕ) (n : State)
+      → Sound g t (n .attempts) (call true g rules deeper r args scope besides n) (call false g rules deeper′ r args scope besides n)
   unfolding call
   call-sound {r = r} {ps = ps} fit replaces besides n = callWith-sound ps (r .replacement) refl replaces fit besides n

@@ -19,6 +19,7 @@ use Rattle.rules.specs.Limits.{mostVariables}
 use Rattle.rules.specs.Rules.{Shape}
 use Rattle.judgement.specs.WellTyped.{Types, Has, Arguments, noArgument, anArgument, Pattern, patternEnd, aNode, aNew, aSame, Numbers, noNumber, aNumber}
 use Rattle.meaning.specs.Limits.{mostLive}
+use Rattle.meaning.specs.declared.State.{State}
 use Rattle.meaning.specs.Meaning.{Env, Bindings, live, nodesWithin, nestingWithin, liveWithin, variable, variables, sameTree, bind, match, matchFirst, isNumberToken, areNumberTokens, areTreesOf}
 use Rattle.tree.specs.Rest.{Rest}
 use Rattle.tree.proofs.Rest.{rest-node, onward}
@@ -50,15 +51,15 @@ lookup (ofMore y r) (suc x) h = lookup r x h
 
 -- THE LIMITS
 
-pub live-safe : (k n : ℕ) → Safe Any n (liveWithin k n) (liveWithin k n)
+pub live-safe : (k : ℕ) (n : State) → Safe Any n (liveWithin k n) (liveWithin k n)
 unfolding liveWithin
 live-safe k n = safe-map (λ u l _ e. tt) (stopUnless-safe 44 (leb k mostLive) n (omega arith) (omega arith))
 
-pub nodes-safe : (k n : ℕ) → Safe (λ u l. k ≤ mostNodes) n (nodesWithin k n) (nodesWithin k n)
+pub nodes-safe : (k : ℕ) (n : State) → Safe (λ u l. k ≤ mostNodes) n (nodesWithin k n) (nodesWithin k n)
 unfolding nodesWithin
 nodes-safe k n = safe-map (λ u l _ e. leb-true k mostNodes e) (stopUnless-safe 42 (leb k mostNodes) n (omega arith) (omega arith))
 
-pub nesting-safe : (g : Grammar) (ws : Words) (n : ℕ) → Safe (λ u l. nesting g ws ≤ mostNesting) n (nestingWithin g ws n) (nestingWithin g ws n)
+pub nesting-safe : (g : Grammar) (ws : Words) (n : State) → Safe (λ u l. nesting g ws ≤ mostNesting) n (nestingWithin g ws n) (nestingWithin g ws n)
 unfolding nestingWithin
 nesting-safe g ws n = safe-map (λ u l _ e. leb-true (nesting g ws) mostNesting e) (stopUnless-safe 43 (leb (nesting g ws) mostNesting) n (omega arith) (omega arith))
 
@@ -69,13 +70,13 @@ unfolding isNumberToken
 isNumberToken-true ws e x = rw (tree-type ws (x .typed)) (and-intro e (tree-passes x))
 
 module _ {g : Grammar} {Γ : Types} {env : Env} (typed : OfTypes g Γ env) where
-  pub variable-safe : (x : ℕ) {t : ℕ} → Has Γ x t → (n : ℕ) → Safe (λ ws l. Tree g t ws) n (variable env x n) (variable env x n)
+  pub variable-safe : (x : ℕ) {t : ℕ} → Has Γ x t → (n : State) → Safe (λ ws l. Tree g t ws) n (variable env x n) (variable env x n)
   unfolding variable
   variable-safe x h n =
       let f = lookup typed x h in
       safe-map (λ w l _ e. rw e (f .2)) (present-safe n (f .1))
 
-  pub variables-safe : {xs : List ℕ} {ts : Types} → Arguments Γ xs ts → (n : ℕ) → Safe (λ ws l. OfTypes g ts ws) n (variables env xs n) (variables env xs n)
+  pub variables-safe : {xs : List ℕ} {ts : Types} → Arguments Γ xs ts → (n : State) → Safe (λ ws l. OfTypes g ts ws) n (variables env xs n) (variables env xs n)
   unfolding variables
   variables-safe noArgument n = returns ofNone
   variables-safe (anArgument {x} h r) n =
@@ -83,7 +84,7 @@ module _ {g : Grammar} {Γ : Types} {env : Env} (typed : OfTypes g Γ env) where
       andThen (variables-safe r l) λ ws l _ q.
       returns (ofMore tree q)
 
-  pub numbers-safe : {xs : List ℕ} {k : ℕ} → Numbers g Γ xs k → (n : ℕ) → Safe (λ ws l. (areNumberTokens g ws ≡ true) × (length ws ≡ k)) n (variables env xs n) (variables env xs n)
+  pub numbers-safe : {xs : List ℕ} {k : ℕ} → Numbers g Γ xs k → (n : State) → Safe (λ ws l. (areNumberTokens g ws ≡ true) × (length ws ≡ k)) n (variables env xs n) (variables env xs n)
   unfolding variables areNumberTokens
   numbers-safe noNumber n = returns (refl, refl)
   numbers-safe (aNumber {x} h e r) n =
@@ -92,10 +93,10 @@ module _ {g : Grammar} {Γ : Types} {env : Env} (typed : OfTypes g Γ env) where
       returns (and-intro (isNumberToken-true w e tree) (q .0), ap suc (q .1))
 
 -- what a match leaves: its variables, if it is one
-abbrev pub Binds : Grammar → Types → Option Bindings → ℕ → Type 0
+abbrev pub Binds : Grammar → Types → Option Bindings → State → Type 0
 Binds g Γ m l = Maybe (λ c. OfTypes g Γ (c .env)) m
 
-pub bind-safe : {g : Grammar} {Γ : Types} {t : ℕ} {ws : Words} (b : Bindings) → OfTypes g Γ (b .env) → Tree g t ws → length (Γ ++ t ∷ []) ≤ mostVariables → (n : ℕ)
+pub bind-safe : {g : Grammar} {Γ : Types} {t : ℕ} {ws : Words} (b : Bindings) → OfTypes g Γ (b .env) → Tree g t ws → length (Γ ++ t ∷ []) ≤ mostVariables → (n : State)
     → Safe (λ c l. OfTypes g (Γ ++ t ∷ []) (c .env)) n (bind true g t ws b n) (bind false g t ws b n)
 unfolding bind
 bind-safe {g} {Γ} {t} {ws} b env x few n =
@@ -106,7 +107,7 @@ bind-safe {g} {Γ} {t} {ws} b env x few n =
 
 -- PATTERNS
 
-pub match-safe : {g : Grammar} {Γ due Γ′ : Types} {ps : List Shape} → Pattern g Γ due ps Γ′ → length Γ′ ≤ mostVariables → (ts : Types) (ws : Words) (b : Bindings) → Rest g (due ++ ts) ws → OfTypes g Γ (b .env) → (n : ℕ)
+pub match-safe : {g : Grammar} {Γ due Γ′ : Types} {ps : List Shape} → Pattern g Γ due ps Γ′ → length Γ′ ≤ mostVariables → (ts : Types) (ws : Words) (b : Bindings) → Rest g (due ++ ts) ws → OfTypes g Γ (b .env) → (n : State)
     → Safe (Binds g Γ′) n (match true g ps ws b n) (match false g ps ws b n)
 unfolding match
 match-safe patternEnd few ts ws b r env n = returns env
@@ -136,7 +137,7 @@ match-safe {g} (aSame {x = y} h p) few ts (w ∷ x ∷ ws) b r env n =
     (λ l _ e. match-safe p few ts (after g (w ∷ x ∷ ws) 1) b (onward r .rest) env l)
     (λ l _ e. returns tt)
 
-pub matchFirst-safe : {g : Grammar} {Γ Γ′ : Types} {ty : ℕ} {ps : List Shape} → Pattern g Γ (ty ∷ []) ps Γ′ → length Γ′ ≤ mostVariables → (b : Bindings) → OfTypes g Γ (b .env) → (ws : Words) (ts : Types) → Rest g ts ws → (n : ℕ)
+pub matchFirst-safe : {g : Grammar} {Γ Γ′ : Types} {ty : ℕ} {ps : List Shape} → Pattern g Γ (ty ∷ []) ps Γ′ → length Γ′ ≤ mostVariables → (b : Bindings) → OfTypes g Γ (b .env) → (ws : Words) (ts : Types) → Rest g ts ws → (n : State)
     → Safe (Binds g Γ′) n (matchFirst true g ty ps ws b n) (matchFirst false g ty ps ws b n)
 unfolding matchFirst
 matchFirst-safe p few b env [] ts r n = returns tt

@@ -9,6 +9,8 @@ use Rattle.grammar.specs.Grammar.{Grammar}
 use Rattle.rules.specs.Rules.{Rules}
 use Rattle.judgement.specs.WellTyped.{Types, WellTyped}
 use Rattle.meaning.specs.Limits.{mostCalls}
+use Rattle.meaning.specs.declared.State.{State}
+use Rattle.meaning.specs.Computation.{initial}
 use Rattle.meaning.specs.Meaning.{calls, runFrom, run}
 use Rattle.meaning.specs.Sound.{Soundness}
 use Rattle.meaning.proofs.Safe.{stops}
@@ -19,8 +21,8 @@ module _ (g : Grammar) (rules : Rules) (typed : WellTyped g rules) where
   pub calls-sound : (depth : ℕ) → SoundCalls g rules (calls true g rules depth) (calls false g rules depth)
   unfolding calls
   calls-sound zero = record {
-    rewriting = λ fit replaces besides n. stops {k = 41} (le-refl n) (omega arith) (omega arith);
-    matching = λ fit besides n. stops {k = 41} (le-refl n) (omega arith) (omega arith);
+    rewriting = λ fit replaces besides n. stops {k = 41} (le-refl (n .attempts)) (omega arith) (omega arith);
+    matching = λ fit besides n. stops {k = 41} (le-refl (n .attempts)) (omega arith) (omega arith);
   }
   calls-sound (suc depth) =
       let below = calls-sound depth in
@@ -38,4 +40,4 @@ soundness g rules typed tree is budget =
     rw (typed .there)
     (call-sound g rules (typed .each) _ _ (calls-sound g rules typed (mostCalls - 1))
     (record { rule = typed .each 0 (typed .first) (typed .there); arguments = no-arguments (typed .main .bare); tree = is; reach = typed .main .scope })
-    (typed .main .replaces .1) 0 budget)
+    (typed .main .replaces .1) 0 (initial budget))

@@ -2,19 +2,24 @@
 use Prim.Native.Nat.{ℕ, zero, suc}
 use mathlib.Core.Bool.{Bool, true, false}
 use mathlib.Core.Option.{Option, none, some}
+use Rattle.meaning.specs.declared.State.{State}
+
+-- the state of a run at first: its whole budget is left
+abbrev pub initial : ℕ → State
+initial budget = record { attempts = budget }
 
 -- "a next step, the end or a stop 40 to 45 follows"
 pub data Result (A : Type 0) : Type 0 where
-  -- a value, and the attempts left
-  ok : A → ℕ → Result A
-  -- the stop's number, and the attempts left
-  stop : ℕ → ℕ → Result A
+  -- a value, and the state that is left
+  ok : A → State → Result A
+  -- the stop's number, and the state that is left
+  stop : ℕ → State → Result A
   -- a step that is never reached
   stuck : Result A
 
--- what a computation ends as, given the attempts left
+-- what a computation ends as, from the state that is left
 abbrev pub Comp : Type 0 → Type 0
-Comp A = ℕ → Result A
+Comp A = State → Result A
 
 -- goes on with what was computed; a stop is the end
 unfoldable pub thenOf : {A B : Type 0} → Result A → (A → Comp B) → Result B
@@ -38,10 +43,14 @@ return a left = ok a left
 abbrev pub never : {A : Type 0} → Comp A
 never left = stuck
 
--- "One trial costs one unit of the budget as it starts"; 40: "a trial is due and the budget is spent"
+-- with so many attempts left. 40: "a trial is due and the budget is spent"
+unfoldable pub spendOf : ℕ → Comp (Unit {0})
+spendOf zero left = stop 40 left
+spendOf (suc n) left = ok tt (record { attempts = n })
+
+-- "One trial costs one unit of the budget as it starts"
 unfoldable pub spend : Comp (Unit {0})
-spend zero = stop 40 zero
-spend (suc left) = ok tt left
+spend left = spendOf (left .attempts) left
 
 -- stops by the number, unless the test passes
 unfoldable pub stopUnless : ℕ → Bool → Comp (Unit {0})

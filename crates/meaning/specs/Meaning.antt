@@ -15,7 +15,8 @@ use Rattle.tree.specs.Tree.{size, nesting, areTrees, isTree, after, firstTree, 
 use Rattle.rules.specs.Limits.{mostVariables}
 use Rattle.rules.specs.Rules.{Applied, rule, operation, nothing, Shape, node, new, same, Application, Piece, write, copy, chain, Part, deconstruct, search, construct, condition, Strategy, rootOnly, firstMatch, exhaustive, searches, Rule, Rules}
 use Rattle.meaning.specs.Limits.{mostCalls, mostLive}
-use Rattle.meaning.specs.Computation.{Result, ok, stop, stuck, Comp, _>>=_, _>>_, return, never, spend, stopUnless, surely, check, present, choose, whether, provided}
+use Rattle.meaning.specs.declared.State.{State}
+use Rattle.meaning.specs.Computation.{initial, Result, ok, stop, stuck, Comp, _>>=_, _>>_, return, never, spend, stopUnless, surely, check, present, choose, whether, provided}
 use Rattle.meaning.specs.Operations.{compute, compare}
 
 -- THE LIMITS
@@ -166,15 +167,15 @@ pub data Ending : Type 0 where
   -- a step that is never reached
   cannotGoOn : Ending
 
--- what a call leaves: its scope "as left by the last replacement", its replacements put in place, the attempts left, and how it ended
+-- what a call leaves: its scope "as left by the last replacement", its replacements put in place, the state that is left, and how it ended
 pub record Called : Type 0 where
   pub scope : Words
   pub replacements : ℕ
-  pub left : ℕ
+  pub left : State
   pub ending : Ending
 
 -- what a call leaves, by its parts
-abbrev pub called : Words → ℕ → Ending → ℕ → Called
+abbrev pub called : Words → ℕ → Ending → State → Called
 called scope k e left = record { scope = scope; replacements = k; left = left; ending = e }
 
 -- the same for the call above, which goes on with the scope
@@ -188,19 +189,19 @@ unfoldable pub resultOf : Called → Result Words
 resultOf c = resultAs (c .ending) c
 
 -- after a call is opened: the rest, unless that stopped
-unfoldable pub opened : Words → (ℕ → Called) → Result (Unit {0}) → Called
+unfoldable pub opened : Words → (State → Called) → Result (Unit {0}) → Called
 opened scope rest (ok u left) = rest left
 opened scope rest (stop n left) = called scope 0 (stopped n) left
-opened scope rest stuck = called scope 0 cannotGoOn 0
+opened scope rest stuck = called scope 0 cannotGoOn (initial 0)
 
 -- after a round on the scope, k replacements before it: "A match is replaced; with reach 2 the search then begins again at the scope's root"
-unfoldable pub afterRound : Words → ℕ → Strategy → (Words → ℕ → Called) → Result (Option Words) → Called
+unfoldable pub afterRound : Words → ℕ → Strategy → (Words → State → Called) → Result (Option Words) → Called
 afterRound scope k s rest (ok none left) = called scope k done left
 afterRound scope k exhaustive rest (ok (some next) left) = rest next left
 afterRound scope k firstMatch rest (ok (some next) left) = called next (suc k) done left
 afterRound scope k rootOnly rest (ok (some next) left) = called next (suc k) done left
 afterRound scope k s rest (stop n left) = called scope k (stopped n) left
-afterRound scope k s rest stuck = called scope k cannotGoOn 0
+afterRound scope k s rest stuck = called scope k cannotGoOn (initial 0)
 
 -- the calls one level deeper, on a rule, its arguments, its scope and the nodes live besides these two: to rewrite the scope, and to say if there is a match
 pub record Calls : Type 0 where
@@ -342,18 +343,18 @@ module _ (strict : Bool) (g : Grammar) (rules : Rules) (deeper : Calls) where
       return (some ws)) (return none)
 
   -- the rounds. Each but the last spends an attempt, so there are never more than the attempts left and one
-  unfoldable pub rounds : ℕ → Rule → List Piece → Env → Words → ℕ → ℕ → ℕ → Called
+  unfoldable pub rounds : ℕ → Rule → List Piece → Env → Words → ℕ → ℕ → State → Called
   rounds zero r ps args scope besides k left = called scope k cannotGoOn left
   rounds (suc most) r ps args scope besides k left =
       afterRound scope k (r .strategy) (λ next now. rounds most r ps args next besides (suc k) now) (turn r ps args scope besides left)
 
   -- a call that rewrites its scope: "Replacements apply rules with bit 3"
-  unfoldable pub callWith : Option (List Piece) → Rule → Env → Words → ℕ → ℕ → Called
+  unfoldable pub callWith : Option (List Piece) → Rule → Env → Words → ℕ → State → Called
   callWith none r args scope besides left = called scope 0 cannotGoOn left
   callWith (some ps) r args scope besides left =
-      opened scope (λ now. rounds (suc now) r ps args scope besides 0 now) (begin strict g r args scope besides left)
+      opened scope (λ now. rounds (suc (now .attempts)) r ps args scope besides 0 now) (begin strict g r args scope besides left)
 
-  unfoldable pub call : Rule → Env → Words → ℕ → ℕ → Called
+  unfoldable pub call : Rule → Env → Words → ℕ → State → Called
   call r args scope besides left = callWith (r .replacement) r args scope besides left
 
   -- a call in a condition: "The first match ends the search of a condition"
@@ -374,10 +375,10 @@ calls strict g rules (suc depth) = record {
 }
 
 -- the first call, on the whole tree, if there is a rule
-unfoldable pub runFrom : Bool → Grammar → Rules → Option Rule → Words → ℕ → Called
-runFrom strict g rules none tree budget = called tree 0 cannotGoOn budget
-runFrom strict g rules (some r) tree budget = call strict g rules (calls strict g rules (mostCalls - 1)) r [] tree 0 budget
+unfoldable pub runFrom : Bool → Grammar → Rules → Option Rule → Words → State → Called
+runFrom strict g rules none tree left = called tree 0 cannotGoOn left
+runFrom strict g rules (some r) tree left = call strict g rules (calls strict g rules (mostCalls - 1)) r [] tree 0 left
 
 -- THE FIRST CALL: "Rule 0 is the main rule: it has .. not bit 1 [parameters], and its scope is the slip"
 unfoldable pub run : Bool → Grammar → Rules → Words → ℕ → Called
-run strict g rules tree budget = runFrom strict g rules (getElem? rules 0) tree budget
+run strict g rules tree budget = runFrom strict g rules (getElem? rules 0) tree (initial budget)

@@ -13,6 +13,7 @@ use Rattle.rules.specs.Rules.{Rules}
 use Rattle.rules.specs.Layout.{rulesFit}
 use Rattle.judgement.specs.Typing.{readRules}
 use Rattle.meaning.specs.Limits.{mostBudget, leastResult, leastWork}
+use Rattle.meaning.specs.declared.State.{State}
 use Rattle.meaning.specs.Meaning.{Ending, done, stopped, cannotGoOn, Called, run}
 
 -- what a run brings: "a budget and a grammar, book and slip"
@@ -54,7 +55,7 @@ decode result work x =
 
 -- "Done or stopped, the result holds the slip as left by the last replacement that the first call .. put in place"
 unfoldable pub endedAs : ℕ → Called → Outcome
-endedAs budget c = ended (c .ending) (budget - c .left) (c .replacements) (c .scope)
+endedAs budget c = ended (c .ending) (budget - c .left .attempts) (c .replacements) (c .scope)
 
 -- what comes of inputs as they are read
 unfoldable pub outcomeOf : Inputs → Read Decoded → Outcome

@@ -7,6 +7,7 @@ use Rattle.grammar.specs.Grammar.{Grammar}
 use Rattle.tree.specs.Tree.{Tree}
 use Rattle.rules.specs.Rules.{Rules}
 use Rattle.judgement.specs.WellTyped.{WellTyped}
+use Rattle.meaning.specs.declared.State.{State}
 use Rattle.meaning.specs.Meaning.{Ending, done, stopped, cannotGoOn, Called, run}
 
 -- "the end or a stop 40 to 45", never stuck
@@ -29,7 +30,7 @@ pub record Sound (g : Grammar) (t n : ℕ) (strict plain : Called) : Type 0 wher
   -- what is left is a tree of the type, within the limits
   pub scope : Tree g t (strict .scope)
   -- attempts are only spent
-  pub attempts : strict .left ≤ n
+  pub attempts : strict .left .attempts ≤ n
 
 -- for well-typed rules and a tree of type 0, on any budget
 abbrev pub Soundness : Type 0

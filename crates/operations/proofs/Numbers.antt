@@ -9,6 +9,7 @@ use lib.Dec.{ltb, leb, eqb}
 use borrow.Author.Tests.{le-leb, lt-leb, eq-eqb, ne-eqb, ltb-false}
 use Rattle.words.specs.Reader.{pick}
 use Rattle.rules.specs.Rules.{Operation, add, subtract, quotient, remainder, round, truncate, equal, greater, rule, operation, nothing, applied, operations}
+use Rattle.meaning.specs.declared.State.{State}
 use Rattle.meaning.specs.Computation.{ok, thenOf, stopUnless}
 use Rattle.meaning.specs.Operations.{rounded, truncated, inRange, divisor, withOne, withNone, compute, compare}
 use Rattle.operations.specs.declared.Number.{Number}
@@ -63,7 +64,7 @@ range-over n h = rw (lt-leb n 999999999 h)
 pub range-in : (n : ℕ) → n ≤ 999999999 → Is n ≡ inRangeAs n
 range-in n h = rw (le-leb n 999999999 h)
 
-range-means : (n left : ℕ) (r : Number) → r ≡ inRangeAs n → MeansNumber r left (inRange n left)
+range-means : (n : ℕ) (left : State) (r : Number) → r ≡ inRangeAs n → MeansNumber r left (inRange n left)
 unfolding inRange thenOf stopUnless
 range-means n left r e = rw e (go (leb n 999999999))
   where

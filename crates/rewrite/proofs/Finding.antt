@@ -14,6 +14,7 @@ use Rattle.grammar.specs.Grammar.{Grammar}
 use Rattle.grammar.specs.Kinds.{children}
 use Rattle.tree.proofs.Trees.{trees-even, even-none}
 use Rattle.rules.specs.Rules.{Shape, shapes}
+use Rattle.meaning.specs.declared.State.{State}
 use Rattle.meaning.specs.Computation.{Result, ok, stop, stuck, Comp, thenOf, choose, whether}
 use Rattle.meaning.specs.Meaning.{Bindings, match, matchFirst}
 use Rattle.tree.proofs.Rest.{rest-node}
@@ -32,7 +33,7 @@ use Rattle.rewrite.proofs.Matcher.{Node, node-of, stage-on, moved, two-
 orElse : Result (Option Bindings) → Comp (Option Bindings) → Result (Option Bindings)
 orElse r k = thenOf r (λ m. whether m (λ c left. ok (some c) left) k)
 
-module _ (strict : Bool) (g : Grammar) (ty : ℕ) (ps : List Shape) (b : Bindings) (left : ℕ) where
+module _ (strict : Bool) (g : Grammar) (ty : ℕ) (ps : List Shape) (b : Bindings) (left : State) where
   none-left : matchFirst strict g ty ps [] b left ≡ ok none left
   unfolding matchFirst
   none-left = refl
@@ -50,21 +51,21 @@ or-stuck : (k : Comp (Option Bindings)) → orElse stuck k ≡ stuck
 unfolding orElse thenOf
 or-stuck k = refl
 
-or-none : (left : ℕ) (k : Comp (Option Bindings)) → orElse (ok none left) k ≡ k left
+or-none : (left : State) (k : Comp (Option Bindings)) → orElse (ok none left) k ≡ k left
 unfolding orElse thenOf whether
 or-none left k = refl
 
-or-some : (b : Bindings) (left : ℕ) (k : Comp (Option Bindings)) → orElse (ok (some b) left) k ≡ ok (some b) left
+or-some : (b : Bindings) (left : State) (k : Comp (Option Bindings)) → orElse (ok (some b) left) k ≡ ok (some b) left
 unfolding orElse thenOf whether
 or-some b left k = refl
 
-or-stop : (n left : ℕ) (k : Comp (Option Bindings)) → orElse (stop n left) k ≡ stop n left
+or-stop : (n : ℕ) (left : State) (k : Comp (Option Bindings)) → orElse (stop n left) k ≡ stop n left
 unfolding orElse thenOf
 or-stop n left k = refl
 
 -- THE LOOP
 
-record Run (strict : Bool) (g : Grammar) (ty : ℕ) (pairs arena part : Words) (at : ℕ) (vars : Vars) (live p : ℕ) (ws : Words) (b : Bindings) (left : ℕ) : Type 0 where
+record Run (strict : Bool) (g : Grammar) (ty : ℕ) (pairs arena part : Words) (at : ℕ) (vars : Vars) (live p : ℕ) (ws : Words) (b : Bindings) (left : State) : Type 0 where
   inside : p ≤ length part
   rest : Words
   types : List ℕ
@@ -75,7 +76,7 @@ pub record Finding (ty : ℕ) (pairs arena part : Words) (at : ℕ) (vars : Vars
   pub near : p ≤ length part
   pub sound : Sound vars
   pub fits : live ≤ 6144
-  run : (strict : Bool) (g : Grammar) (ws : Words) (ts : List ℕ) (b : Bindings) (left : ℕ) → Stage g arena part at vars live ws ts b
+  run : (strict : Bool) (g : Grammar) (ws : Words) (ts : List ℕ) (b : Bindings) (left : State) → Stage g arena part at vars live ws ts b
       → (matchFirst strict g ty (shapes pairs) ws b left ≡ stuck → ⊥) → Run strict g ty pairs arena part at vars live p ws b left
 
 pub finding-start : (ty : ℕ) (pairs arena part : Words) (at : ℕ) (vars : Vars) (live : ℕ) → Sound vars → live ≤ 6144 → Finding ty pairs arena part at vars live 0
@@ -99,14 +100,14 @@ module _ (ty : ℕ) (pairs arena part : Words) (at : ℕ) (vars : Vars) (live p 
   })
 
   module _ (two : 2 ≤ length part - p) (w : ℕ) (ew : w ≡ getD part p 0) where
-    here : {strict : Bool} {g : Grammar} {ws : Words} {b : Bindings} {left : ℕ} (r : Run strict g ty pairs arena part at vars live p ws b left) → Node g (drop p part) (r .rest) (r .types)
+    here : {strict : Bool} {g : Grammar} {ws : Words} {b : Bindings} {left : State} (r : Run strict g ty pairs arena part at vars live p ws b left) → Node g (drop p part) (r .rest) (r .types)
     here r = node-of _ (drop p part) (r .rest) (r .types) (r .stage .types) (r .stage .rest) (r .stage .marks) (omega (arith, length-drop p part))
 
-    type-is : {strict : Bool} {g : Grammar} {ws : Words} {b : Bindings} {left : ℕ} (r : Run strict g ty pairs arena part at vars live p ws b left) → typeIn w ≡ here r .t
+    type-is : {strict : Bool} {g : Grammar} {ws : Words} {b : Bindings} {left : State} (r : Run strict g ty pairs arena part at vars live p ws b left) → typeIn w ≡ here r .t
     type-is r = ap typeIn (ew ∙ ap (λ n. getD part n 0) (sym (add-zero p)) ∙ sym (getD-drop p part 0 0)) ∙ here r .type-in
 
     -- one node on
-    on : {strict : Bool} {g : Grammar} {ws : Words} {b : Bindings} {left : ℕ} (r : Run strict g ty pairs arena part at vars live p ws b left)
+    on : {strict : Bool} {g : Grammar} {ws : Words} {b : Bindings} {left : State} (r : Run strict g ty pairs arena part at vars live p ws b left)
         → matchFirst strict g ty (shapes pairs) (here r .t ∷ here r .v ∷ here r .below) b left ≡ matchFirst strict g ty (shapes pairs) (here r .below) b left
         → Run strict g ty pairs arena part at vars live (p + 2) ws b left
     on {strict} {g} {ws} {b} {left} r e =
@@ -130,14 +131,14 @@ module _ (ty : ℕ) (pairs arena part : Words) (at : ℕ) (vars : Vars) (live p 
 
     module _ (is : typeIn w ≡ ty) (m : Matched) (x : Words) (ex : x ≡ drop p part) (matched : MatchAnswers pairs arena x (at + p) vars live m) where
       -- the definition here: this node's match, or else the others'
-      at-this : {strict : Bool} {g : Grammar} {ws : Words} {b : Bindings} {left : ℕ} (r : Run strict g ty pairs arena part at vars live p ws b left)
+      at-this : {strict : Bool} {g : Grammar} {ws : Words} {b : Bindings} {left : State} (r : Run strict g ty pairs arena part at vars live p ws b left)
           → matchFirst strict g ty (shapes pairs) ws b left ≡ orElse (match strict g (shapes pairs) (r .rest) b left) (matchFirst strict g ty (shapes pairs) (here r .below) b)
       at-this {strict} {g} {ws} {b} {left} r =
           let n = here r in
           r .same-run ∙ ap (λ y. matchFirst strict g ty (shapes pairs) y b left) (n .is) ∙ this-type strict g ty (shapes pairs) b left (n .t) (n .v) (n .below) (sym (type-is r) ∙ is)
           ∙ ap (λ y. orElse (match strict g (shapes pairs) y b left) (matchFirst strict g ty (shapes pairs) (n .below) b)) (sym (n .is))
 
-      this-match : {strict : Bool} {g : Grammar} {ws : Words} {b : Bindings} {left : ℕ} (r : Run strict g ty pairs arena part at vars live p ws b left) → (matchFirst strict g ty (shapes pairs) ws b left ≡ stuck → ⊥)
+      this-match : {strict : Bool} {g : Grammar} {ws : Words} {b : Bindings} {left : State} (r : Run strict g ty pairs arena part at vars live p ws b left) → (matchFirst strict g ty (shapes pairs) ws b left ≡ stuck → ⊥)
           → Means g arena (b .besides) (m .verdict) (m .vars) (m .live) left (match strict g (shapes pairs) (r .rest) b left)
       this-match {strict} {g} {ws} {b} {left} r ns =
           matched strict .meant g (r .rest) (r .types) b left (rw ex (r .stage))
@@ -145,7 +146,7 @@ module _ (ty : ℕ) (pairs arena part : Words) (at : ℕ) (vars : Vars) (live p 
 
       -- a verdict that ends the search
       found : (v : Verdict) → m .verdict ≡ v
-          → ((strict : Bool) (g : Grammar) (ws : Words) (b : Bindings) (left : ℕ) (r : Run strict g ty pairs arena part at vars live p ws b left) → Means g arena (b .besides) v (m .vars) (m .live) left (match strict g (shapes pairs) (r .rest) b left)
+          → ((strict : Bool) (g : Grammar) (ws : Words) (b : Bindings) (left : State) (r : Run strict g ty pairs arena part at vars live p ws b left) → Means g arena (b .besides) v (m .vars) (m .live) left (match strict g (shapes pairs) (r .rest) b left)
           → Means g arena (b .besides) v (m .vars) (m .live) left (matchFirst strict g ty (shapes pairs) ws b left)) → FirstAnswers ty pairs arena part at vars live m
       found v e f strict = record {
         sound = matched strict .sound;
@@ -172,7 +173,7 @@ module _ (ty : ℕ) (pairs arena part : Words) (at : ℕ) (vars : Vars) (live p 
         run = λ strict g ws ts b left st ns. stepped strict g ws b left ns (go .run strict g ws ts b left st ns);
       }
         where
-          stepped : (strict : Bool) (g : Grammar) (ws : Words) (b : Bindings) (left : ℕ) → (matchFirst strict g ty (shapes pairs) ws b left ≡ stuck → ⊥) → Run strict g ty pairs arena part at vars live p ws b left
+          stepped : (strict : Bool) (g : Grammar) (ws : Words) (b : Bindings) (left : State) → (matchFirst strict g ty (shapes pairs) ws b left ≡ stuck → ⊥) → Run strict g ty pairs arena part at vars live p ws b left
               → Run strict g ty pairs arena part at vars live (p + 2) ws b left
           stepped strict g ws b left ns r =
               let n = here r in

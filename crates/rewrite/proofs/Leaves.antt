@@ -15,6 +15,7 @@ use Rattle.tree.specs.Limits.{mostNodes}
 use Rattle.tree.specs.Tree.{size}
 use Rattle.tree.proofs.Trees.{trees-even, tree-some}
 use Rattle.rules.specs.Rules.{arguments}
+use Rattle.meaning.specs.declared.State.{State}
 use Rattle.meaning.specs.Computation.{Result, ok, stop, stuck, thenOf, present, return}
 use Rattle.meaning.specs.Meaning.{Env, total, variable, variables}
 use Rattle.operations.specs.declared.Number.{Number}
@@ -92,7 +93,7 @@ value-there w pairs at vars er es ex = er ∙ ap (λ s. getD w (s + 1) 0) (es �
 
 -- VARIABLES, one after the other
 
-pub variables-more : (env : Env) (x : ℕ) (xs : List ℕ) (left : ℕ) (whole : Env) → variables env (x ∷ xs) left ≡ ok whole left
+pub variables-more : (env : Env) (x : ℕ) (xs : List ℕ) (left : State) (whole : Env) → variables env (x ∷ xs) left ≡ ok whole left
     → (u : Words) × (rest : Env) × (getElem? env x ≡ some u) × (variables env xs left ≡ ok rest left) × (whole ≡ u ∷ rest)
 unfolding variables variable present thenOf
 variables-more env x xs left whole e = go (getElem? env x) refl e
@@ -110,7 +111,7 @@ variables-more env x xs left whole e = go (getElem? env x) refl e
     go none q f = clash cc
     go (some u) q f = let t = first u (variables env xs left) f in (u, t .0, q, t .1, t .2)
 
-pub variables-none : (env : Env) (left : ℕ) (whole : Env) → variables env [] left ≡ ok whole left → whole ≡ []
+pub variables-none : (env : Env) (left : State) (whole : Env) → variables env [] left ≡ ok whole left → whole ≡ []
 unfolding variables
 variables-none env left whole e = cc
 
@@ -141,7 +142,7 @@ arguments-none zero ws h = refl
 arguments-none (suc k) ws h = absurd (omega arith)
 
 -- the trees gathered so far stand, and the others are those of the pairs that are left
-record Run (w pairs : Words) (at n : ℕ) (args : Vars) (count i : ℕ) (g : Grammar) (top : ℕ) (env whole : Env) (left : ℕ) : Type 0 where
+record Run (w pairs : Words) (at n : ℕ) (args : Vars) (count i : ℕ) (g : Grammar) (top : ℕ) (env whole : Env) (left : State) : Type 0 where
   done : Env
   rest : Env
   joined : whole ≡ done ++ rest
@@ -154,7 +155,7 @@ pub record Gathering (w pairs : Words) (at n : ℕ) (vars args : Vars) (count i 
   pub bound-to : args .n ≡ i
   pub few : i ≤ 16
   pub small : count ≤ 4096 * i
-  run : (g : Grammar) (top : ℕ) (env whole : Env) (left : ℕ) → length g ≤ mostTypes → EnvAt g (take top w) (startsOf vars) env → variables env (arguments n (drop at pairs)) left ≡ ok whole left
+  run : (g : Grammar) (top : ℕ) (env whole : Env) (left : State) → length g ≤ mostTypes → EnvAt g (take top w) (startsOf vars) env → variables env (arguments n (drop at pairs)) left ≡ ok whole left
       → Run w pairs at n args count i g top env whole left
 
 pub gathering-start : (w pairs : Words) (at n : ℕ) (vars : Vars) (starts : List ℕ) → length starts ≡ 16 → Gathering w pairs at n vars (record { n = 0; starts = starts }) 0 0
@@ -182,7 +183,7 @@ module _ (w pairs : Words) (at n : ℕ) (vars args : Vars) (count i : ℕ) (go :
     stands = λ g top env whole left k e m v. ended (go .run g top env whole left k e v);
   }
     where
-      ended : {g : Grammar} {top : ℕ} {env whole : Env} {left : ℕ} → Run w pairs at n args count i g top env whole left → EnvAt g (take top w) (startsOf args) whole × (count ≡ total whole)
+      ended : {g : Grammar} {top : ℕ} {env whole : Env} {left : State} → Run w pairs at n args count i g top env whole left → EnvAt g (take top w) (startsOf args) whole × (count ≡ total whole)
       ended {g} {top} {env} {whole} {left} r =
           let none-due = ap (λ xs. variables env xs left) (sym (arguments-none (n - i) (drop (at + 2 * i) pairs) (omega arith))) ∙ r .due in
           let all : whole ≡ r .done = r .joined ∙ ap (λ x. r .done ++ x) (variables-none env left (r .rest) none-due) ∙ append-nil (r .done) in
@@ -206,7 +207,7 @@ module _ (w pairs : Words) (at n : ℕ) (vars args : Vars) (count i : ℕ) (go :
           arguments-more (n - i) (drop (at + 2 * i) pairs) (omega arith)
           ∙ ap₂ (λ c cs. c ∷ cs) (getD-drop (at + 2 * i) pairs 1 0 ∙ sym ex) (ap₂ arguments a (drop-drop 2 (at + 2 * i) pairs ∙ ap (λ p. drop p pairs) b))
 
-      step : (g : Grammar) (top : ℕ) (env whole : Env) (left : ℕ) → length g ≤ mostTypes → EnvAt g (take top w) (startsOf vars) env → Run w pairs at n args count i g top env whole left
+      step : (g : Grammar) (top : ℕ) (env whole : Env) (left : State) → length g ≤ mostTypes → EnvAt g (take top w) (startsOf vars) env → Run w pairs at n args count i g top env whole left
           → Run w pairs at n (bound args start) (count + m) (i + 1) g top env whole left
       step g top env whole left k e r =
           let t = variables-more env x (arguments (n - (i + 1)) (drop (at + 2 * (i + 1)) pairs)) left (r .rest) (ap (λ xs. variables env xs left) (sym pairs-more) ∙ r .due) in

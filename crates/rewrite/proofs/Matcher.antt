@@ -18,6 +18,7 @@ use Rattle.grammar.specs.Kinds.{children}
 use Rattle.tree.specs.Tree.{Trees, size, isTree, after, firstTree}
 use Rattle.tree.proofs.Trees.{split, first-after, tells, trees-even, first-even, tree-passes, tree-some, even-none}
 use Rattle.rules.specs.Rules.{Shape, node, new, same, shapes}
+use Rattle.meaning.specs.declared.State.{State}
 use Rattle.meaning.specs.Computation.{stuck}
 use Rattle.meaning.specs.Meaning.{Env, Bindings, total, live, match}
 use Rattle.tree.specs.Rest.{Rest}
@@ -107,7 +108,7 @@ same-as e f s = λ g u ws t ts l st m tr k. sym f ∙ s g u ws t ts l st (e ∙ 
 -- THE LOOP
 
 -- what is left, as the definition sees it
-record Run (strict : Bool) (g : Grammar) (pairs arena part : Words) (at : ℕ) (env : Vars) (held i p : ℕ) (ws : Words) (b : Bindings) (left : ℕ) : Type 0 where
+record Run (strict : Bool) (g : Grammar) (pairs arena part : Words) (at : ℕ) (env : Vars) (held i p : ℕ) (ws : Words) (b : Bindings) (left : State) : Type 0 where
   inside : p ≤ length part
   rest : Words
   types : List ℕ
@@ -121,7 +122,7 @@ pub record Going (pairs arena part : Words) (at : ℕ) (vars : Vars) (held₀ : 
   pub sound : Sound env
   pub fits : held ≤ 6144
   pub grows : held₀ ≤ held
-  run : (strict : Bool) (g : Grammar) (ws : Words) (ts : List ℕ) (b : Bindings) (left : ℕ) → Stage g arena part at vars held₀ ws ts b → (match strict g (shapes pairs) ws b left ≡ stuck → ⊥)
+  run : (strict : Bool) (g : Grammar) (ws : Words) (ts : List ℕ) (b : Bindings) (left : State) → Stage g arena part at vars held₀ ws ts b → (match strict g (shapes pairs) ws b left ≡ stuck → ⊥)
       → Run strict g pairs arena part at env held i p ws b left
 
 pub going-start : (pairs arena part : Words) (at : ℕ) (vars : Vars) (held : ℕ) → Sound vars → held ≤ 6144 → Going pairs arena part at vars held vars held 0 0
@@ -233,7 +234,7 @@ stands-here {g} {arena} {x} {a} {rest = rest} {t} {ts} st =
 module _ (pairs arena part : Words) (at : ℕ) (vars : Vars) (held₀ : ℕ) (env : Vars) (held i p : ℕ) (go : Going pairs arena part at vars held₀ env held i p) where
   -- a verdict with the variables as they are
   answered : (v : Verdict)
-      → ((strict : Bool) (g : Grammar) (ws : Words) (b : Bindings) (left : ℕ) → (match strict g (shapes pairs) ws b left ≡ stuck → ⊥) → Run strict g pairs arena part at env held i p ws b left
+      → ((strict : Bool) (g : Grammar) (ws : Words) (b : Bindings) (left : State) → (match strict g (shapes pairs) ws b left ≡ stuck → ⊥) → Run strict g pairs arena part at env held i p ws b left
       → Means g arena (b .besides) v env held left (match strict g (shapes pairs) ws b left))
       → MatchAnswers pairs arena part at vars held₀ (record { verdict = v; vars = env; live = held })
   answered v f strict = record { sound = go .sound; fits = go .fits; grows = go .grows; meant = λ g ws ts b left st ns. f strict g ws b left ns (go .run strict g ws ts b left st ns) }
@@ -251,7 +252,7 @@ module _ (pairs arena part : Words) (at : ℕ) (vars : Vars) (held₀ : ℕ) (en
     the-pair = drop-pair pairs i (omega (arith, go .read))
 
     -- the definition at the pair here, as a shape
-    at-shape : (s : Shape) → shapes (getD pairs i 0 ∷ getD pairs (i + 1) 0 ∷ drop (i + 2) pairs) ≡ s ∷ shapes (drop (i + 2) pairs) → (strict : Bool) (g : Grammar) (x : Words) (b : Bindings) (left : ℕ)
+    at-shape : (s : Shape) → shapes (getD pairs i 0 ∷ getD pairs (i + 1) 0 ∷ drop (i + 2) pairs) ≡ s ∷ shapes (drop (i + 2) pairs) → (strict : Bool) (g : Grammar) (x : Words) (b : Bindings) (left : State)
         → match strict g (shapes (drop i pairs)) x b left ≡ match strict g (s ∷ shapes (drop (i + 2) pairs)) x b left
     at-shape s e strict g x b left = ap (λ ps. match strict g ps x b left) (ap shapes the-pair ∙ e)
 
@@ -268,7 +269,7 @@ module _ (pairs arena part : Words) (at : ℕ) (vars : Vars) (held₀ : ℕ) (en
 
     module _ (more : p + 2 ≤ length part) (w : ℕ) (ew : w ≡ getD part p 0) where
       -- the node that stands here
-      here : {strict : Bool} {g : Grammar} {ws : Words} {b : Bindings} {left : ℕ} (r : Run strict g pairs arena part at env held i p ws b left) → Node g (drop p part) (r .rest) (r .types)
+      here : {strict : Bool} {g : Grammar} {ws : Words} {b : Bindings} {left : State} (r : Run strict g pairs arena part at env held i p ws b left) → Node g (drop p part) (r .rest) (r .types)
       here r = node-of _ (drop p part) (r .rest) (r .types) (r .stage .types) (r .stage .rest) (r .stage .marks) (omega (arith, length-drop p part))
 
       at-first : getD (drop p part) 0 0 ≡ w
@@ -303,7 +304,7 @@ module _ (pairs arena part : Words) (at : ℕ) (vars : Vars) (held₀ : ℕ) (en
           run = λ strict g ws ts b left st ns. stepped strict g ws b left (go .run strict g ws ts b left st ns);
         }
           where
-            stepped : (strict : Bool) (g : Grammar) (ws : Words) (b : Bindings) (left : ℕ) → Run strict g pairs arena part at env held i p ws b left → Run strict g pairs arena part at env held (i + 2) (p + 2) ws b left
+            stepped : (strict : Bool) (g : Grammar) (ws : Words) (b : Bindings) (left : State) → Run strict g pairs arena part at env held i p ws b left → Run strict g pairs arena part at env held (i + 2) (p + 2) ws b left
             stepped strict g ws b left r =
                 let n = here r in
                 let c = bindings (r .bound-to) (b .besides) in
@@ -319,14 +320,14 @@ module _ (pairs arena part : Words) (at : ℕ) (vars : Vars) (held₀ : ℕ) (en
                 }
 
       -- the words of the first tree
-      tree-words : {strict : Bool} {g : Grammar} {ws : Words} {b : Bindings} {left : ℕ} (r : Run strict g pairs arena part at env held i p ws b left) → 2 * sizeIn w ≡ length (firstTree g (r .rest))
+      tree-words : {strict : Bool} {g : Grammar} {ws : Words} {b : Bindings} {left : State} (r : Run strict g pairs arena part at env held i p ws b left) → 2 * sizeIn w ≡ length (firstTree g (r .rest))
       tree-words {g = g} r = let n = here r in sym (first-even g (r .rest) 1 ∙ ap (λ k. 2 * k) (sym (n .size-in) ∙ ap sizeIn at-first))
 
-      tree-inside : {strict : Bool} {g : Grammar} {ws : Words} {b : Bindings} {left : ℕ} (r : Run strict g pairs arena part at env held i p ws b left) → 2 * sizeIn w ≤ length (drop p part)
+      tree-inside : {strict : Bool} {g : Grammar} {ws : Words} {b : Bindings} {left : State} (r : Run strict g pairs arena part at env held i p ws b left) → 2 * sizeIn w ≤ length (drop p part)
       tree-inside {g = g} r = omega (arith, tree-words r, first-even g (r .rest) 1, first-size g (r .rest) 1, ap length (r .stage .marks), marked-length g (r .rest), trees-even (r .stage .rest .typed))
 
       -- one tree on, with these variables
-      tree-on : {strict : Bool} {g : Grammar} {ws : Words} {b : Bindings} {left : ℕ} (r : Run strict g pairs arena part at env held i p ws b left) (env′ : Vars) (held′ : ℕ) (now : Env)
+      tree-on : {strict : Bool} {g : Grammar} {ws : Words} {b : Bindings} {left : State} (r : Run strict g pairs arena part at env held i p ws b left) (env′ : Vars) (held′ : ℕ) (now : Env)
           → EnvAt g arena (startsOf env′) now → held′ ≡ b .besides + total now → Stage g arena (drop (p + 2 * sizeIn w) part) (at + (p + 2 * sizeIn w)) env′ held′ (after g (r .rest) 1) (here r .more) (bindings now (b .besides))
       tree-on {g = g} {b = b} r env′ held′ now ev c =
           let n = here r in
@@ -340,14 +341,14 @@ module _ (pairs arena part : Words) (at : ℕ) (vars : Vars) (held₀ : ℕ) (en
         is-same = pair-same (getD pairs i 0) (getD pairs (i + 1) 0) (drop (i + 2) pairs) not-new is
 
         -- the definition here, at the node
-        at-same : {strict : Bool} {g : Grammar} {ws : Words} {b : Bindings} {left : ℕ} (r : Run strict g pairs arena part at env held i p ws b left)
+        at-same : {strict : Bool} {g : Grammar} {ws : Words} {b : Bindings} {left : State} (r : Run strict g pairs arena part at env held i p ws b left)
             → match strict g (shapes pairs) ws b left ≡ match strict g (same (getD pairs (i + 1) 0) ∷ shapes (drop (i + 2) pairs)) (here r .t ∷ here r .v ∷ here r .below) (bindings (r .bound-to) (b .besides)) left
         at-same {strict} {g} {ws} {b} {left} r =
             r .same-run ∙ at-shape _ is-same strict g (r .rest) (bindings (r .bound-to) (b .besides)) left
             ∙ ap (λ x. match strict g (same (getD pairs (i + 1) 0) ∷ shapes (drop (i + 2) pairs)) x (bindings (r .bound-to) (b .besides)) left) (here r .is)
 
         -- the variable is bound, since the run is not stuck
-        variable-bound : {strict : Bool} {g : Grammar} {ws : Words} {b : Bindings} {left : ℕ} (r : Run strict g pairs arena part at env held i p ws b left) → (match strict g (shapes pairs) ws b left ≡ stuck → ⊥) → getD pairs (i + 1) 0 < env .n
+        variable-bound : {strict : Bool} {g : Grammar} {ws : Words} {b : Bindings} {left : State} (r : Run strict g pairs arena part at env held i p ws b left) → (match strict g (shapes pairs) ws b left ≡ stuck → ⊥) → getD pairs (i + 1) 0 < env .n
         variable-bound {strict} {g} {ws} {b} {left} r ns = go-on (env .n - getD pairs (i + 1) 0) refl
           where
             go-on : (d : ℕ) → env .n - getD pairs (i + 1) 0 ≡ d → getD pairs (i + 1) 0 < env .n
@@ -358,7 +359,7 @@ module _ (pairs arena part : Words) (at : ℕ) (vars : Vars) (held₀ : ℕ) (en
 
         module _ (start : ℕ) (es : start ≡ startAt env (getD pairs (i + 1) 0)) (eq : Bool) (x : Words) (ex : x ≡ drop p part) (test : SameTree arena start x eq) where
           -- the variable's tree, and what the comparison says of it
-          compared : {strict : Bool} {g : Grammar} {ws : Words} {b : Bindings} {left : ℕ} (r : Run strict g pairs arena part at env held i p ws b left) → (match strict g (shapes pairs) ws b left ≡ stuck → ⊥)
+          compared : {strict : Bool} {g : Grammar} {ws : Words} {b : Bindings} {left : State} (r : Run strict g pairs arena part at env held i p ws b left) → (match strict g (shapes pairs) ws b left ≡ stuck → ⊥)
               → (u : Words) × (getElem? (r .bound-to) (getD pairs (i + 1) 0) ≡ some u) × (eq ≡ equalWords u (firstTree g (here r .t ∷ here r .v ∷ here r .below)))
           compared {g = g} r ns =
               let n = here r in
@@ -383,7 +384,7 @@ module _ (pairs arena part : Words) (at : ℕ) (vars : Vars) (held₀ : ℕ) (en
             run = λ strict g ws ts b left st ns. stepped strict g ws b left ns (go .run strict g ws ts b left st ns);
           }
             where
-              stepped : (strict : Bool) (g : Grammar) (ws : Words) (b : Bindings) (left : ℕ) → (match strict g (shapes pairs) ws b left ≡ stuck → ⊥) → Run strict g pairs arena part at env held i p ws b left
+              stepped : (strict : Bool) (g : Grammar) (ws : Words) (b : Bindings) (left : State) → (match strict g (shapes pairs) ws b left ≡ stuck → ⊥) → Run strict g pairs arena part at env held i p ws b left
                   → Run strict g pairs arena part at env held (i + 2) (p + 2 * sizeIn w) ws b left
               stepped strict g ws b left ns r =
                   let n = here r in
@@ -403,20 +404,20 @@ module _ (pairs arena part : Words) (at : ℕ) (vars : Vars) (held₀ : ℕ) (en
         is-new : shapes (getD pairs i 0 ∷ getD pairs (i + 1) 0 ∷ drop (i + 2) pairs) ≡ new (getD pairs (i + 1) 0) ∷ shapes (drop (i + 2) pairs)
         is-new = pair-new (getD pairs i 0) (getD pairs (i + 1) 0) (drop (i + 2) pairs) is
 
-        at-new : {strict : Bool} {g : Grammar} {ws : Words} {b : Bindings} {left : ℕ} (r : Run strict g pairs arena part at env held i p ws b left)
+        at-new : {strict : Bool} {g : Grammar} {ws : Words} {b : Bindings} {left : State} (r : Run strict g pairs arena part at env held i p ws b left)
             → match strict g (shapes pairs) ws b left ≡ match strict g (new (getD pairs (i + 1) 0) ∷ shapes (drop (i + 2) pairs)) (here r .t ∷ here r .v ∷ here r .below) (bindings (r .bound-to) (b .besides)) left
         at-new {strict} {g} {ws} {b} {left} r =
             r .same-run ∙ at-shape _ is-new strict g (r .rest) (bindings (r .bound-to) (b .besides)) left
             ∙ ap (λ x. match strict g (new (getD pairs (i + 1) 0) ∷ shapes (drop (i + 2) pairs)) x (bindings (r .bound-to) (b .besides)) left) (here r .is)
 
-        type-is : {strict : Bool} {g : Grammar} {ws : Words} {b : Bindings} {left : ℕ} (r : Run strict g pairs arena part at env held i p ws b left) → typeIn w ≡ here r .t
+        type-is : {strict : Bool} {g : Grammar} {ws : Words} {b : Bindings} {left : State} (r : Run strict g pairs arena part at env held i p ws b left) → typeIn w ≡ here r .t
         type-is r = ap typeIn (sym at-first) ∙ here r .type-in
 
-        live-is : {strict : Bool} {g : Grammar} {ws : Words} {b : Bindings} {left : ℕ} (r : Run strict g pairs arena part at env held i p ws b left)
+        live-is : {strict : Bool} {g : Grammar} {ws : Words} {b : Bindings} {left : State} (r : Run strict g pairs arena part at env held i p ws b left)
             → held + sizeIn w ≡ live (bindings (r .bound-to) (b .besides)) + size (firstTree g (here r .t ∷ here r .v ∷ here r .below))
         live-is {g = g} r = let e : sizeIn w ≡ size (firstTree g (here r .t ∷ here r .v ∷ here r .below)) = ap sizeIn (sym at-first) ∙ here r .size-in ∙ ap (λ x. size (firstTree g x)) (here r .is) in omega (arith, r .stage .counted)
 
-        few-bound : {strict : Bool} {g : Grammar} {ws : Words} {b : Bindings} {left : ℕ} (r : Run strict g pairs arena part at env held i p ws b left) → length (r .bound-to) ≡ env .n
+        few-bound : {strict : Bool} {g : Grammar} {ws : Words} {b : Bindings} {left : State} (r : Run strict g pairs arena part at env held i p ws b left) → length (r .bound-to) ≡ env .n
         few-bound {g = g} r = env-length g arena (startsOf env) (r .bound-to) (r .stage .stands) ∙ starts-length env (go .sound)
 
         pub new-other : (typeIn w ≡ getD pairs (i + 1) 0 → ⊥) → MatchAnswers pairs arena part at vars held₀ (record { verdict = Differs; vars = env; live = held })
@@ -441,7 +442,7 @@ module _ (pairs arena part : Words) (at : ℕ) (vars : Vars) (held₀ : ℕ) (en
           run = λ strict g ws ts b left st ns. stepped strict g ws b left (go .run strict g ws ts b left st ns);
         }
           where
-            stepped : (strict : Bool) (g : Grammar) (ws : Words) (b : Bindings) (left : ℕ) → Run strict g pairs arena part at env held i p ws b left
+            stepped : (strict : Bool) (g : Grammar) (ws : Words) (b : Bindings) (left : State) → Run strict g pairs arena part at env held i p ws b left
                 → Run strict g pairs arena part at (bound env start) (held + sizeIn w) (i + 2) (p + 2 * sizeIn w) ws b left
             stepped strict g ws b left r =
                 let n = here r in

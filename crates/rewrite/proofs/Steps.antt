@@ -12,6 +12,7 @@ use Rattle.words.specs.Views.{equalWords}
 use Rattle.grammar.specs.Grammar.{Grammar}
 use Rattle.tree.specs.Tree.{size, isTree, after, firstTree}
 use Rattle.rules.specs.Rules.{Shape, node, new, same, shapes}
+use Rattle.meaning.specs.declared.State.{State}
 use Rattle.meaning.specs.Computation.{ok, stop, stuck, thenOf, stopUnless, surely, check, present, choose}
 use Rattle.meaning.specs.Meaning.{Bindings, live, liveWithin, variable, sameTree, bind, match}
 
@@ -38,12 +39,12 @@ no-pair (t ∷ v ∷ ps) h = absurd (omega arith)
 
 -- WHAT IT DOES
 
-check-passes : (strict b : Bool) (left : ℕ) → b ≡ true → check strict b left ≡ ok tt left
+check-passes : (strict b : Bool) (left : State) → b ≡ true → check strict b left ≡ ok tt left
 unfolding check surely
 check-passes true b left e = rw e
 check-passes false b left e = refl
 
-module _ (strict : Bool) (g : Grammar) (ps : List Shape) (b : Bindings) (left : ℕ) where
+module _ (strict : Bool) (g : Grammar) (ps : List Shape) (b : Bindings) (left : State) where
   pub match-end : (ws : Words) → match strict g [] ws b left ≡ ok (some b) left
   unfolding match
   match-end ws = refl

@@ -13,6 +13,7 @@ use Rattle.tree.specs.Limits.{mostNodes, mostNesting}
 use Rattle.tree.specs.Tree.{Trees, Tree, size, nesting, firstTree}
 use Rattle.rules.specs.Rules.{Operation, applied, operation, arguments}
 use Rattle.meaning.specs.Limits.{mostLive}
+use Rattle.meaning.specs.declared.State.{State}
 use Rattle.meaning.specs.Computation.{Result, ok, stop, stuck}
 use Rattle.meaning.specs.Operations.{compute}
 use Rattle.meaning.specs.Meaning.{Env, total, variables, put}
@@ -38,7 +39,7 @@ overBy n live = pick (leb n mostNodes) (pick (leb live mostLive) 0 44) 42
 pub record Gathered (w pairs : Words) (at n : ℕ) (vars : Vars) (r : Args) : Type 0 where
   pub sound : Sound (r .vars)
   pub small : r .total ≤ 65536
-  pub stands : (g : Grammar) (top : ℕ) (env args : Env) (left : ℕ) → length g ≤ mostTypes → EnvAt g (take top w) (startsOf vars) env → n ≤ 16
+  pub stands : (g : Grammar) (top : ℕ) (env args : Env) (left : State) → length g ≤ mostTypes → EnvAt g (take top w) (startsOf vars) env → n ≤ 16
       → variables env (arguments n (drop at pairs)) left ≡ ok args left → EnvAt g (take top w) (startsOf (r .vars)) args × (r .total ≡ total args)
 
 -- the tree of n nodes under way at top is marked, and r is 43 if it nests too deep
@@ -74,12 +75,12 @@ pub record Replaced (heads rows w w′ : Words) (base n i from m : ℕ) (r : Pla
       × PlacedAs g w w′ base t (put g scope (2 * i) ws) (r .stop) (r .nodes)
 
 -- what an operation made of the number at base: 0, and its value is written; or the stop, and nothing is changed
-abbrev pub ComputedAs : Words → Words → ℕ → Result ℕ → ℕ → ℕ → Type 0
+abbrev pub ComputedAs : Words → Words → ℕ → Result ℕ → State → ℕ → Type 0
 ComputedAs w w′ base m left zero = (v : ℕ) × (m ≡ ok v left) × (w′ ≡ set w (base + 1) v)
 ComputedAs w w′ base m left (suc k) = (m ≡ stop (suc k) left) × (w′ ≡ w)
 
 -- .. unless the operation is stuck
 pub record Computed (w w′ : Words) (base op b r : ℕ) : Type 0 where
   pub long : length w′ ≡ length w
-  pub computed : (o : Operation) (left : ℕ) → applied op ≡ operation o → (compute o (getD w (base + 1) 0) (argumentsOf o b) left ≡ stuck → ⊥)
+  pub computed : (o : Operation) (left : State) → applied op ≡ operation o → (compute o (getD w (base + 1) 0) (argumentsOf o b) left ≡ stuck → ⊥)
       → ComputedAs w w′ base (compute o (getD w (base + 1) 0) (argumentsOf o b) left) left r

@@ -12,6 +12,7 @@ use Rattle.grammar.specs.Limits.{mostTypes}
 use Rattle.rules.specs.Limits.{mostVariables, markNew, markVariable}
 use Rattle.rules.specs.Rules.{shapes}
 use Rattle.meaning.specs.Limits.{mostLive}
+use Rattle.meaning.specs.declared.State.{State}
 use Rattle.meaning.specs.Computation.{Result, ok, stop, stuck, Comp}
 use Rattle.meaning.specs.Meaning.{Env, Bindings, total, match, matchFirst}
 use Rattle.tree.specs.Rest.{Rest}
@@ -60,7 +61,7 @@ abbrev pub bindings : Env → ℕ → Bindings
 bindings env besides = record { env = env; besides = besides }
 
 -- what a verdict says of a computation that gives a match or none
-abbrev pub Means : Grammar → Words → ℕ → Verdict → Vars → ℕ → ℕ → Result (Option Bindings) → Type 0
+abbrev pub Means : Grammar → Words → ℕ → Verdict → Vars → ℕ → State → Result (Option Bindings) → Type 0
 Means g arena besides Matches vars live left m = (env : Env) × EnvAt g arena (startsOf vars) env × (live ≡ besides + total env) × (m ≡ ok (some (bindings env besides)) left)
 Means g arena besides Differs vars live left m = m ≡ ok none left
 Means g arena besides (Stops n) vars live left m = m ≡ stop n left
@@ -70,7 +71,7 @@ pub record Answers (arena part : Words) (at : ℕ) (vars : Vars) (live : ℕ) (f
   pub sound : Sound (r .vars)
   pub fits : r .live ≤ mostLive
   pub grows : live ≤ r .live
-  pub meant : (g : Grammar) (ws : Words) (ts : List ℕ) (b : Bindings) (left : ℕ) → Stage g arena part at vars live ws ts b → (f g ws b left ≡ stuck → ⊥)
+  pub meant : (g : Grammar) (ws : Words) (ts : List ℕ) (b : Bindings) (left : State) → Stage g arena part at vars live ws ts b → (f g ws b left ≡ stuck → ⊥)
       → Means g arena (b .besides) (r .verdict) (r .vars) (r .live) left (f g ws b left)
 
 -- a pattern's pairs set against the first tree
