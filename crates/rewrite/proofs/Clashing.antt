@@ -8,11 +8,12 @@ use lib.ListN.{length, getD}
 use lib.Dec.{ltb}
 use borrow.Author.Tests.{ltb-true, ltb-false}
 use Rattle.words.specs.Reader.{Words}
+use Rattle.meaning.specs.declared.State.{State}
 use Rattle.marks.specs.Marked.{typeIn, sizeIn}
 use Rattle.marks.specs.Post.{span}
 use Rattle.rewrite.specs.Vars.{Sound, bound}
 use Rattle.rewrite.specs.Matching.{MatchAnswers}
-use Rattle.rewrite.specs.Candidates.{Clashes, Passed, NextCandidate}
+use Rattle.rewrite.specs.Candidates.{Clashes, unspent, Passed, NextCandidate}
 use Rattle.rewrite.specs.declared.Vars.{Vars}
 use Rattle.rewrite.specs.declared.Verdict.the-variants.{Differs}
 use Rattle.rewrite.specs.declared.Matched.{Matched}
@@ -81,9 +82,9 @@ module _ (pairs part : Words) (live total i p : ℕ) (cl : Clashing pairs part l
 
 -- THE NODES PASSED OVER
 
-module _ (pairs w : Words) (target base end from last live left : ℕ) where
+module _ (pairs w : Words) (target base end from last live : ℕ) (left : State) where
   -- the loop is at node i
-  pub record Passing (i fuel : ℕ) : Type 0 where
+  pub record Passing (i : ℕ) (fuel : State) : Type 0 where
     passed : ℕ
     pub node-is : i ≡ from + passed
     pub inside : 0 < passed → i ≤ last
@@ -92,7 +93,7 @@ module _ (pairs w : Words) (target base end from last live left : ℕ) where
   pub passing-start : Passing from left
   passing-start = record { passed = 0; node-is = omega arith; inside = λ h. absurd (omega arith); nodes = refl }
 
-  module _ (i fuel : ℕ) (pa : Passing i fuel) where
+  module _ (i : ℕ) (fuel : State) (pa : Passing i fuel) where
     pub passing-done : (i < last → typeIn (getD w (base + 2 * i) 0) ≡ target) → NextCandidate pairs w target base end from last live left (record { node = i; left = fuel })
     passing-done t = record { passed = pa .passed; node-is = pa .node-is; inside = λ h. omega (arith, pa .inside h, pa .node-is); nodes = pa .nodes; typed = t }
 
@@ -103,16 +104,19 @@ module _ (pairs w : Words) (target base end from last live left : ℕ) where
       pub passing-other : (typeIn word ≡ target → ⊥) → Passing (i + 1) fuel
       passing-other o = record { passed = suc (pa .passed); node-is = omega (arith, pa .node-is); inside = λ k. omega arith; nodes = inl ((λ x. o (ap typeIn there ∙ x)), pa .nodes) }
 
-      pub passing-clash : typeIn word ≡ target → (now : ℕ) → fuel ≡ suc now → (part : Words) → part ≡ span w (base + 2 * i) end → Clashes pairs part live → Passing (i + 1) now
+      pub passing-clash : typeIn word ≡ target → (now : State) → fuel .attempts ≡ suc (now .attempts) → (part : Words) → part ≡ span w (base + 2 * i) end → Clashes pairs part live → Passing (i + 1) now
       passing-clash t now z part ep c = record {
         passed = suc (pa .passed);
         node-is = omega (arith, pa .node-is);
         inside = λ k. omega arith;
-        nodes = inr (ap typeIn (sym there) ∙ t, clashes-as (ep ∙ ap (λ x. span w (base + 2 * x) end) (pa .node-is)) c, passed-as (pa .passed) z (pa .nodes));
+        nodes = inr (ap typeIn (sym there) ∙ t, clashes-as (ep ∙ ap (λ x. span w (base + 2 * x) end) (pa .node-is)) c, passed-as (pa .passed) before (pa .nodes));
       }
         where
+          before : fuel ≡ unspent now
+          before = ap (λ a. record { attempts = a }) z
+
           clashes-as : {a b : Words} → a ≡ b → Clashes pairs a live → Clashes pairs b live
           clashes-as q x = rw q at x
 
-          passed-as : {a b : ℕ} (k : ℕ) → a ≡ b → Passed pairs w target base end live from left k a → Passed pairs w target base end live from left k b
+          passed-as : {a b : State} (k : ℕ) → a ≡ b → Passed pairs w target base end live from left k a → Passed pairs w target base end live from left k b
           passed-as k q x = rw q at x

@@ -1,5 +1,6 @@
 // The next node at which an attempt may match: attempts that must fail are only counted.
 use crate::MOST_LIVE;
+use meaning::State;
 use rules::limits::MARK_NEW;
 use rules::limits::MARK_VARIABLE;
 ghost use mathlib.Core.Path.{_≡_};
@@ -8,10 +9,10 @@ ghost use mathlib.Core.Bool.{true};
 ghost use lib.ListN.{length};
 ghost use Rattle.rewrite.specs.Candidates.{Clashes, NextCandidate};
 
-// A node, by its number in the scope, and the attempts left when it is reached.
+// A node, by its number in the scope, and the state that is left when it is reached.
 pub struct Candidate {
     pub node: usize,
-    pub left: u32,
+    pub left: State,
 }
 
 // Must the pattern differ from the tree that the part begins with? No variable is bound or compared for this.
@@ -67,7 +68,7 @@ pub fn next_candidate(
     from: usize,
     last: usize,
     live: usize,
-    fuel: u32,
+    fuel: State,
 ) -> Candidate
     requires { ⌜ (length (now pairs) ≤ 256) × (live ≤ 6144) × (0 < last → (base + 2 * last ≤ end) × (end ≤ length (now w))) ⌝ }
     ensures { λ r. ⌜ NextCandidate (now (pairs .entry)) (now (w .entry)) target base end from last live fuel r ⌝ }
@@ -79,13 +80,14 @@ pub fn next_candidate(
         if marks::type_in(w[p]) != target {
             node = node + 1;
         } else {
-            if left == 0 {
+            if left.attempts == 0 {
                 return Candidate { node, left };
             }
             if !clashes(pairs, &w[p..end], live) {
                 return Candidate { node, left };
             }
-            left = left - 1;
+            let fewer = left.attempts - 1;
+            left = State { attempts: fewer };
             node = node + 1;
         }
     }

@@ -13,10 +13,10 @@ use Rattle.rewrite.proofs.candidates.clashes.Reads as clashes-reads
 use Rattle.marks.proofs.type_in.Reads as type-in-reads
 
 abbrev Inv-loop : tie.InvT-loop
-Inv-loop pairs w target base end from last live fuel node₀ left₀ node left = Passing pairs w target base end from last live fuel node left
+Inv-loop pairs w target base end from last live node₀ left₀ node left = Passing pairs w target base end from last live left₀ node left
 
 abbrev μ-loop : tie.MeasureT-loop
-μ-loop pairs w target base end from last live fuel node₀ left₀ node left = last - node
+μ-loop pairs w target base end from last live node₀ left₀ node left = last - node
 
 loop-holds : tie.Need-loop-holds Inv-loop μ-loop
 loop-holds c = passing-start _ _ _ _ _ _ _ _ _
@@ -46,37 +46,37 @@ loop-again : tie.Need-loop-again Inv-loop μ-loop
 loop-again c = passing-other _ _ _ _ _ _ _ _ _ _ _ (c .before .before .before .before .loop .inv) (c .before .before .before .loop-test .taken) _ refl (λ q. c .if1 .taken (c .before .type-in .ensures ∙ q))
 
 returns : tie.Need-returns Inv-loop μ-loop
-returns c = passing-done _ _ _ _ _ _ _ _ _ _ _ (c .before .before .before .before .before .loop .inv) (λ h. sym (c .before .before .type-in .ensures) ∙ c .before .if1 .left)
+returns c = passing-done _ _ _ _ _ _ _ _ _ _ _ (c .before .before .before .before .before .before .loop .inv) (λ h. sym (c .before .before .before .type-in .ensures) ∙ c .before .before .if1 .left)
 
 mul-clashes : tie.Need-mul-clashes Inv-loop μ-loop
-mul-clashes c = let h = c .before .before .before .before .before .before .before .before .pre .2 (omega (arith, c .before .before .before .before .loop-test .taken)) in omega (arith, h .0, h .1, c .before .before .before .before .loop-test .taken)
+mul-clashes c = let h = c .before .before .before .before .before .before .before .before .before .pre .2 (omega (arith, c .before .before .before .before .before .loop-test .taken)) in omega (arith, h .0, h .1, c .before .before .before .before .before .loop-test .taken)
 
 sub-clashes : tie.Need-sub-clashes Inv-loop μ-loop
-sub-clashes c = let h = c .before .before .before .before .before .before .before .before .pre .2 (omega (arith, c .before .before .before .before .loop-test .taken)) in omega (arith, h .0, h .1, c .before .before .before .before .loop-test .taken)
+sub-clashes c = let h = c .before .before .before .before .before .before .before .before .before .pre .2 (omega (arith, c .before .before .before .before .before .loop-test .taken)) in omega (arith, h .0, h .1, c .before .before .before .before .before .loop-test .taken)
 
 part-clashes-start : tie.Need-part-clashes-start Inv-loop μ-loop
-part-clashes-start c = let h = c .before .before .before .before .before .before .before .before .pre .2 (omega (arith, c .before .before .before .before .loop-test .taken)) in omega (arith, h .0, h .1, c .before .before .before .before .loop-test .taken)
+part-clashes-start c = let h = c .before .before .before .before .before .before .before .before .before .pre .2 (omega (arith, c .before .before .before .before .before .loop-test .taken)) in omega (arith, h .0, h .1, c .before .before .before .before .before .loop-test .taken)
 
 part-clashes-end : tie.Need-part-clashes-end Inv-loop μ-loop
-part-clashes-end c = let h = c .before .before .before .before .before .before .before .before .pre .2 (omega (arith, c .before .before .before .before .loop-test .taken)) in omega (arith, h .0, h .1, c .before .before .before .before .loop-test .taken)
+part-clashes-end c = let h = c .before .before .before .before .before .before .before .before .before .pre .2 (omega (arith, c .before .before .before .before .before .loop-test .taken)) in omega (arith, h .0, h .1, c .before .before .before .before .before .loop-test .taken)
 
 clashes-requires : tie.Need-clashes-requires Inv-loop μ-loop
-clashes-requires c κs = (c .before .before .before .before .before .before .before .before .before .pre .0, c .before .before .before .before .before .before .before .before .before .pre .1)
+clashes-requires c κs = (c .before .before .before .before .before .before .before .before .before .before .pre .0, c .before .before .before .before .before .before .before .before .before .before .pre .1)
 
 returns-2 : tie.Need-returns-2 Inv-loop μ-loop
-returns-2 c = passing-done _ _ _ _ _ _ _ _ _ _ _ (c .before .before .before .before .before .before .before .before .loop .inv) (λ h. sym (c .before .before .before .before .before .type-in .ensures) ∙ c .before .before .before .before .if1 .left)
+returns-2 c = passing-done _ _ _ _ _ _ _ _ _ _ _ (c .before .before .before .before .before .before .before .before .before .loop .inv) (λ h. sym (c .before .before .before .before .before .before .type-in .ensures) ∙ c .before .before .before .before .before .if1 .left)
 
-sub-left : tie.Need-sub-left Inv-loop μ-loop
-sub-left c = omega (arith, c .before .before .before .if2 .left)
+sub-fewer : tie.Need-sub-fewer Inv-loop μ-loop
+sub-fewer c = omega (arith, c .before .before .before .before .if2 .left)
 
 add-node-2 : tie.Need-add-node-2 Inv-loop μ-loop
-add-node-2 c = omega (arith, c .before .before .before .before .before .before .before .loop-test .taken)
+add-node-2 c = omega (arith, c .before .before .before .before .before .before .before .before .before .loop-test .taken)
 
 loop-less-2 : tie.Need-loop-less-2 Inv-loop μ-loop
-loop-less-2 c = omega (arith, c .before .before .before .before .before .before .before .loop-test .taken)
+loop-less-2 c = omega (arith, c .before .before .before .before .before .before .before .before .before .loop-test .taken)
 
 loop-again-2 : tie.Need-loop-again-2 Inv-loop μ-loop
-loop-again-2 c = passing-clash _ _ _ _ _ _ _ _ _ _ _ (c .before .before .before .before .before .before .before .before .loop .inv) (c .before .before .before .before .before .before .before .loop-test .taken) _ refl (sym (c .before .before .before .before .before .type-in .ensures) ∙ c .before .before .before .before .if1 .left) _ (omega (arith, c .before .before .before .if2 .left)) _ refl (c .before .clashes .ensures (not-false _ (c .if3 .left)))
+loop-again-2 c = passing-clash _ _ _ _ _ _ _ _ _ _ _ (c .before .before .before .before .before .before .before .before .before .before .loop .inv) (c .before .before .before .before .before .before .before .before .before .loop-test .taken) _ refl (sym (c .before .before .before .before .before .before .before .type-in .ensures) ∙ c .before .before .before .before .before .before .if1 .left) _ (omega (arith, c .before .before .before .before .if2 .left)) _ refl (c .before .before .clashes .ensures (not-false _ (c .before .if3 .left)))
 
 returns-3 : tie.Need-returns-3 Inv-loop μ-loop
 returns-3 c = passing-done _ _ _ _ _ _ _ _ _ _ _ (c .before .loop .inv) (λ h. absurd (omega (arith, c .loop-test .left)))
@@ -103,7 +103,7 @@ next-candidate-spec =
     part-clashes-end
     clashes-requires
     returns-2
-    sub-left
+    sub-fewer
     add-node-2
     loop-less-2
     loop-again-2
