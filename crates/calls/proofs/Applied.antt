@@ -22,6 +22,7 @@ use Rattle.rules.specs.Rules.{Operation, add, subtract, quotient, remainder, ro
 use Rattle.rules.specs.Layout as Layout
 use Rattle.rules.specs.Layout.{parameters}
 use Rattle.rules.proofs.Laid.{head-few, rule-value}
+use Rattle.meaning.specs.declared.State.{State}
 use Rattle.meaning.specs.Computation.{Result, ok, stop, stuck, Comp, thenOf, stopUnless, check, present}
 use Rattle.meaning.specs.Operations.{rounded, truncated, inRange, divisor, withOne, withNone, compute, compare}
 use Rattle.meaning.specs.Meaning.{Env, live, start, fits, begin, liveWithin, variables, valueOf, valuesOf, withValue, isNumberToken}
@@ -39,7 +40,7 @@ use Rattle.calls.proofs.Going.{then-ok, sure-first, sure-as, check-sure
 -- ARGUMENTS
 
 -- as many trees as variables, and no attempt is spent
-pub variables-ok : (env : Env) (xs : List ℕ) (l : ℕ) → Sure (variables env xs l) → (args : Env) × (variables env xs l ≡ ok args l) × (length args ≡ length xs)
+pub variables-ok : (env : Env) (xs : List ℕ) (l : State) → Sure (variables env xs l) → (args : Env) × (variables env xs l ≡ ok args l) × (length args ≡ length xs)
 unfolding variables
 variables-ok env [] l s = ([], refl, refl)
 variables-ok env (x ∷ xs) l s =
@@ -98,7 +99,7 @@ rule-few types ws at r next e =
 -- A CALL BEGINS
 
 -- what a call that begins has passed: as many arguments as parameters; the limit is left
-pub begin-sure : (g : Grammar) (r : Rule) (args : Env) (scope : Words) (besides l : ℕ) → Sure (begin true g r args scope besides l)
+pub begin-sure : (g : Grammar) (r : Rule) (args : Env) (scope : Words) (besides : ℕ) (l : State) → Sure (begin true g r args scope besides l)
     → (length args ≡ length (r .parameters)) × (begin true g r args scope besides l ≡ liveWithin (live (start args scope besides)) l)
 unfolding begin
 begin-sure g r args scope besides l s =
@@ -108,19 +109,19 @@ begin-sure g r args scope besides l s =
 
 -- THE ARGUMENTS OF AN OPERATION
 
-one-sure : {A : Type 0} (bs : List ℕ) (f : ℕ → Comp A) (l b : ℕ) → getD bs 0 b ≡ b → Sure (withOne bs f l) → bs ≡ b ∷ []
+one-sure : {A : Type 0} (bs : List ℕ) (f : ℕ → Comp A) (l : State) (b : ℕ) → getD bs 0 b ≡ b → Sure (withOne bs f l) → bs ≡ b ∷ []
 unfolding withOne
 one-sure [] f l b h s = absurd (s refl)
 one-sure (c ∷ []) f l b h s = rw h
 one-sure (c ∷ d ∷ bs) f l b h s = absurd (s refl)
 
-none-sure : {A : Type 0} (bs : List ℕ) (m : Comp A) (l : ℕ) → Sure (withNone bs m l) → bs ≡ []
+none-sure : {A : Type 0} (bs : List ℕ) (m : Comp A) (l : State) → Sure (withNone bs m l) → bs ≡ []
 unfolding withNone
 none-sure [] m l s = refl
 none-sure (c ∷ bs) m l s = absurd (s refl)
 
 -- an operation that is not stuck has the arguments that it takes; b is the first, if there is one
-pub compute-arguments : (o : Operation) (a : ℕ) (bs : List ℕ) (l b : ℕ) → getD bs 0 b ≡ b → Sure (compute o a bs l) → bs ≡ argumentsOf o b
+pub compute-arguments : (o : Operation) (a : ℕ) (bs : List ℕ) (l : State) (b : ℕ) → getD bs 0 b ≡ b → Sure (compute o a bs l) → bs ≡ argumentsOf o b
 unfolding compute
 compute-arguments add a bs l b h s = one-sure bs _ l b h s
 compute-arguments subtract a bs l b h s = one-sure bs _ l b h s
@@ -131,7 +132,7 @@ compute-arguments truncate a bs l b h s = none-sure bs _ l s
 compute-arguments equal a bs l b h s = absurd (s refl)
 compute-arguments greater a bs l b h s = absurd (s refl)
 
-pub compare-arguments : (o : Operation) (a : ℕ) (bs : List ℕ) (l b : ℕ) → getD bs 0 b ≡ b → Sure (compare o a bs l) → bs ≡ argumentsOf o b
+pub compare-arguments : (o : Operation) (a : ℕ) (bs : List ℕ) (l : State) (b : ℕ) → getD bs 0 b ≡ b → Sure (compare o a bs l) → bs ≡ argumentsOf o b
 unfolding compare
 compare-arguments add a bs l b h s = absurd (s refl)
 compare-arguments subtract a bs l b h s = absurd (s refl)
@@ -150,7 +151,7 @@ Small (stop n l) = Unit {0}
 Small stuck = Unit {0}
 
 abbrev AllSmall : Comp ℕ → Type 0
-AllSmall m = (l : ℕ) → Small (m l)
+AllSmall m = (l : State) → Small (m l)
 
 unless-small : (n : ℕ) (b : Bool) (m : Comp ℕ) → (b ≡ true → AllSmall m) → AllSmall (λ l. thenOf (stopUnless n b l) (λ u. m))
 unfolding thenOf stopUnless
@@ -183,7 +184,7 @@ compute-small truncate a bs = none-small bs _ (range-small (truncated a))
 compute-small equal a bs = λ l. tt
 compute-small greater a bs = λ l. tt
 
-pub compute-range : (o : Operation) (a : ℕ) (bs : List ℕ) (l v m : ℕ) → compute o a bs l ≡ ok v m → v ≤ greatestNumber
+pub compute-range : (o : Operation) (a : ℕ) (bs : List ℕ) (l : State) (v : ℕ) (m : State) → compute o a bs l ≡ ok v m → v ≤ greatestNumber
 compute-range o a bs l v m e = subst Small e (compute-small o a bs l)
 
 -- NUMBER TOKENS
@@ -230,7 +231,7 @@ value-there {g} w s ws x =
     sym (getD-drop s w 1 0) ∙ sym (getD-take (length ws) (drop s w) 1 0 long) ∙ ap (λ l. getD l 1 0) (x .words) ∙ marked-value g ws
 
 -- the value of the first argument, if there is one, is read where the tree of the variable that it names stands
-first-value : (g : Grammar) (w pairs : Words) (at k top : ℕ) (vars : Vars) (env args : Env) (l b : ℕ) → Sound vars → EnvAt g (take top w) (startsOf vars) env → variables env (arguments k (drop at pairs)) l ≡ ok args l
+first-value : (g : Grammar) (w pairs : Words) (at k top : ℕ) (vars : Vars) (env args : Env) (l : State) (b : ℕ) → Sound vars → EnvAt g (take top w) (startsOf vars) env → variables env (arguments k (drop at pairs)) l ≡ ok args l
     → b ≡ getD w (startAt vars (getD pairs (at + 1) 0) + 1) 0 → getD (valuesOf args) 0 b ≡ b
 unfolding valuesOf
 first-value g w pairs at zero top vars env args l b s e read eb =
@@ -259,14 +260,14 @@ value-written g w base n t v scope k h s =
 -- THE ARGUMENT OF AN OPERATION
 
 -- b, read where that tree stands, is the argument of an operation that is not stuck
-pub operand-values : (g : Grammar) (w pairs : Words) (at k top : ℕ) (vars : Vars) (o : Operation) (env args : Env) (l b : ℕ) → Sound vars → EnvAt g (take top w) (startsOf vars) env
+pub operand-values : (g : Grammar) (w pairs : Words) (at k top : ℕ) (vars : Vars) (o : Operation) (env args : Env) (l : State) (b : ℕ) → Sound vars → EnvAt g (take top w) (startsOf vars) env
     → variables env (arguments k (drop at pairs)) l ≡ ok args l → b ≡ getD w (startAt vars (getD pairs (at + 1) 0) + 1) 0 → ((c : ℕ) → getD (valuesOf args) 0 c ≡ c → valuesOf args ≡ argumentsOf o c) → valuesOf args ≡ argumentsOf o b
 operand-values g w pairs at k top vars o env args l b s e read eb f = f b (first-value g w pairs at k top vars env args l b s e read eb)
 
 -- AN APPLICATION'S STEPS
 
 -- `run` is what is done with what is applied and the arguments; x is the application's first word
-module _ {A : Type 0} (env : Env) (xs : List ℕ) (x l : ℕ) (run : Applied → Env → Comp A) where
+module _ {A : Type 0} (env : Env) (xs : List ℕ) (x : ℕ) (l : State) (run : Applied → Env → Comp A) where
   abbrev whole : Result A
   whole = thenOf (variables env xs l) (run (applied x))
 

@@ -16,6 +16,7 @@ use Rattle.rules.specs.Rules as Rules
 use Rattle.rules.specs.Rules.{Rule, Piece, Operation, rule, operation, nothing, applied, arguments, applications, pairsIn}
 use Rattle.rules.specs.Layout as Layout
 use Rattle.meaning.specs.Limits.{mostLive}
+use Rattle.meaning.specs.declared.State.{State}
 use Rattle.meaning.specs.Computation.{Result, ok, stop, stuck, Comp, thenOf, check, present, return}
 use Rattle.meaning.specs.Operations.{compute}
 use Rattle.meaning.specs.Meaning as M
@@ -38,7 +39,7 @@ use Rattle.judgement.proofs.Chains.{arguments-length}
 -- A CALL
 
 -- one that can go on has begun
-call-begins : (g : Grammar) (rules : Rules.Rules) (deeper : M.Calls) (r : Rule) (args : Env) (scope : Words) (besides l : ℕ) → (M.call true g rules deeper r args scope besides l .ending ≡ cannotGoOn → ⊥)
+call-begins : (g : Grammar) (rules : Rules.Rules) (deeper : M.Calls) (r : Rule) (args : Env) (scope : Words) (besides : ℕ) (l : State) → (M.call true g rules deeper r args scope besides l .ending ≡ cannotGoOn → ⊥)
     → Sure (begin true g r args scope besides l)
 unfolding M.call M.callWith opened
 call-begins g rules deeper r args scope besides l = with-replacement (r .replacement)
@@ -47,7 +48,7 @@ call-begins g rules deeper r args scope besides l = with-replacement (r .replace
     with-replacement none go e = absurd (go refl)
     with-replacement (some ps) go e = go (rw e)
 
-result-says : (n left : ℕ) (c : M.Called) (P : Words → Type 0) → EndedAs n (c .ending) → left ≡ c .left → P (c .scope) → Says P n left (resultOf c)
+result-says : (n : ℕ) (left : State) (c : M.Called) (P : Words → Type 0) → EndedAs n (c .ending) → left ≡ c .left → P (c .scope) → Says P n left (resultOf c)
 unfolding resultOf resultAs
 result-says zero left c P e l p = (c .scope, p, rw (e, l))
 result-says (suc k) left c P e l p = rw (e, l)
@@ -56,7 +57,7 @@ result-sure : (c : M.Called) → Sure (resultOf c) → c .ending ≡ cannotGoOn 
 unfolding resultOf resultAs
 result-sure c s e = s (rw e)
 
-module _ (g : Grammar) (rules : Rules.Rules) (r : Rule) (args : Env) (scope : Words) (besides l : ℕ) where
+module _ (g : Grammar) (rules : Rules.Rules) (r : Rule) (args : Env) (scope : Words) (besides : ℕ) (l : State) where
   rewrites-none : (deep : ℕ) → deep ≡ 0 → calls true g rules deep .rewrites r args scope besides l ≡ stop 41 l
   unfolding calls
   rewrites-none deep e = rw e
@@ -69,11 +70,11 @@ module _ (g : Grammar) (rules : Rules.Rules) (r : Rule) (args : Env) (scope : Wo
 -- ONE APPLICATION
 
 module _ (g : Grammar) (rules : Rules.Rules) (deeper : M.Calls) (scope : Words) (besides : ℕ) where
-  apply-rule : (n : ℕ) (args : Env) (l : ℕ) → M.apply true g rules deeper (rule n) args scope besides l ≡ thenOf (present (getElem? rules n) l) (λ r. deeper .rewrites r args scope besides)
+  apply-rule : (n : ℕ) (args : Env) (l : State) → M.apply true g rules deeper (rule n) args scope besides l ≡ thenOf (present (getElem? rules n) l) (λ r. deeper .rewrites r args scope besides)
   unfolding M.apply
   apply-rule n args l = refl
 
-  apply-nothing : (args : Env) (l : ℕ) → M.apply true g rules deeper nothing args scope besides l ≡ stuck
+  apply-nothing : (args : Env) (l : State) → M.apply true g rules deeper nothing args scope besides l ≡ stuck
   unfolding M.apply
   apply-nothing args l = refl
 
@@ -81,13 +82,13 @@ module _ (g : Grammar) (rules : Rules.Rules) (deeper : M.Calls) (scope : Words) 
   abbrev computes : Operation → Env → Comp Words
   computes o args l = thenOf (compute o (valueOf scope) (valuesOf args) l) (λ n. return (withValue scope n))
 
-  apply-operation : (o : Operation) (args : Env) (l : ℕ)
+  apply-operation : (o : Operation) (args : Env) (l : State)
       → M.apply true g rules deeper (operation o) args scope besides l ≡ thenOf (check true (and (isNumberToken g scope) (areNumberTokens g args)) l) (λ u. computes o args)
   unfolding M.apply
   apply-operation o args l = refl
 
 -- the number is written, or nothing is changed
-computed-says : (g : Grammar) (w w′ : Words) (base n t : ℕ) (scope : Words) → NumberToken g scope → Standing g w base n t scope → (o : Operation) (a : ℕ) (bs : List ℕ) (left j : ℕ)
+computed-says : (g : Grammar) (w w′ : Words) (base n t : ℕ) (scope : Words) → NumberToken g scope → Standing g w base n t scope → (o : Operation) (a : ℕ) (bs : List ℕ) (left : State) (j : ℕ)
     → ComputedAs w w′ base (compute o a bs left) left j
     → (take base w′ ≡ take base w) × Says (Tree g w′ base n) j left (thenOf (compute o a bs left) (λ v. return (withValue scope v)))
 computed-says g w w′ base n t scope k x o a bs left zero z = (
@@ -100,7 +101,7 @@ computed-says g w w′ base n t scope k x o a bs left zero z = (
 )
 computed-says g w w′ base n t scope k x o a bs left (suc j) z = (ap (take base) (z .1), then-stop (compute o a bs left) (λ v. return (withValue scope v)) (suc j) left (z .0))
 
-module _ (heads rows : Words) (types : ℕ) (book starts w pairs : Words) (at base n : ℕ) (vars : Vars) (besides deep left : ℕ) (few : n ≤ mostNodes) (fits : besides + n ≤ mostLive) where
+module _ (heads rows : Words) (types : ℕ) (book starts w pairs : Words) (at base n : ℕ) (vars : Vars) (besides deep : ℕ) (left : State) (few : n ≤ mostNodes) (fits : besides + n ≤ mostLive) where
   abbrev Done : Words → Built → Type 0
   Done w′ r = Applies heads rows types book starts w w′ pairs at base n vars besides deep left r
 
@@ -123,7 +124,7 @@ module _ (heads rows : Words) (types : ℕ) (book starts w pairs : Words) (at ba
       apply-deep d r e = rw e (record {
         few = few;
         fits = fits;
-        less = le-refl left;
+        less = le-refl (left .attempts);
         long = refl;
         meant = λ g rules env scope st env-at tree s.
             let q = ruled g rules env scope s in
@@ -162,7 +163,7 @@ module _ (heads rows : Words) (types : ℕ) (book starts w pairs : Words) (at ba
       apply-computed sound b eb w′ j cp r e = rw e (record {
         few = few;
         fits = fits;
-        less = le-refl left;
+        less = le-refl (left .attempts);
         long = cp .long;
         meant = λ g rules env scope st env-at tree s.
             let q = operation-given env names (getD pairs at 0) left (λ p args. M.apply true g rules (calls true g rules deep) p args scope besides)
@@ -181,34 +182,34 @@ module _ (heads rows : Words) (types : ℕ) (book starts w pairs : Words) (at ba
 
 -- A CHAIN
 
-chain-step : (g : Grammar) (rules : Rules.Rules) (deep : ℕ) (pairs : Words) (at k : ℕ) (env : Env) (scope : Words) (besides l : ℕ) → 0 < k
+chain-step : (g : Grammar) (rules : Rules.Rules) (deep : ℕ) (pairs : Words) (at k : ℕ) (env : Env) (scope : Words) (besides : ℕ) (l : State) → 0 < k
     → M.applyChain true g rules (calls true g rules deep) (applications k (drop at pairs)) env scope besides l
     ≡ thenOf (applyAt deep pairs at g rules env scope besides l) (λ next. M.applyChain true g rules (calls true g rules deep) (applications (k - 1) (drop (nextAt pairs at) pairs)) env next besides)
 unfolding M.applyChain
 chain-step g rules deep pairs at k env scope besides l h =
     ap (λ apps. M.applyChain true g rules (calls true g rules deep) apps env scope besides l) (applications-step pairs at k h) ∙ then-then (variables env _ l) _ _
 
-chain-end : (g : Grammar) (rules : Rules.Rules) (deeper : M.Calls) (ws : Words) (k : ℕ) (env : Env) (scope : Words) (besides l : ℕ) → k ≡ 0
+chain-end : (g : Grammar) (rules : Rules.Rules) (deeper : M.Calls) (ws : Words) (k : ℕ) (env : Env) (scope : Words) (besides : ℕ) (l : State) → k ≡ 0
     → M.applyChain true g rules deeper (applications k ws) env scope besides l ≡ ok scope l
 unfolding M.applyChain applications
 chain-end g rules deeper ws k env scope besides l e = rw e
 
-module _ (heads rows : Words) (types : ℕ) (book starts w₀ pairs : Words) (from base n : ℕ) (vars : Vars) (besides deep left : ℕ) where
+module _ (heads rows : Words) (types : ℕ) (book starts w₀ pairs : Words) (from base n : ℕ) (vars : Vars) (besides deep : ℕ) (left : State) where
   abbrev Whole : Grammar → Rules.Rules → Env → Words → Result Words
   Whole g rules env scope = M.applyChain true g rules (calls true g rules deep) (chainAt pairs from) env scope besides left
 
   -- the tree as it is now; what is left of the chain is the rest of the whole
-  record Gone (w : Words) (k at fuel nodes : ℕ) (g : Grammar) (rules : Rules.Rules) (env : Env) (scope : Words) : Type 0 where
+  record Gone (w : Words) (k at : ℕ) (fuel : State) (nodes : ℕ) (g : Grammar) (rules : Rules.Rules) (env : Env) (scope : Words) : Type 0 where
     kept : take base w ≡ take base w₀
     now : Words
     tree : Tree g w base nodes now
     same : Whole g rules env scope ≡ M.applyChain true g rules (calls true g rules deep) (applications k (drop at pairs)) env now besides fuel
 
   -- with k applications left, the next at `at`
-  pub record Chaining (w : Words) (k at fuel nodes : ℕ) : Type 0 where
+  pub record Chaining (w : Words) (k at : ℕ) (fuel : State) (nodes : ℕ) : Type 0 where
     pub few : nodes ≤ mostNodes
     pub fits : besides + nodes ≤ mostLive
-    pub less : fuel ≤ left
+    pub less : fuel .attempts ≤ left .attempts
     pub long : length w ≡ length w₀
     pub later : from + 2 ≤ at
     pub near : at + k * 8589934594 ≤ 2 ^ 36
@@ -220,7 +221,7 @@ module _ (heads rows : Words) (types : ℕ) (book starts w₀ pairs : Words) (fr
   chaining-start few fits short k e h = record {
     few = few;
     fits = fits;
-    less = le-refl left;
+    less = le-refl (left .attempts);
     long = refl;
     later = le-refl (from + 2);
     near = omega arith;
@@ -233,7 +234,7 @@ module _ (heads rows : Words) (types : ℕ) (book starts w₀ pairs : Words) (fr
     };
   }
 
-  module _ (w : Words) (k at fuel nodes : ℕ) (i : Chaining w k at fuel nodes) where
+  module _ (w : Words) (k at : ℕ) (fuel : State) (nodes : ℕ) (i : Chaining w k at fuel nodes) where
     module _ (h : 0 < k) (w′ : Words) (b : Built) (done : Applies heads rows types book starts w w′ pairs at base nodes vars besides deep fuel b) where
       -- what the application gave
       one : (g : Grammar) (rules : Rules.Rules) (env : Env) (scope : Words) → Setting heads rows types book starts g rules → EnvAt g (take base w₀) (startsOf vars) env → Tree g w₀ base n scope

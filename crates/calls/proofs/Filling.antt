@@ -20,6 +20,7 @@ use Rattle.rules.specs.Limits.{mostApplications, markVariable, markChain}
 use Rattle.rules.specs.Rules as Rules
 use Rattle.rules.specs.Rules.{Piece, write, copy, chain, Application, applications, pairsIn, chainWritten, unreadable, chainOf, piecesAfter, pieces}
 use Rattle.meaning.specs.Limits.{mostLive}
+use Rattle.meaning.specs.declared.State.{State}
 use Rattle.meaning.specs.Computation.{Result, ok, stop, stuck, Comp, thenOf, _>>=_, _>>_, return, stopUnless, present}
 use Rattle.meaning.specs.Meaning.{Env, Bindings, live, variable, variables, nodesWithin, liveWithin, apply, applyChain, fill, calls}
 use Rattle.marks.specs.Marked.{Stands, UnderWay, nothing, written}
@@ -75,7 +76,7 @@ over-fits a c h = go (leb a mostNodes) (leb c mostLive) refl refl h
     go false b p q h = absurd (omega arith)
 
 -- both, the nodes of the tree first
-module _ {B : Type 0} (a c l s : ℕ) (k : Comp B) (e : s ≡ overBy a c) where
+module _ {B : Type 0} (a c : ℕ) (l : State) (s : ℕ) (k : Comp B) (e : s ≡ overBy a c) where
   pub limits-fit : s ≡ 0 → thenOf (nodesWithin a l) (λ z. _>>_ (liveWithin c) k) ≡ k l
   limits-fit h =
       let f = over-fits a c (sym e ∙ h) in
@@ -91,7 +92,7 @@ module _ {B : Type 0} (a c l s : ℕ) (k : Comp B) (e : s ≡ overBy a c) where
       go false q e = rw e
 
 -- the nodes alone
-module _ {B : Type 0} (a l s : ℕ) (k : Unit {0} → Comp B) (e : s ≡ overBy a 0) where
+module _ {B : Type 0} (a : ℕ) (l : State) (s : ℕ) (k : Unit {0} → Comp B) (e : s ≡ overBy a 0) where
   pub nodes-pass : s ≡ 0 → thenOf (nodesWithin a l) k ≡ k tt l
   nodes-pass h = nodes-fit a l k (over-fits a 0 (sym e ∙ h) .0)
 
@@ -183,7 +184,7 @@ then-all stuck = refl
 then-before : (m : Result Words) (a b : Words) → thenOf (thenOf m (λ ws. return (b ++ ws))) (λ ws. return (a ++ ws)) ≡ thenOf m (λ ws. return (a ++ b ++ ws))
 then-before m a b = then-nested m (λ ws. return (b ++ ws)) (λ ws. return (a ++ ws)) (λ ws. return (a ++ b ++ ws)) (λ ws l. then-ok (ok (b ++ ws) l) (λ us. return (a ++ us)) (b ++ ws) l refl ∙ ap (λ us. ok us l) (sym (append-assoc a b ws)))
 
-module _ {B : Type 0} (env : Env) (x l : ℕ) (k : Words → Comp B) where
+module _ {B : Type 0} (env : Env) (x : ℕ) (l : State) (k : Words → Comp B) where
   variable-there : (t : Words) → getElem? env x ≡ some t → thenOf (variable env x l) k ≡ k t l
   unfolding thenOf variable present
   variable-there t e = rw e
@@ -191,18 +192,18 @@ module _ {B : Type 0} (env : Env) (x l : ℕ) (k : Words → Comp B) where
 -- ONE STEP OF A REPLACEMENT
 
 module _ (g : Grammar) (rules : Rules.Rules) (deep : ℕ) (env : Env) (besides : ℕ) where
-  abbrev pub filled : List Piece → ℕ → ℕ → Result Words
+  abbrev pub filled : List Piece → ℕ → State → Result Words
   filled ps n l = fill true g rules (calls true g rules deep) ps env besides n l
 
   -- what is left goes on after some words
-  abbrev pub onward : Words → List Piece → ℕ → ℕ → Result Words
+  abbrev pub onward : Words → List Piece → ℕ → State → Result Words
   onward ws ps n l = thenOf (filled ps n l) (λ us. return (ws ++ us))
 
-  pub fill-end : (n l : ℕ) → filled [] n l ≡ ok [] l
+  pub fill-end : (n : ℕ) (l : State) → filled [] n l ≡ ok [] l
   unfolding fill
   fill-end n l = refl
 
-  module _ (ps : List Piece) (n l : ℕ) where
+  module _ (ps : List Piece) (n : ℕ) (l : State) where
     pub write-fits : (t v s : ℕ) → s ≡ overBy (n + 1) (besides + n + 1) → s ≡ 0 → filled (write t v ∷ ps) n l ≡ onward (t ∷ v ∷ []) ps (n + 1) l
     unfolding fill
     write-fits t v s e h = limits-fit (n + 1) (besides + n + 1) l s (λ l. onward (t ∷ v ∷ []) ps (n + 1) l) e h
@@ -224,22 +225,22 @@ module _ (g : Grammar) (rules : Rules.Rules) (deep : ℕ) (env : Env) (besides :
       unfolding fill
       copy-stops h = variable-there env x l _ t there ∙ limits-stop (n + size t) (besides + n + size t) l s (λ l. onward t ps (n + size t) l) e h
 
-  abbrev chained : ℕ → List Application → ℕ → ℕ → Result Words
+  abbrev chained : ℕ → List Application → ℕ → State → Result Words
   chained x apps n l = chainPiece deep x apps g rules env besides n l
 
-  fill-chain : (x : ℕ) (apps : List Application) (ps : List Piece) (n l : ℕ) → thenOf (chained x apps n l) (λ u. onward u ps (n + size u)) ≡ filled (chain x apps ∷ ps) n l
+  fill-chain : (x : ℕ) (apps : List Application) (ps : List Piece) (n : ℕ) (l : State) → thenOf (chained x apps n l) (λ u. onward u ps (n + size u)) ≡ filled (chain x apps ∷ ps) n l
   unfolding fill
   fill-chain x apps ps n l =
       then-nested (variable env x l) _ _ _ (λ t l. then-nested (liveWithin (besides + n + size t) l) _ _ _ (λ z l. then-nested (applyChain true g rules (calls true g rules deep) apps env t (besides + n) l) _ _ _
       (λ u l. then-nested (nodesWithin (n + size u) l) _ _ _ (λ z l. then-ok (ok u l) _ u l refl))))
 
-  never-applied : (t : Words) (n l : ℕ) → applyChain true g rules (calls true g rules deep) unreadable env t n l ≡ stuck
+  never-applied : (t : Words) (n : ℕ) (l : State) → applyChain true g rules (calls true g rules deep) unreadable env t n l ≡ stuck
   unfolding applyChain apply variables unreadable thenOf
   never-applied t n l = refl
 
   -- a chain that is not written as one is never applied: it stops before
-  module _ (x from n l : ℕ) (ws : Words) (sure : Sure (chained x (chainOf (drop from ws)) n l)) where
-    chain-read : (chained x (chainAt ws from) n l ≡ chained x (chainOf (drop from ws)) n l) × ((u : Words) (now : ℕ) → chained x (chainAt ws from) n l ≡ ok u now → chainOf (drop from ws) ≡ chainAt ws from)
+  module _ (x from n : ℕ) (l : State) (ws : Words) (sure : Sure (chained x (chainOf (drop from ws)) n l)) where
+    chain-read : (chained x (chainAt ws from) n l ≡ chained x (chainOf (drop from ws)) n l) × ((u : Words) (now : State) → chained x (chainAt ws from) n l ≡ ok u now → chainOf (drop from ws) ≡ chainAt ws from)
     chain-read = go (chainWritten (drop from ws)) refl
       where
         over : (t : Words) (apps : List Application) → getElem? env x ≡ some t → leb (besides + n + size t) mostLive ≡ false → chained x apps n l ≡ stop 44 l
@@ -250,19 +251,19 @@ module _ (g : Grammar) (rules : Rules.Rules) (deep : ℕ) (env : Env) (besides :
             variable-there env x l _ t e ∙ live-fits (besides + n + size t) l _ (leb-true (besides + n + size t) mostLive q) ∙ then-stuck _ _ (ap (λ a. applyChain true g rules (calls true g rules deep) a env t (besides + n) l) r ∙ never-applied t (besides + n) l)
 
         live : (t : Words) → getElem? env x ≡ some t → chainOf (drop from ws) ≡ unreadable → (b : Bool) → leb (besides + n + size t) mostLive ≡ b
-            → (chained x (chainAt ws from) n l ≡ chained x (chainOf (drop from ws)) n l) × ((u : Words) (now : ℕ) → chained x (chainAt ws from) n l ≡ ok u now → chainOf (drop from ws) ≡ chainAt ws from)
+            → (chained x (chainAt ws from) n l ≡ chained x (chainOf (drop from ws)) n l) × ((u : Words) (now : State) → chained x (chainAt ws from) n l ≡ ok u now → chainOf (drop from ws) ≡ chainAt ws from)
         live t e r true q = absurd (sure (stuck-there t r e q))
         live t e r false q =
             let o = over t (chainAt ws from) e q in
             (o ∙ sym (over t (chainOf (drop from ws)) e q), λ u now f. let z : _≡_ {A = ℕ} 0 1 = cc in absurd (omega arith))
 
         go : (b : Bool) → chainWritten (drop from ws) ≡ b
-            → (chained x (chainAt ws from) n l ≡ chained x (chainOf (drop from ws)) n l) × ((u : Words) (now : ℕ) → chained x (chainAt ws from) n l ≡ ok u now → chainOf (drop from ws) ≡ chainAt ws from)
+            → (chained x (chainAt ws from) n l ≡ chained x (chainOf (drop from ws)) n l) × ((u : Words) (now : State) → chained x (chainAt ws from) n l ≡ ok u now → chainOf (drop from ws) ≡ chainAt ws from)
         go true w = let e = chain-written ws from w in (ap (λ a. chained x a n l) (sym e), λ u now f. e)
         go false w = let v = variable-sure env x l _ sure in live (v .0) (v .1) (chain-unwritten (drop from ws) w) (leb (besides + n + size (v .0)) mostLive) refl
 
   -- the chain at i
-  module _ (ws : Words) (i n l : ℕ) (h : i + 2 ≤ length ws) (c : getD ws i 0 ≡ markChain) (sure : Sure (filled (pieces (drop i ws)) n l)) where
+  module _ (ws : Words) (i n : ℕ) (l : State) (h : i + 2 ≤ length ws) (c : getD ws i 0 ≡ markChain) (sure : Sure (filled (pieces (drop i ws)) n l)) where
     here : filled (pieces (drop i ws)) n l ≡ thenOf (chained (getD ws (i + 1) 0) (chainOf (drop (i + 2) ws)) n l) (λ u. onward u (pieces (drop (i + 4 + 2 * pairsIn (chainOf (drop (i + 2) ws))) ws)) (n + size u))
     here = ap (λ ps. filled ps n l) (pieces-chain ws i h c) ∙ sym (fill-chain (getD ws (i + 1) 0) (chainOf (drop (i + 2) ws)) (pieces (drop (i + 4 + 2 * pairsIn (chainOf (drop (i + 2) ws))) ws)) n l)
 
@@ -270,16 +271,16 @@ module _ (g : Grammar) (rules : Rules.Rules) (deep : ℕ) (env : Env) (besides :
     first-sure = sure-first (chained (getD ws (i + 1) 0) (chainOf (drop (i + 2) ws)) n l) _ (sure-as here sure)
 
     read : (chained (getD ws (i + 1) 0) (chainAt ws (i + 2)) n l ≡ chained (getD ws (i + 1) 0) (chainOf (drop (i + 2) ws)) n l)
-        × ((u : Words) (now : ℕ) → chained (getD ws (i + 1) 0) (chainAt ws (i + 2)) n l ≡ ok u now → chainOf (drop (i + 2) ws) ≡ chainAt ws (i + 2))
+        × ((u : Words) (now : State) → chained (getD ws (i + 1) 0) (chainAt ws (i + 2)) n l ≡ ok u now → chainOf (drop (i + 2) ws) ≡ chainAt ws (i + 2))
     read = chain-read (getD ws (i + 1) 0) (i + 2) n l ws first-sure
 
     pub chain-sure : Sure (chainPiece deep (getD ws (i + 1) 0) (chainAt ws (i + 2)) g rules env besides n l)
     chain-sure = sure-as (sym (read .0)) first-sure
 
-    pub chain-stops : (s now : ℕ) → chainPiece deep (getD ws (i + 1) 0) (chainAt ws (i + 2)) g rules env besides n l ≡ stop s now → filled (pieces (drop i ws)) n l ≡ stop s now
+    pub chain-stops : (s : ℕ) (now : State) → chainPiece deep (getD ws (i + 1) 0) (chainAt ws (i + 2)) g rules env besides n l ≡ stop s now → filled (pieces (drop i ws)) n l ≡ stop s now
     chain-stops s now e = here ∙ then-stop (chained (getD ws (i + 1) 0) (chainOf (drop (i + 2) ws)) n l) _ s now (sym (read .0) ∙ e)
 
-    pub chain-gives : (u : Words) (now : ℕ) → chainPiece deep (getD ws (i + 1) 0) (chainAt ws (i + 2)) g rules env besides n l ≡ ok u now
+    pub chain-gives : (u : Words) (now : State) → chainPiece deep (getD ws (i + 1) 0) (chainAt ws (i + 2)) g rules env besides n l ≡ ok u now
         → filled (pieces (drop i ws)) n l ≡ onward u (pieces (drop (i + 4 + 2 * pairsIn (chainAt ws (i + 2))) ws)) (n + size u) now
     chain-gives u now e =
         here ∙ then-ok (chained (getD ws (i + 1) 0) (chainOf (drop (i + 2) ws)) n l) _ u now (sym (read .0) ∙ e)
@@ -294,7 +295,7 @@ chainOn deep apps g rules env besides n t = do
   nodesWithin (n + size u)
   return u
 
-module _ (heads rows : Words) (types : ℕ) (book starts w pairs : Words) (i n : ℕ) (frame : Frame) (deep left : ℕ) (room : Room w frame) (few : frame .live + n ≤ mostLive)
+module _ (heads rows : Words) (types : ℕ) (book starts w pairs : Words) (i n : ℕ) (frame : Frame) (deep : ℕ) (left : State) (room : Room w frame) (few : frame .live + n ≤ mostLive)
     (start m : ℕ) (at : start ≡ startAt (frame .vars) (getD pairs (i + 1) 0)) (nodes : NodesAt w start (frame .top) m) where
   abbrev x : ℕ
   x = getD pairs (i + 1) 0
@@ -421,23 +422,23 @@ filled-more {g} w w′ done add top n k fits kept before there =
     subst (λ l. UnderWay g l (done ++ add)) (sym part) (under-append before there)
 
 -- what was filled, and what is left, as the definition sees it
-record SoFar (g : Grammar) (rules : Rules.Rules) (deep : ℕ) (env : Env) (besides left : ℕ) (w₀ pairs w : Words) (top fuel n i : ℕ) : Type 0 where
+record SoFar (g : Grammar) (rules : Rules.Rules) (deep : ℕ) (env : Env) (besides : ℕ) (left : State) (w₀ pairs w : Words) (top : ℕ) (fuel : State) (n i : ℕ) : Type 0 where
   done : Words
   long : length done ≡ 2 * n
   there : UnderWay g (take (2 * n) (drop top w)) done
   kept : take top w ≡ take top w₀
   same-run : filled g rules deep env besides (pieces pairs) 0 left ≡ onward g rules deep env besides done (pieces (drop i pairs)) n fuel
 
-pub record Filling (heads rows : Words) (types : ℕ) (book starts w₀ pairs : Words) (frame : Frame) (deep left : ℕ) (w : Words) (fuel n i : ℕ) : Type 0 where
+pub record Filling (heads rows : Words) (types : ℕ) (book starts w₀ pairs : Words) (frame : Frame) (deep : ℕ) (left : State) (w : Words) (fuel : State) (n i : ℕ) : Type 0 where
   pub few : n ≤ mostNodes
   pub fits : frame .live + n ≤ mostLive
-  pub less : fuel ≤ left
+  pub less : fuel .attempts ≤ left .attempts
   pub long : length w ≡ length w₀
   pub near : i < 2 ^ 40
   run : (g : Grammar) (rules : Rules.Rules) (b : Bindings) → Setting heads rows types book starts g rules → Held g w₀ frame b → Sure (filled g rules deep (b .env) (live b) (pieces pairs) 0 left)
       → SoFar g rules deep (b .env) (live b) left w₀ pairs w (frame .top) fuel n i
 
-pub filling-start : (heads rows : Words) (types : ℕ) (book starts w pairs : Words) (frame : Frame) (deep left : ℕ) → frame .live ≤ mostLive → Filling heads rows types book starts w pairs frame deep left w left 0 0
+pub filling-start : (heads rows : Words) (types : ℕ) (book starts w pairs : Words) (frame : Frame) (deep : ℕ) (left : State) → frame .live ≤ mostLive → Filling heads rows types book starts w pairs frame deep left w left 0 0
 filling-start heads rows types book starts w pairs frame deep left h = record {
   few = omega arith;
   fits = omega arith;
@@ -447,13 +448,13 @@ filling-start heads rows types book starts w pairs frame deep left h = record {
   run = λ g rules b st hd sure. record { done = []; long = refl; there = nothing; kept = refl; same-run = sym (then-all (filled g rules deep (b .env) (live b) (pieces pairs) 0 left)) };
 }
 
-module _ (heads rows : Words) (types : ℕ) (book starts w₀ pairs : Words) (frame : Frame) (deep left : ℕ) (room : Room w₀ frame) (w : Words) (fuel n i : ℕ)
+module _ (heads rows : Words) (types : ℕ) (book starts w₀ pairs : Words) (frame : Frame) (deep : ℕ) (left : State) (room : Room w₀ frame) (w : Words) (fuel : State) (n i : ℕ)
     (inv : Filling heads rows types book starts w₀ pairs frame deep left w fuel n i) where
   abbrev rest : Grammar → Rules.Rules → Bindings → Result Words
   rest g rules b = filled g rules deep (b .env) (live b) (pieces (drop i pairs)) n fuel
 
   -- one piece more
-  record Added (g : Grammar) (rules : Rules.Rules) (b : Bindings) (w′ : Words) (now m j : ℕ) : Type 0 where
+  record Added (g : Grammar) (rules : Rules.Rules) (b : Bindings) (w′ : Words) (now : State) (m j : ℕ) : Type 0 where
     add : Words
     k : ℕ
     count : m ≡ n + k
@@ -465,7 +466,7 @@ module _ (heads rows : Words) (types : ℕ) (book starts w₀ pairs : Words) (fr
   top-inside : frame .top + 2 * n ≤ length w
   top-inside = omega (arith, room .low, room .few, room .long, inv .few, inv .long)
 
-  grows : (w′ : Words) (now m j : ℕ) → m ≤ mostNodes → frame .live + m ≤ mostLive → now ≤ fuel → length w′ ≡ length w → j < 2 ^ 40
+  grows : (w′ : Words) (now : State) (m j : ℕ) → m ≤ mostNodes → frame .live + m ≤ mostLive → now .attempts ≤ fuel .attempts → length w′ ≡ length w → j < 2 ^ 40
       → ((g : Grammar) (rules : Rules.Rules) (b : Bindings) → Setting heads rows types book starts g rules → Held g w frame b → Sure (rest g rules b) → Added g rules b w′ now m j)
       → Filling heads rows types book starts w₀ pairs frame deep left w′ now m j
   grows w′ now m j few fits less long near f = record {
@@ -487,7 +488,7 @@ module _ (heads rows : Words) (types : ℕ) (book starts w₀ pairs : Words) (fr
   }
 
   -- .. or a stop
-  ends : (at : ℕ) → pairs ≡ pairsAt book at → (w′ : Words) (r : Built) → (r .stop ≡ 0 → ⊥) → r .left ≤ fuel → length w′ ≡ length w
+  ends : (at : ℕ) → pairs ≡ pairsAt book at → (w′ : Words) (r : Built) → (r .stop ≡ 0 → ⊥) → r .left .attempts ≤ fuel .attempts → length w′ ≡ length w
       → ((g : Grammar) (rules : Rules.Rules) (b : Bindings) → Setting heads rows types book starts g rules → Held g w frame b → Sure (rest g rules b) → (take (frame .top) w′ ≡ take (frame .top) w) × (rest g rules b ≡ stop (r .stop) (r .left)))
       → Fills heads rows types book starts w₀ w′ at frame deep left r
   ends at ep w′ r h less long f = record {

@@ -17,6 +17,7 @@ use Rattle.rules.specs.Limits.{mostVariables}
 use Rattle.rules.specs.Rules as Rules
 use Rattle.rules.specs.Rules.{construct, pieces}
 use Rattle.meaning.specs.Limits.{mostLive}
+use Rattle.meaning.specs.declared.State.{State}
 use Rattle.meaning.specs.Computation.{Result, ok, stop, Comp, thenOf, _>>=_, _>>_, return, stopUnless, check}
 use Rattle.meaning.specs.Meaning.{Bindings, live, nestingWithin, bind, fill, finish, part, calls}
 use Rattle.marks.specs.Marked.{marked}
@@ -37,7 +38,7 @@ use Rattle.calls.proofs.Going.{then-ok, then-stop, sure-first, sure-as,
 -- FINISHING
 
 -- the nesting of a finished tree
-module _ {B : Type 0} (g : Grammar) (ws : Words) (l : ℕ) (k : Unit {0} → Comp B) where
+module _ {B : Type 0} (g : Grammar) (ws : Words) (l : State) (k : Unit {0} → Comp B) where
   nesting-fits : leb (nesting g ws) mostNesting ≡ true → thenOf (nestingWithin g ws l) k ≡ k tt l
   unfolding thenOf nestingWithin stopUnless
   nesting-fits h = rw h
@@ -46,7 +47,7 @@ module _ {B : Type 0} (g : Grammar) (ws : Words) (l : ℕ) (k : Unit {0} → Com
   unfolding thenOf nestingWithin stopUnless
   nesting-over h = rw h
 
-module _ (heads rows : Words) (types : ℕ) (book starts w w′ : Words) (at : ℕ) (frame : Frame) (deep left : ℕ) (r : Built) (fills : Fills heads rows types book starts w w′ at frame deep left r) where
+module _ (heads rows : Words) (types : ℕ) (book starts w w′ : Words) (at : ℕ) (frame : Frame) (deep : ℕ) (left : State) (r : Built) (fills : Fills heads rows types book starts w w′ at frame deep left r) where
   abbrev filledBy : Grammar → Rules.Rules → Bindings → Result Words
   filledBy g rules b = fill true g rules (calls true g rules deep) (pieces (pairsAt book at)) (b .env) (live b) 0 left
 
@@ -137,7 +138,7 @@ held-more {g} {w} {w′} {frame} {b} {u} {n} {t} s h hd e x =
       counted = omega (arith, hd .counted, x .nodes, total-more (b .env) t);
     }
 
-module _ (heads rows : Words) (types : ℕ) (book starts w w′ : Words) (at next : ℕ) (frame : Frame) (deep left : ℕ) (room : Room w frame) (f : Built)
+module _ (heads rows : Words) (types : ℕ) (book starts w w′ : Words) (at next : ℕ) (frame : Frame) (deep : ℕ) (left : State) (room : Room w frame) (f : Built)
     (finishes : Finishes heads rows types book starts w w′ at frame deep left f) where
   abbrev finishedAs : ℕ → Grammar → Rules.Rules → Bindings → Result Words
   finishedAs u g rules b = finish true g rules (calls true g rules deep) u (pieces (pairsAt book at)) b left
@@ -159,7 +160,7 @@ module _ (heads rows : Words) (types : ℕ) (book starts w w′ : Words) (at nex
   finish-sure u g rules b s = sure-first (finishedAs u g rules b) (binding u g b) (sure-as (part-as u g rules b) s)
 
   -- a tree that is bound: there was room for one more
-  bind-sure : (u : ℕ) (g : Grammar) (b : Bindings) (t : Words) (l : ℕ) → Sure (binding u g b t l) → (length (b .env) < mostVariables) × (binding u g b t l ≡ ok (some (bindings (b .env ++ t ∷ []) (b .besides))) l)
+  bind-sure : (u : ℕ) (g : Grammar) (b : Bindings) (t : Words) (l : State) → Sure (binding u g b t l) → (length (b .env) < mostVariables) × (binding u g b t l ≡ ok (some (bindings (b .env ++ t ∷ []) (b .besides))) l)
   unfolding bind
   bind-sure u g b t l s =
       let a = surely-sure (ltb (length (b .env)) mostVariables) l (λ z. _>>_ (check true (isTree g u t)) (return (bindings (b .env ++ t ∷ []) (b .besides)))) (sure-first _ _ s) in

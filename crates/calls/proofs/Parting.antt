@@ -22,6 +22,7 @@ use Rattle.rules.specs.declared.Part.{Part}
 use Rattle.rules.specs.declared.Part.the-variants as Part
 use Rattle.rules.specs.declared.FoundPart.{FoundPart}
 use Rattle.rules.proofs.Laid.{Told, part-tells}
+use Rattle.meaning.specs.declared.State.{State}
 use Rattle.meaning.specs.Computation.{Result, Comp}
 use Rattle.meaning.specs.Meaning as M
 use Rattle.meaning.specs.Meaning.{Bindings, variable, match, matchFirst}
@@ -42,7 +43,7 @@ use Rattle.rewrite.proofs.Leaves.{variable-stands}
 use Rattle.calls.proofs.Going.{sure-as, variable-sure}
 
 -- a verdict of the matcher, on what stands below the top
-pub means-taken : (g : Grammar) (w : Words) (top besides : ℕ) (v : Verdict) (vars : Vars) (live left : ℕ) (m : Result (Option Bindings)) → Means g (take top w) besides v vars live left m
+pub means-taken : (g : Grammar) (w : Words) (top besides : ℕ) (v : Verdict) (vars : Vars) (live : ℕ) (left : State) (m : Result (Option Bindings)) → Means g (take top w) besides v vars live left m
     → TakenAs g w besides v (record { vars = vars; live = live; top = top }) left m
 means-taken g w top besides Matches vars live left m x = (x .0, record { stands = x .1; counted = x .2 }, x .3)
 means-taken g w top besides Differs vars live left m x = x
@@ -65,13 +66,13 @@ against true s ps g ws b = matchFirst true g s (shapes ps) ws b
 against false s ps g ws b = match true g (shapes ps) ws b
 
 -- the variable is bound, and its tree is what the pattern is set against
-apart : (deep : ℕ) (book : Words) (searches : Bool) (s x p : ℕ) (g : Grammar) (rules : Rules.Rules) (b : Bindings) (left : ℕ) → Sure (partOn deep (deconstructIn book searches s x p) g rules b left)
+apart : (deep : ℕ) (book : Words) (searches : Bool) (s x p : ℕ) (g : Grammar) (rules : Rules.Rules) (b : Bindings) (left : State) → Sure (partOn deep (deconstructIn book searches s x p) g rules b left)
     → (t : Words) × (getElem? (b .env) (getD book x 0) ≡ some t) × (partOn deep (deconstructIn book searches s x p) g rules b left ≡ against searches s (pairsAt book p) g t b left)
 unfolding M.part
 apart deep book true s x p g rules b left sure = variable-sure (b .env) (getD book x 0) left (λ t. matchFirst true g s (shapes (pairsAt book p)) t b) sure
 apart deep book false s x p g rules b left sure = variable-sure (b .env) (getD book x 0) left (λ t. match true g (shapes (pairsAt book p)) t b) sure
 
-module _ (book w : Words) (d : Deconstruct) (next : ℕ) (frame : Frame) (left : ℕ) (room : Room w frame) (start n : ℕ) (es : start ≡ startAt (frame .vars) (getD book (d .variable) 0))
+module _ (book w : Words) (d : Deconstruct) (next : ℕ) (frame : Frame) (left : State) (room : Room w frame) (start n : ℕ) (es : start ≡ startAt (frame .vars) (getD book (d .variable) 0))
     (nodes : NodesAt w start (frame .top) n) where
   -- the variable's tree, where it stands
   there : (g : Grammar) (b : Bindings) → length g ≤ mostTypes → Held g w frame b → (t : Words) → getElem? (b .env) (getD book (d .variable) 0) ≡ some t → Stands g (take (frame .top) w) start t
@@ -168,7 +169,7 @@ condition-is book (conditionAt negated p) c h e = let z : record { negated = neg
 -- THE STEP
 
 -- the same answer is that of an equal computation
-takes-as : (w w′ : Words) (frame : Frame) (left : ℕ) (r : Taken) (A B : Grammar → Rules.Rules → Type 0) (f h : Grammar → Rules.Rules → Bindings → Comp (Option Bindings))
+takes-as : (w w′ : Words) (frame : Frame) (left : State) (r : Taken) (A B : Grammar → Rules.Rules → Type 0) (f h : Grammar → Rules.Rules → Bindings → Comp (Option Bindings))
     → ((g : Grammar) (rules : Rules.Rules) → B g rules → A g rules × ((b : Bindings) → h g rules b left ≡ f g rules b left)) → Takes w w′ frame left r A f → Takes w w′ frame left r B h
 takes-as w w′ frame left r A B f h same t = record {
   grown = t .grown;
@@ -180,7 +181,7 @@ takes-as w w′ frame left r A B f h same t = record {
       (x .0, rw (s .1 b) (x .1));
 }
 
-module _ (heads rows : Words) (types : ℕ) (book starts w : Words) (at : ℕ) (frame : Frame) (deep left : ℕ) where
+module _ (heads rows : Words) (types : ℕ) (book starts w : Words) (at : ℕ) (frame : Frame) (deep : ℕ) (left : State) where
   -- f is what is read there, if a part is
   module _ (w′ : Words) (r : Taken) (f : FoundPart) (is : (types : ℕ) (q : PartAt) (next : ℕ) → partAt types book at ≡ value q next → f ≡ record { part = partAs q; next = next }) where
     -- the step of a part p, if that is what stands there

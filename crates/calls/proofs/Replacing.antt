@@ -14,6 +14,7 @@ use Rattle.tree.specs.Tree.{Tree, size, nesting, isTree, firstTree, typeOf}
 use Rattle.tree.proofs.Trees.{passes-tree}
 use Rattle.rules.specs.Rules as Rules
 use Rattle.rules.specs.Rules.{Piece, pieces}
+use Rattle.meaning.specs.declared.State.{State}
 use Rattle.meaning.specs.Computation.{Result, ok, stop, Comp, thenOf, stopUnless, check, return}
 use Rattle.meaning.specs.Meaning as M
 use Rattle.meaning.specs.Meaning.{Bindings, put, calls, nodesWithin, nestingWithin}
@@ -37,7 +38,7 @@ placing g target scope place ws left =
     (λ _ left. thenOf (check true (isTree g (typeOf scope) (put g scope place ws)) left)
     (λ _. return (put g scope place ws)))))
 
-module _ (g : Grammar) (rules : Rules.Rules) (deeper : M.Calls) (target : ℕ) (ps : List Piece) (scope : Words) (f : M.Found) (left : ℕ) where
+module _ (g : Grammar) (rules : Rules.Rules) (deeper : M.Calls) (target : ℕ) (ps : List Piece) (scope : Words) (f : M.Found) (left : State) where
   abbrev whole : Result Words
   whole = M.replace true g rules deeper target ps scope f left
 
@@ -48,16 +49,16 @@ module _ (g : Grammar) (rules : Rules.Rules) (deeper : M.Calls) (target : ℕ) (
   unfolding M.replace
   finish-sure s = sure-first finished _ s
 
-  replace-stops : (n l : ℕ) → finished ≡ stop n l → whole ≡ stop n l
+  replace-stops : (n : ℕ) (l : State) → finished ≡ stop n l → whole ≡ stop n l
   unfolding M.replace
   replace-stops n l e = then-stop finished _ n l e
 
-  replace-goes : (ws : Words) (l : ℕ) → finished ≡ ok ws l → whole ≡ placing g target scope (f .place) ws l
+  replace-goes : (ws : Words) (l : State) → finished ≡ ok ws l → whole ≡ placing g target scope (f .place) ws l
   unfolding M.replace
   replace-goes ws l e = then-ok finished _ ws l e
 
 -- both limits and a last test, with what they say by number
-limits-say : (P : Words → Type 0) (v : Words) (a b c : Bool) (s l : ℕ) → s ≡ pick a (pick b 0 43) 42 → (s ≡ 0 → P v)
+limits-say : (P : Words → Type 0) (v : Words) (a b c : Bool) (s : ℕ) (l : State) → s ≡ pick a (pick b 0 43) 42 → (s ≡ 0 → P v)
     → Sure (thenOf (stopUnless 42 a l) (λ _ l. thenOf (stopUnless 43 b l) (λ _ l. thenOf (check true c l) (λ _. return v))))
     → Says P s l (thenOf (stopUnless 42 a l) (λ _ l. thenOf (stopUnless 43 b l) (λ _ l. thenOf (check true c l) (λ _. return v))))
 unfolding thenOf stopUnless
@@ -65,7 +66,7 @@ limits-say P v true true c s l e p q = rw e (v, p e, check-sure c l (λ _. retur
 limits-say P v true false c s l e p q = rw e refl
 limits-say P v false b c s l e p q = rw e refl
 
-module _ (g : Grammar) (target : ℕ) (scope : Words) (place : ℕ) (ws : Words) (l : ℕ) where
+module _ (g : Grammar) (target : ℕ) (scope : Words) (place : ℕ) (ws : Words) (l : State) where
   -- the node's tree is of the target's type
   placing-typed : Sure (placing g target scope place ws l) → Tree g target (firstTree g (drop place scope))
   placing-typed q =
@@ -98,7 +99,7 @@ module _ (g : Grammar) (w w′ : Words) (base t : ℕ) (scope : Words) (nodes : 
 
 -- THE CODE'S WAYS
 
-module _ (heads rows : Words) (types : ℕ) (book starts w w₁ : Words) (at base n i : ℕ) (frame : Frame) (deep left : ℕ) (b r : Built) (low : base + 2 * n ≤ frame .top)
+module _ (heads rows : Words) (types : ℕ) (book starts w w₁ : Words) (at base n i : ℕ) (frame : Frame) (deep : ℕ) (left : State) (b r : Built) (low : base + 2 * n ≤ frame .top)
     (f : Finishes heads rows types book starts w w₁ at frame deep left b) where
   module _ (g : Grammar) (rules : Rules.Rules) (v : Bindings) (target : ℕ) (scope : Words) (set : Setting heads rows types book starts g rules) (held : Held g w frame v) where
     abbrev d : M.Calls

@@ -15,6 +15,7 @@ use Rattle.rules.specs.Rules as Rules
 use Rattle.rules.specs.Rules.{Piece, Rule, rootOnly, firstMatch, exhaustive, pieces}
 use Rattle.rules.specs.Layout as Layout
 use Rattle.meaning.specs.Limits.{mostLive}
+use Rattle.meaning.specs.declared.State.{State}
 use Rattle.meaning.specs.Computation.{Result, ok, stop, thenOf, stopUnless, whether, return}
 use Rattle.meaning.specs.Meaning as M
 use Rattle.meaning.specs.Meaning.{Env, total, live, liveWithin, Ending, done, stopped, cannotGoOn, called, opened, afterRound, start, begin, fits, calls}
@@ -38,30 +39,30 @@ use Rattle.meaning.proofs.Numbered.{stop-number, sought-numbered}
 
 -- HOW A CALL OPENS
 
-live-within : (n l : ℕ) → n ≤ mostLive → liveWithin n l ≡ ok tt l
+live-within : (n : ℕ) (l : State) → n ≤ mostLive → liveWithin n l ≡ ok tt l
 unfolding liveWithin stopUnless
 live-within n l h = rw (le-leb n mostLive h)
 
-live-beyond : (n l : ℕ) → mostLive < n → liveWithin n l ≡ stop 44 l
+live-beyond : (n : ℕ) (l : State) → mostLive < n → liveWithin n l ≡ stop 44 l
 unfolding liveWithin stopUnless
 live-beyond n l h = rw (lt-leb n mostLive h)
 
-opened-sure : (scope : Words) (rest : ℕ → M.Called) (m : Result (Unit {0})) → (opened scope rest m .ending ≡ cannotGoOn → ⊥) → Sure m
+opened-sure : (scope : Words) (rest : State → M.Called) (m : Result (Unit {0})) → (opened scope rest m .ending ≡ cannotGoOn → ⊥) → Sure m
 unfolding opened
 opened-sure scope rest m h e = h (rw e)
 
-opened-ok : (scope : Words) (rest : ℕ → M.Called) (m : Result (Unit {0})) (l : ℕ) → m ≡ ok tt l → opened scope rest m ≡ rest l
+opened-ok : (scope : Words) (rest : State → M.Called) (m : Result (Unit {0})) (l : State) → m ≡ ok tt l → opened scope rest m ≡ rest l
 unfolding opened
 opened-ok scope rest m l e = rw e
 
-opened-stop : (scope : Words) (rest : ℕ → M.Called) (m : Result (Unit {0})) (n l : ℕ) → m ≡ stop n l → opened scope rest m ≡ called scope 0 (stopped n) l
+opened-stop : (scope : Words) (rest : State → M.Called) (m : Result (Unit {0})) (n : ℕ) (l : State) → m ≡ stop n l → opened scope rest m ≡ called scope 0 (stopped n) l
 unfolding opened
 opened-stop scope rest m n l e = rw e
 
-module _ (g : Grammar) (rules : Rules.Rules) (deeper : M.Calls) (r : Rule) (args : Env) (scope : Words) (others left : ℕ) where
+module _ (g : Grammar) (rules : Rules.Rules) (deeper : M.Calls) (r : Rule) (args : Env) (scope : Words) (others : ℕ) (left : State) where
   -- the rounds of a call that has begun
   abbrev Begun : List Piece → M.Called → Type 0
-  Begun ps c = (live (start args scope others) ≤ mostLive → c ≡ M.rounds true g rules deeper (suc left) r ps args scope others 0 left)
+  Begun ps c = (live (start args scope others) ≤ mostLive → c ≡ M.rounds true g rules deeper (suc (left .attempts)) r ps args scope others 0 left)
       × (mostLive < live (start args scope others) → c ≡ called scope 0 (stopped 44) left)
 
   with-begins : (o : Option (List Piece)) → (M.callWith true g rules deeper o r args scope others left .ending ≡ cannotGoOn → ⊥)
@@ -69,7 +70,7 @@ module _ (g : Grammar) (rules : Rules.Rules) (deeper : M.Calls) (r : Rule) (args
   unfolding M.callWith
   with-begins none h = absurd (h refl)
   with-begins (some ps) h =
-      let rest : ℕ → M.Called = λ now. M.rounds true g rules deeper (suc now) r ps args scope others 0 now in
+      let rest : State → M.Called = λ now. M.rounds true g rules deeper (suc (now .attempts)) r ps args scope others 0 now in
       let m = begin true g r args scope others left in
       let e = begin-sure g r args scope others left (opened-sure scope rest m h) .1 in
       (ps, refl, (λ f. opened-ok scope rest m left (e ∙ live-within (live (start args scope others)) left f), λ f. opened-stop scope rest m 44 left (e ∙ live-beyond (live (start args scope others)) left f)))
@@ -81,65 +82,65 @@ module _ (g : Grammar) (rules : Rules.Rules) (deeper : M.Calls) (r : Rule) (args
 
 -- ONE ROUND
 
-module _ (scope : Words) (k : ℕ) (rest : Words → ℕ → M.Called) (m : Result (Option Words)) where
+module _ (scope : Words) (k : ℕ) (rest : Words → State → M.Called) (m : Result (Option Words)) where
   after-sure : (s : Rules.Strategy) → (afterRound scope k s rest m .ending ≡ cannotGoOn → ⊥) → Sure m
   unfolding afterRound
   after-sure rootOnly h e = h (rw e)
   after-sure firstMatch h e = h (rw e)
   after-sure exhaustive h e = h (rw e)
 
-  after-none : (s : Rules.Strategy) (l : ℕ) → m ≡ ok none l → afterRound scope k s rest m ≡ called scope k done l
+  after-none : (s : Rules.Strategy) (l : State) → m ≡ ok none l → afterRound scope k s rest m ≡ called scope k done l
   unfolding afterRound
   after-none rootOnly l e = rw e
   after-none firstMatch l e = rw e
   after-none exhaustive l e = rw e
 
-  after-stop : (s : Rules.Strategy) (n l : ℕ) → m ≡ stop n l → afterRound scope k s rest m ≡ called scope k (stopped n) l
+  after-stop : (s : Rules.Strategy) (n : ℕ) (l : State) → m ≡ stop n l → afterRound scope k s rest m ≡ called scope k (stopped n) l
   unfolding afterRound
   after-stop rootOnly n l e = rw e
   after-stop firstMatch n l e = rw e
   after-stop exhaustive n l e = rw e
 
-  after-done : (s : Rules.Strategy) (next : Words) (l : ℕ) → againOf (strategyAs s) ≡ false → m ≡ ok (some next) l → afterRound scope k s rest m ≡ called next (suc k) done l
+  after-done : (s : Rules.Strategy) (next : Words) (l : State) → againOf (strategyAs s) ≡ false → m ≡ ok (some next) l → afterRound scope k s rest m ≡ called next (suc k) done l
   unfolding afterRound
   after-done rootOnly next l a e = rw e
   after-done firstMatch next l a e = rw e
   after-done exhaustive next l a e = let z : _≡_ {A = ℕ} 0 1 = cc in absurd (omega arith)
 
-  after-again : (s : Rules.Strategy) (next : Words) (l : ℕ) → againOf (strategyAs s) ≡ true → m ≡ ok (some next) l → afterRound scope k s rest m ≡ rest next l
+  after-again : (s : Rules.Strategy) (next : Words) (l : State) → againOf (strategyAs s) ≡ true → m ≡ ok (some next) l → afterRound scope k s rest m ≡ rest next l
   unfolding afterRound
   after-again rootOnly next l a e = let z : _≡_ {A = ℕ} 0 1 = cc in absurd (omega arith)
   after-again firstMatch next l a e = let z : _≡_ {A = ℕ} 0 1 = cc in absurd (omega arith)
   after-again exhaustive next l a e = rw e
 
 module _ (g : Grammar) (rules : Rules.Rules) (deeper : M.Calls) (r : Rule) (ps : List Piece) (args : Env) (now : Words) (others : ℕ) where
-  abbrev sought : ℕ → Result (Option M.Found)
+  abbrev sought : State → Result (Option M.Found)
   sought left = M.seek true g rules deeper r now 0 (start args now others) left
 
-  abbrev turned : ℕ → Result (Option Words)
+  abbrev turned : State → Result (Option Words)
   turned left = M.turn true g rules deeper r ps args now others left
 
-  abbrev replaced : M.Found → ℕ → Result Words
+  abbrev replaced : M.Found → State → Result Words
   replaced f left = M.replace true g rules deeper (r .target) ps now f left
 
-  module _ (left : ℕ) where
+  module _ (left : State) where
     seek-sure : Sure (turned left) → Sure (sought left)
     unfolding M.turn
     seek-sure s = sure-first (sought left) _ s
 
-    turn-none : (l : ℕ) → sought left ≡ ok none l → turned left ≡ ok none l
+    turn-none : (l : State) → sought left ≡ ok none l → turned left ≡ ok none l
     unfolding M.turn thenOf whether
     turn-none l e = rw e
 
-    turn-stop : (n l : ℕ) → sought left ≡ stop n l → turned left ≡ stop n l
+    turn-stop : (n : ℕ) (l : State) → sought left ≡ stop n l → turned left ≡ stop n l
     unfolding M.turn thenOf
     turn-stop n l e = rw e
 
-    turn-found : (f : M.Found) (l : ℕ) → sought left ≡ ok (some f) l → turned left ≡ thenOf (replaced f l) (λ ws. return (some ws))
+    turn-found : (f : M.Found) (l : State) → sought left ≡ ok (some f) l → turned left ≡ thenOf (replaced f l) (λ ws. return (some ws))
     unfolding M.turn thenOf whether
     turn-found f l e = rw e
 
-  module _ (most k left : ℕ) where
+  module _ (most k : ℕ) (left : State) where
     abbrev round : M.Called
     round = M.rounds true g rules deeper (suc most) r ps args now others k left
 
@@ -147,31 +148,31 @@ module _ (g : Grammar) (rules : Rules.Rules) (deeper : M.Calls) (r : Rule) (ps :
     unfolding M.rounds
     turn-sure h = after-sure now k _ (turned left) (r .strategy) h
 
-    round-none : (l : ℕ) → sought left ≡ ok none l → round ≡ called now k done l
+    round-none : (l : State) → sought left ≡ ok none l → round ≡ called now k done l
     unfolding M.rounds
     round-none l e = after-none now k _ (turned left) (r .strategy) l (turn-none left l e)
 
-    round-stop : (n l : ℕ) → sought left ≡ stop n l → round ≡ called now k (stopped n) l
+    round-stop : (n : ℕ) (l : State) → sought left ≡ stop n l → round ≡ called now k (stopped n) l
     unfolding M.rounds
     round-stop n l e = after-stop now k _ (turned left) (r .strategy) n l (turn-stop left n l e)
 
-    module _ (f : M.Found) (l : ℕ) (e : sought left ≡ ok (some f) l) where
+    module _ (f : M.Found) (l : State) (e : sought left ≡ ok (some f) l) where
       replace-sure : Sure (turned left) → Sure (replaced f l)
       replace-sure s = sure-first (replaced f l) (λ ws. return (some ws)) (sure-as (turn-found left f l e) s)
 
-      round-cut : (n l₂ : ℕ) → replaced f l ≡ stop n l₂ → round ≡ called now k (stopped n) l₂
+      round-cut : (n : ℕ) (l₂ : State) → replaced f l ≡ stop n l₂ → round ≡ called now k (stopped n) l₂
       unfolding M.rounds
       round-cut n l₂ q = after-stop now k _ (turned left) (r .strategy) n l₂ (turn-found left f l e ∙ then-stop (replaced f l) (λ ws. return (some ws)) n l₂ q)
 
-      round-done : (ws : Words) (l₂ : ℕ) → againOf (strategyAs (r .strategy)) ≡ false → replaced f l ≡ ok ws l₂ → round ≡ called ws (suc k) done l₂
+      round-done : (ws : Words) (l₂ : State) → againOf (strategyAs (r .strategy)) ≡ false → replaced f l ≡ ok ws l₂ → round ≡ called ws (suc k) done l₂
       unfolding M.rounds
       round-done ws l₂ a q = after-done now k _ (turned left) (r .strategy) ws l₂ a (turn-found left f l e ∙ then-ok (replaced f l) (λ ws. return (some ws)) ws l₂ q)
 
-      round-again : (ws : Words) (l₂ : ℕ) → againOf (strategyAs (r .strategy)) ≡ true → replaced f l ≡ ok ws l₂ → round ≡ M.rounds true g rules deeper most r ps args ws others (suc k) l₂
+      round-again : (ws : Words) (l₂ : State) → againOf (strategyAs (r .strategy)) ≡ true → replaced f l ≡ ok ws l₂ → round ≡ M.rounds true g rules deeper most r ps args ws others (suc k) l₂
       unfolding M.rounds
       round-again ws l₂ a q = after-again now k _ (turned left) (r .strategy) ws l₂ a (turn-found left f l e ∙ then-ok (replaced f l) (λ ws. return (some ws)) ws l₂ q)
 
-rounds-at : (g : Grammar) (rules : Rules.Rules) (deeper : M.Calls) (r : Rule) (ps : List Piece) (args : Env) (now : Words) (others left most most′ k k′ : ℕ) → most ≡ most′ → k ≡ k′
+rounds-at : (g : Grammar) (rules : Rules.Rules) (deeper : M.Calls) (r : Rule) (ps : List Piece) (args : Env) (now : Words) (others : ℕ) (left : State) (most most′ k k′ : ℕ) → most ≡ most′ → k ≡ k′
     → M.rounds true g rules deeper most r ps args now others k left ≡ M.rounds true g rules deeper most′ r ps args now others k′ left
 rounds-at g rules deeper r ps args now others left most most′ k k′ e q = rw (e, q)
 
@@ -194,7 +195,7 @@ pred-of : (n m : ℕ) → m < n → (k : ℕ) × (n ≡ suc k)
 pred-of zero m h = absurd (omega arith)
 pred-of (suc k) m h = (k, refl)
 
-module _ (heads rows : Words) (types : ℕ) (book starts w₀ : Words) (at base n : ℕ) (vars : Vars) (besides deep left : ℕ) where
+module _ (heads rows : Words) (types : ℕ) (book starts w₀ : Words) (at base n : ℕ) (vars : Vars) (besides deep : ℕ) (left : State) where
   -- a call of the meaning that goes on, of which the contract speaks
   pub record Case (g : Grammar) (rules : Rules.Rules) (rule : Rule) (next : ℕ) (args : Env) (scope : Words) (others : ℕ) : Type 0 where
     pub setting : Setting heads rows types book starts g rules
@@ -205,23 +206,23 @@ module _ (heads rows : Words) (types : ℕ) (book starts w₀ : Words) (at base 
     pub goes : M.call true g rules (calls true g rules deep) rule args scope others left .ending ≡ cannotGoOn → ⊥
 
   -- the scope now, and the rounds from it on
-  pub record Round (w : Words) (nodes fuel count : ℕ) (g : Grammar) (rules : Rules.Rules) (rule : Rule) (args : Env) (scope : Words) (others : ℕ) : Type 0 where
+  pub record Round (w : Words) (nodes : ℕ) (fuel : State) (count : ℕ) (g : Grammar) (rules : Rules.Rules) (rule : Rule) (args : Env) (scope : Words) (others : ℕ) : Type 0 where
     pub type : ℕ
     pub now : Words
     pub stands : Standing g w base nodes type now
     pub ps : List Piece
     pub replaces : rule .replacement ≡ some ps
     pub most : ℕ
-    pub enough : fuel ≤ most
+    pub enough : fuel .attempts ≤ most
     pub rest : M.call true g rules (calls true g rules deep) rule args scope others left
         ≡ M.rounds true g rules (calls true g rules deep) (suc most) rule ps args now others count fuel
 
   -- before a round. Only at the first can too many nodes be live
-  pub record Calling (w : Words) (nodes fuel count : ℕ) : Type 0 where
+  pub record Calling (w : Words) (nodes : ℕ) (fuel : State) (count : ℕ) : Type 0 where
     pub few : nodes ≤ mostNodes
     pub fits : (k : ℕ) → k ≤ besides → k + n ≤ mostLive → k + nodes ≤ mostLive
-    pub less : fuel ≤ left
-    pub spent : count + fuel ≤ left
+    pub less : fuel .attempts ≤ left .attempts
+    pub spent : count + fuel .attempts ≤ left .attempts
     pub long : length w ≡ length w₀
     pub first : mostLive < besides + nodes → (w ≡ w₀) × (nodes ≡ n) × (fuel ≡ left) × (count ≡ 0)
     pub meant : (g : Grammar) (rules : Rules.Rules) (rule : Rule) (next : ℕ) (args : Env) (scope : Words) (others : ℕ) → Case g rules rule next args scope others
@@ -239,10 +240,10 @@ module _ (heads rows : Words) (types : ℕ) (book starts w₀ : Words) (at base 
     pub stops : (r : Called) (number : ℕ) → s .found ≡ Stopped number → r ≡ record { stop = number; nodes = nodes; left = s .left; replacements = count } → Answers w r
 
   -- after a replacement
-  pub record Placed (nodes fuel count : ℕ) (repeats : Bool) (w : Words) (b : Built) : Type 0 where
+  pub record Placed (nodes : ℕ) (fuel : State) (count : ℕ) (repeats : Bool) (w : Words) (b : Built) : Type 0 where
     pub long : length w ≡ length w₀
-    pub spent : b .left < fuel
-    pub counted : count + 1 + b .left ≤ left
+    pub spent : b .left .attempts < fuel .attempts
+    pub counted : count + 1 + b .left .attempts ≤ left .attempts
     pub stops : (r : Called) → (b .stop ≡ 0 → ⊥) → r ≡ record { stop = b .stop; nodes = nodes; left = b .left; replacements = count } → Answers w r
     pub last : (r : Called) → b .stop ≡ 0 → not repeats ≡ true → r ≡ record { stop = 0; nodes = b .nodes; left = b .left; replacements = count + 1 } → Answers w r
     pub again : b .stop ≡ 0 → not repeats ≡ false → Calling w (b .nodes) (b .left) (count + 1)
@@ -253,8 +254,8 @@ module _ (heads rows : Words) (types : ℕ) (book starts w₀ : Words) (at base 
       → (take base w ≡ take base w₀) × Left heads rows types book starts w₀ w g base r (M.call true g rules (calls true g rules deep) rule args scope others left)
 
   -- .. with the numbers that it is answered by
-  answers : {number nodes l k : ℕ} (w : Words) (r : Called) → r ≡ record { stop = number; nodes = nodes; left = l; replacements = k } → nodes ≤ mostNodes
-      → ((k : ℕ) → k ≤ besides → k + n ≤ mostLive → k + nodes ≤ mostLive) → l ≤ left → length w ≡ length w₀ → Leaves w (record { stop = number; nodes = nodes; left = l; replacements = k })
+  answers : {number nodes : ℕ} {l : State} {k : ℕ} (w : Words) (r : Called) → r ≡ record { stop = number; nodes = nodes; left = l; replacements = k } → nodes ≤ mostNodes
+      → ((k : ℕ) → k ≤ besides → k + n ≤ mostLive → k + nodes ≤ mostLive) → l .attempts ≤ left .attempts → length w ≡ length w₀ → Leaves w (record { stop = number; nodes = nodes; left = l; replacements = k })
       → Answers w r
   answers w r e few fits less long leaves = rw e (record {
     few = few;
@@ -266,7 +267,7 @@ module _ (heads rows : Words) (types : ℕ) (book starts w₀ : Words) (at base 
   })
 
   -- a call that has come to its end
-  left-is : (w : Words) (g : Grammar) (number nodes k left count : ℕ) (now : Words) (e : Ending) (c : M.Called) → c ≡ called now k e left → EndedAs number e → count ≡ k → Tree g w base nodes now
+  left-is : (w : Words) (g : Grammar) (number nodes k : ℕ) (left : State) (count : ℕ) (now : Words) (e : Ending) (c : M.Called) → c ≡ called now k e left → EndedAs number e → count ≡ k → Tree g w base nodes now
       → Left heads rows types book starts w₀ w g base (record { stop = number; nodes = nodes; left = left; replacements = count }) c
   left-is w g number nodes k left count now e c q ends same tree = rw q (ends, refl, same, tree)
 
@@ -293,14 +294,14 @@ module _ (heads rows : Words) (types : ℕ) (book starts w₀ : Words) (at base 
             stands = c .tree .1;
             ps = x .0;
             replaces = x .1;
-            most = left;
+            most = left .attempts;
             enough = omega arith;
             rest = x .2 .0 (omega (arith, opens-live c));
           },
         );
   }
 
-  module _ (w : Words) (nodes fuel count : ℕ) (i : Calling w nodes fuel count) where
+  module _ (w : Words) (nodes : ℕ) (fuel : State) (count : ℕ) (i : Calling w nodes fuel count) where
     -- too many nodes are live
     pub calls-over : (r : Called) → r ≡ record { stop = 44; nodes = nodes; left = fuel; replacements = count } → mostLive < besides + nodes → Answers w r
     calls-over r e o =
@@ -382,10 +383,10 @@ module _ (heads rows : Words) (types : ℕ) (book starts w₀ : Words) (at base 
 
       module _ (j : ℕ) (f : s .found ≡ At j) (w₂ : Words) (b : Built) (y : Replaces heads rows types book starts w₁ w₂ (s .next) base nodes j (s .frame) deep (s .left) b) where
         -- an attempt is spent
-        spends : b .left < fuel
+        spends : b .left .attempts < fuel .attempts
         spends = omega (arith, y .less, fits-as (At j) f .1)
 
-        counts : count + 1 + b .left ≤ left
+        counts : count + 1 + b .left .attempts ≤ left .attempts
         counts = omega (arith, i .spent, spends)
 
         -- what is live besides leaves room for the scope as it is then
@@ -456,7 +457,7 @@ module _ (heads rows : Words) (types : ℕ) (book starts w₀ : Words) (at base 
                 let p = put c in
                 let t = says-ok (Standing g w₂ base (b .nodes) (d .type)) (made c (d .ps)) (b .left) (b .stop) z (p .2) in
                 let q = round-again g rules (calls true g rules deep) rule (d .ps) args (d .now) others (d .most) count fuel (m c) (s .left) (found-as c (At j) f .2) (t .0) (b .left) (strategy-is c ∙ a) (t .2) in
-                let k = pred-of (d .most) (b .left) (omega (arith, spends, d .enough)) in (
+                let k = pred-of (d .most) (b .left .attempts) (omega (arith, spends, d .enough)) in (
                   p .0 ∙ kept₁ c,
                   λ _. record {
                     type = d .type;

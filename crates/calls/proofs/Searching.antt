@@ -27,7 +27,8 @@ use Rattle.rules.specs.declared.Strategy.{Strategy}
 use Rattle.rules.specs.declared.Strategy.the-variants.{RootOnly, FirstMatch, Exhaustive}
 use Rattle.rules.specs.declared.Plan.{Plan}
 use Rattle.meaning.specs.Limits.{mostLive}
-use Rattle.meaning.specs.Computation.{Result, ok, stop, stuck, Comp, thenOf, spend, choose, whether, return}
+use Rattle.meaning.specs.declared.State.{State}
+use Rattle.meaning.specs.Computation.{Result, ok, stop, stuck, Comp, thenOf, spendOf, spend, choose, whether, return}
 use Rattle.meaning.specs.Meaning as M
 use Rattle.meaning.specs.Meaning.{Env, Bindings, Found, calls, match}
 use Rattle.marks.specs.Marked.{marked, typeIn}
@@ -36,7 +37,7 @@ use Rattle.marks.proofs.Marks.{marked-length}
 use Rattle.marks.proofs.Spans.{drop-take}
 use Rattle.rewrite.specs.Vars.{Sound}
 use Rattle.rewrite.specs.Matching.{Stage, Means, Answers, bindings}
-use Rattle.rewrite.specs.Candidates.{Clashes, Passed, NextCandidate}
+use Rattle.rewrite.specs.Candidates.{Clashes, unspent, Passed, NextCandidate}
 use Rattle.rewrite.specs.declared.candidates.Candidate.{Candidate}
 use Rattle.rewrite.proofs.Matcher.{Node, node-of, two-marked}
 use Rattle.rewrite.specs.declared.Verdict.the-variants.{Matches, Differs, Stops}
@@ -84,6 +85,10 @@ tried-past exhaustive n i p h l = inr (omega arith)
 
 -- ONE NODE OF THE MEANING'S SEARCH
 
+-- the state after an attempt has begun
+abbrev pub spent : State → State
+spent left = record { attempts = left .attempts - 1 }
+
 module _ (g : Grammar) (rules : Rules.Rules) (deep : ℕ) (rule : Rule) (b : Bindings) where
   -- the search from a node on
   abbrev pub from : Words → ℕ → Comp (Option Found)
@@ -93,15 +98,15 @@ module _ (g : Grammar) (rules : Rules.Rules) (deep : ℕ) (rule : Rule) (b : Bin
   abbrev pub after : Words → ℕ → Option Bindings → Comp (Option Found)
   after ws place m = whether m (λ c. return (some (record { place = place; bound = c }))) (choose (searches (rule .strategy)) (M.seek true g rules (calls true g rules deep) rule ws (place + 2) b) (return none))
 
-  seek-here : (ws : Words) (place left : ℕ) → or (eqb place 0) (searches (rule .strategy)) ≡ true → from ws place left ≡ M.seek true g rules (calls true g rules deep) rule ws place b left
+  seek-here : (ws : Words) (place : ℕ) (left : State) → or (eqb place 0) (searches (rule .strategy)) ≡ true → from ws place left ≡ M.seek true g rules (calls true g rules deep) rule ws place b left
   unfolding choose
   seek-here ws place left e = rw e
 
-  seek-past : (ws : Words) (place left : ℕ) → or (eqb place 0) (searches (rule .strategy)) ≡ false → from ws place left ≡ ok none left
+  seek-past : (ws : Words) (place : ℕ) (left : State) → or (eqb place 0) (searches (rule .strategy)) ≡ false → from ws place left ≡ ok none left
   unfolding choose
   seek-past ws place left e = rw e
 
-  seek-end : (place left : ℕ) → from [] place left ≡ ok none left
+  seek-end : (place : ℕ) (left : State) → from [] place left ≡ ok none left
   unfolding choose M.seek
   seek-end place left = go (or (eqb place 0) (searches (rule .strategy)))
     where
@@ -110,15 +115,15 @@ module _ (g : Grammar) (rules : Rules.Rules) (deep : ℕ) (rule : Rule) (b : Bin
       go false = refl
 
   -- what follows, where there is no match: the search from the next node on
-  after-none : (ws : Words) (place left : ℕ) → after ws place none left ≡ from ws (place + 2) left
+  after-none : (ws : Words) (place : ℕ) (left : State) → after ws place none left ≡ from ws (place + 2) left
   unfolding whether
   after-none ws place left = rw (ne-eqb (place + 2) 0 (λ e. omega arith))
 
-  after-some : (ws : Words) (place left : ℕ) (c : Bindings) → after ws place (some c) left ≡ ok (some (record { place = place; bound = c })) left
+  after-some : (ws : Words) (place : ℕ) (left : State) (c : Bindings) → after ws place (some c) left ≡ ok (some (record { place = place; bound = c })) left
   unfolding whether
   after-some ws place left c = refl
 
-  module _ (t v : ℕ) (ws : Words) (place left : ℕ) where
+  module _ (t v : ℕ) (ws : Words) (place : ℕ) (left : State) where
     -- a node of another type
     seek-other : (t ≡ rule .target → ⊥) → M.seek true g rules (calls true g rules deep) rule (t ∷ v ∷ ws) place b left ≡ from ws (place + 2) left
     unfolding M.seek choose thenOf
@@ -130,26 +135,22 @@ module _ (g : Grammar) (rules : Rules.Rules) (deep : ℕ) (rule : Rule) (b : Bin
     seek-this h = rw (eq-eqb t (rule .target) h)
 
 -- an attempt costs one
-attempt-spent : (g : Grammar) (rules : Rules.Rules) (deep : ℕ) (rule : Rule) (ws : Words) (b : Bindings) → M.attempt true g rules (calls true g rules deep) rule ws b 0 ≡ stop 40 0
-unfolding M.attempt spend thenOf
-attempt-spent g rules deep rule ws b = refl
+attempt-spent : (g : Grammar) (rules : Rules.Rules) (deep : ℕ) (rule : Rule) (ws : Words) (b : Bindings) (fuel : State) → fuel .attempts ≡ 0 → M.attempt true g rules (calls true g rules deep) rule ws b fuel ≡ stop 40 fuel
+unfolding M.attempt spend spendOf thenOf
+attempt-spent g rules deep rule ws b fuel e = rw e
 
-attempt-starts : (g : Grammar) (rules : Rules.Rules) (deep : ℕ) (rule : Rule) (ws : Words) (b : Bindings) (left : ℕ)
-    → M.attempt true g rules (calls true g rules deep) rule ws b (suc left) ≡ thenOf (match true g (rule .pattern) ws b left) (λ m. whether m (M.parts true g rules (calls true g rules deep) (rule .parts)) (return none))
-unfolding M.attempt spend thenOf
-attempt-starts g rules deep rule ws b left = refl
-
-attempt-first : (g : Grammar) (rules : Rules.Rules) (deep : ℕ) (rule : Rule) (ws : Words) (b : Bindings) (fuel now : ℕ) → fuel ≡ suc now
+attempt-first : (g : Grammar) (rules : Rules.Rules) (deep : ℕ) (rule : Rule) (ws : Words) (b : Bindings) (fuel now : State) → fuel .attempts ≡ suc (now .attempts)
     → M.attempt true g rules (calls true g rules deep) rule ws b fuel ≡ thenOf (match true g (rule .pattern) ws b now) (λ m. whether m (M.parts true g rules (calls true g rules deep) (rule .parts)) (return none))
-attempt-first g rules deep rule ws b fuel now e = rw e (attempt-starts g rules deep rule ws b now)
+unfolding M.attempt spend spendOf thenOf
+attempt-first g rules deep rule ws b fuel now e = rw e
 
 -- THE PARTS
 
-parts-end : (g : Grammar) (rules : Rules.Rules) (deep : ℕ) (b : Bindings) (l : ℕ) → M.parts true g rules (calls true g rules deep) [] b l ≡ ok (some b) l
+parts-end : (g : Grammar) (rules : Rules.Rules) (deep : ℕ) (b : Bindings) (l : State) → M.parts true g rules (calls true g rules deep) [] b l ≡ ok (some b) l
 unfolding M.parts
 parts-end g rules deep b l = refl
 
-module _ (g : Grammar) (rules : Rules.Rules) (deep : ℕ) (p : Rules.Part) (ps : List Rules.Part) (b : Bindings) (l : ℕ) where
+module _ (g : Grammar) (rules : Rules.Rules) (deep : ℕ) (p : Rules.Part) (ps : List Rules.Part) (b : Bindings) (l : State) where
   parts-more : M.parts true g rules (calls true g rules deep) (p ∷ ps) b l ≡ thenOf (partOn deep p g rules b l) (λ m. whether m (M.parts true g rules (calls true g rules deep) ps) (return none))
   unfolding M.parts
   parts-more = refl
@@ -175,20 +176,20 @@ there types book at count end ps pos e =
     record { p = u .0; more = u .2; q = x .0; next = u .1; read = x .1; is = x .2; others = u .4; all = u .5 }
 
 -- the run of the parts is that part's step, and what follows it
-step-first : (types : ℕ) (book : Words) (at count end : ℕ) (ps : List Rules.Part) (x : There types book at count end ps) (g : Grammar) (rules : Rules.Rules) (deep : ℕ) (b : Bindings) (l : ℕ)
+step-first : (types : ℕ) (book : Words) (at count end : ℕ) (ps : List Rules.Part) (x : There types book at count end ps) (g : Grammar) (rules : Rules.Rules) (deep : ℕ) (b : Bindings) (l : State)
     → M.parts true g rules (calls true g rules deep) ps b l ≡ thenOf (partRead deep book (partAt types book at) g rules b l) (λ m. whether m (M.parts true g rules (calls true g rules deep) (x .more)) (return none))
 step-first types book at count end ps x g rules deep b l =
     ap (λ y. M.parts true g rules (calls true g rules deep) y b l) (x .all) ∙ parts-more g rules deep (x .p) (x .more) b l
     ∙ ap (λ y. thenOf y (λ m. whether m (M.parts true g rules (calls true g rules deep) (x .more)) (return none)))
     (sym (ap (λ y. partRead deep book y g rules b l) (x .read) ∙ ap (λ y. partOn deep y g rules b l) (x .is)))
 
-some-first : {A B : Type 0} (a : A) (l : ℕ) (f : A → Comp (Option B)) → thenOf (ok (some a) l) (λ m. whether m f (return none)) ≡ f a l
+some-first : {A B : Type 0} (a : A) (l : State) (f : A → Comp (Option B)) → thenOf (ok (some a) l) (λ m. whether m f (return none)) ≡ f a l
 unfolding thenOf whether
 some-first a l f = refl
 
-module _ (heads rows : Words) (types : ℕ) (book starts : Words) (deep : ℕ) (w₀ : Words) (fuel₀ : ℕ) (frame₀ : Frame) (at₀ count₀ : ℕ) where
+module _ (heads rows : Words) (types : ℕ) (book starts : Words) (deep : ℕ) (w₀ : Words) (fuel₀ : State) (frame₀ : Frame) (at₀ count₀ : ℕ) where
   -- parts have matched up to here: what is open now, and the parts that are left
-  record Gone (g : Grammar) (rules : Rules.Rules) (env₀ : Env) (besides : ℕ) (ps₀ : List Rules.Part) (end : ℕ) (w : Words) (fuel : ℕ) (frame : Frame) (at count : ℕ) : Type 0 where
+  record Gone (g : Grammar) (rules : Rules.Rules) (env₀ : Env) (besides : ℕ) (ps₀ : List Rules.Part) (end : ℕ) (w : Words) (fuel : State) (frame : Frame) (at count : ℕ) : Type 0 where
     kept : take (frame₀ .top) w ≡ take (frame₀ .top) w₀
     env : Env
     held : Held g w frame (bindings env besides)
@@ -196,9 +197,9 @@ module _ (heads rows : Words) (types : ℕ) (book starts : Words) (deep : ℕ) (
     read : many count (Layout.part types book) at ≡ value ps end
     is : M.parts true g rules (calls true g rules deep) ps₀ (bindings env₀ besides) fuel₀ ≡ M.parts true g rules (calls true g rules deep) ps (bindings env besides) fuel
 
-  pub record Parting (w : Words) (fuel : ℕ) (frame : Frame) (at count : ℕ) : Type 0 where
+  pub record Parting (w : Words) (fuel : State) (frame : Frame) (at count : ℕ) : Type 0 where
     pub grown : Grown frame₀ frame
-    pub less : fuel ≤ fuel₀
+    pub less : fuel .attempts ≤ fuel₀ .attempts
     pub fewer : count ≤ count₀
     pub long : length w ≡ length w₀
     gone : (g : Grammar) (rules : Rules.Rules) (env₀ : Env) (besides : ℕ) (ps₀ : List Rules.Part) (end : ℕ) → Setting heads rows types book starts g rules → Held g w₀ frame₀ (bindings env₀ besides)
@@ -213,7 +214,7 @@ module _ (heads rows : Words) (types : ℕ) (book starts : Words) (deep : ℕ) (
     gone = λ g rules env₀ besides ps₀ end setting held read sure. record { kept = refl; env = env₀; held = held; ps = ps₀; read = read; is = refl };
   }
 
-  pub parting-on : (w : Words) (fuel : ℕ) (frame : Frame) (at count : ℕ) → Parting w fuel frame at count → 0 < count → (w′ : Words) (r : Taken) → Steps heads rows types book starts w w′ at frame deep fuel r → r .verdict ≡ Matches
+  pub parting-on : (w : Words) (fuel : State) (frame : Frame) (at count : ℕ) → Parting w fuel frame at count → 0 < count → (w′ : Words) (r : Taken) → Steps heads rows types book starts w w′ at frame deep fuel r → r .verdict ≡ Matches
       → Parting w′ (r .left) (r .frame) (r .next) (count - 1)
   parting-on w fuel frame at count pr pos w′ r steps v = record {
     grown = grown-more (pr .grown) (steps .takes .grown);
@@ -241,15 +242,15 @@ stuck-twice : {A B C : Type 0} (f : A → Comp B) (h : B → Comp C) → thenOf 
 unfolding thenOf
 stuck-twice f h = refl
 
-stop-twice : {A B C : Type 0} (n l : ℕ) (f : A → Comp B) (h : B → Comp C) → thenOf (thenOf (stop n l) f) h ≡ stop n l
+stop-twice : {A B C : Type 0} (n : ℕ) (l : State) (f : A → Comp B) (h : B → Comp C) → thenOf (thenOf (stop n l) f) h ≡ stop n l
 unfolding thenOf
 stop-twice n l f h = refl
 
-none-twice : {A B C : Type 0} (l : ℕ) (f : A → Comp (Option B)) (h : Option B → Comp C) → thenOf (thenOf (ok none l) (λ m. whether m f (return none))) h ≡ h none l
+none-twice : {A B C : Type 0} (l : State) (f : A → Comp (Option B)) (h : Option B → Comp C) → thenOf (thenOf (ok none l) (λ m. whether m f (return none))) h ≡ h none l
 unfolding thenOf whether
 none-twice l f h = refl
 
-some-twice : {A B C : Type 0} (a : A) (l : ℕ) (f : A → Comp (Option B)) (h : Option B → Comp C) → thenOf (thenOf (ok (some a) l) (λ m. whether m f (return none))) h ≡ thenOf (f a l) h
+some-twice : {A B C : Type 0} (a : A) (l : State) (f : A → Comp (Option B)) (h : Option B → Comp C) → thenOf (thenOf (ok (some a) l) (λ m. whether m f (return none))) h ≡ thenOf (f a l) h
 unfolding thenOf whether
 some-twice a l f h = refl
 
@@ -262,7 +263,7 @@ rest-as t v below more e q r = rw (e, q) at r
 below-word : (w w₀ : Words) (top p : ℕ) → p < top → take top w ≡ take top w₀ → getD w p 0 ≡ getD (take top w₀) p 0
 below-word w w₀ top p h e = sym (getD-take top w p 0 h) ∙ ap (λ x. getD x p 0) e
 
-module _ (heads rows : Words) (types : ℕ) (book starts w₀ : Words) (plan : Plan) (base n : ℕ) (frame : Frame) (deep left : ℕ) where
+module _ (heads rows : Words) (types : ℕ) (book starts w₀ : Words) (plan : Plan) (base n : ℕ) (frame : Frame) (deep : ℕ) (left : State) where
   -- what the meaning is given
   pub record Case : Type 0 where
     pub g : Grammar
@@ -295,15 +296,15 @@ module _ (heads rows : Words) (types : ℕ) (book starts w₀ : Words) (plan : P
     trees : Rest (k .g) due rest
     marks : here i ≡ marked (k .g) rest
 
-  record AtNode (k : Case) (w : Words) (fuel i : ℕ) : Type 0 where
+  record AtNode (k : Case) (w : Words) (fuel : State) (i : ℕ) : Type 0 where
     kept : take (frame .top) w ≡ take (frame .top) w₀
     rest : Words
     scope : Left k i rest
     is : whole k ≡ onward k rest (2 * i) fuel
 
-  pub record Searching (w : Words) (fuel i : ℕ) : Type 0 where
+  pub record Searching (w : Words) (fuel : State) (i : ℕ) : Type 0 where
     pub within : i ≤ n
-    pub less : fuel ≤ left
+    pub less : fuel .attempts ≤ left .attempts
     pub long : length w ≡ length w₀
     run : (k : Case) → AtNode k w fuel i
 
@@ -359,7 +360,7 @@ module _ (heads rows : Words) (types : ℕ) (book starts w₀ : Words) (plan : P
         }
 
     -- the run at a node that is tried
-    run-here : (k : Case) (w : Words) (fuel i : ℕ) → i < triedOf (plan .strategy) n → (h : i < n) (a : AtNode k w fuel i)
+    run-here : (k : Case) (w : Words) (fuel : State) (i : ℕ) → i < triedOf (plan .strategy) n → (h : i < n) (a : AtNode k w fuel i)
         → whole k ≡ M.seek true (k .g) (k .rules) (calls true (k .g) (k .rules) deep) (k .rule) (node-here k i h (a .rest) (a .scope) .t ∷ node-here k i h (a .rest) (a .scope) .v ∷ node-here k i h (a .rest) (a .scope) .below) (2 * i) (k .b) fuel
     run-here k w fuel i t h a =
         a .is
@@ -367,15 +368,15 @@ module _ (heads rows : Words) (types : ℕ) (book starts w₀ : Words) (plan : P
         ∙ ap (λ x. M.seek true (k .g) (k .rules) (calls true (k .g) (k .rules) deep) (k .rule) x (2 * i) (k .b) fuel) (node-here k i h (a .rest) (a .scope) .is)
 
     -- the next node
-    at-next : (k : Case) (w w′ : Words) (fuel now i : ℕ) (h : i < n) (a : AtNode k w fuel i) → take (frame .top) w′ ≡ take (frame .top) w₀
+    at-next : (k : Case) (w w′ : Words) (fuel now : State) (i : ℕ) (h : i < n) (a : AtNode k w fuel i) → take (frame .top) w′ ≡ take (frame .top) w₀
         → whole k ≡ onward k (node-here k i h (a .rest) (a .scope) .below) (2 * i + 2) now → AtNode k w′ now (i + 1)
     at-next k w w′ fuel now i h a e q =
         let c : 2 * i + 2 ≡ 2 * (i + 1) = omega arith in
         record { kept = e; rest = node-here k i h (a .rest) (a .scope) .below; scope = left-next k i h (a .rest) (a .scope); is = q ∙ ap (λ x. onward k (node-here k i h (a .rest) (a .scope) .below) x now) c }
 
-    module _ (w : Words) (fuel i : ℕ) (go : Searching w fuel i) where
+    module _ (w : Words) (fuel : State) (i : ℕ) (go : Searching w fuel i) where
       -- an answer at a node
-      sought : (f : Code.Found) (fr : Frame) (now at : ℕ) (w′ : Words) → length w′ ≡ length w₀ → Grown frame fr → FoundFits n left f now
+      sought : (f : Code.Found) (fr : Frame) (now : State) (at : ℕ) (w′ : Words) → length w′ ≡ length w₀ → Grown frame fr → FoundFits n left f now
           → ((k : Case) → (take (frame .top) w′ ≡ take (frame .top) w₀) × SoughtAs (k .g) w′ (k .b .besides) book (k .rule) f fr now at (whole k))
           → Seeks heads rows types book starts w₀ w′ plan base n frame deep left (record { found = f; frame = fr; left = now; next = at })
       sought f fr now at w′ l grown fits run = record {
@@ -430,29 +431,28 @@ module _ (heads rows : Words) (types : ℕ) (book starts w₀ : Words) (plan : P
               run-here k w fuel i t inside (go .run k)
               ∙ seek-this (k .g) (k .rules) deep (k .rule) (k .b) (node k .t) (node k .v) (node k .below) (2 * i) fuel (sym (type-here k) ∙ this ∙ k .planned .target)
 
-          pub searching-spent : fuel ≡ 0 → Seeks heads rows types book starts w₀ w plan base n frame deep left (record { found = Stopped 40; frame = frame; left = fuel; next = 0 })
-          searching-spent z = sought (Stopped 40) frame fuel 0 w (go .long) (grown-same room) (go .less) (λ k. (go .run k .kept, spent k))
+          pub searching-spent : fuel .attempts ≡ 0 → Seeks heads rows types book starts w₀ w plan base n frame deep left (record { found = Stopped 40; frame = frame; left = fuel; next = 0 })
+          searching-spent z = sought (Stopped 40) frame fuel 0 w (go .long) (grown-same room) (go .less) (λ k. (go .run k .kept, stops k))
             where
-              spent : (k : Case) → whole k ≡ stop 40 fuel
-              spent k =
+              stops : (k : Case) → whole k ≡ stop 40 fuel
+              stops k =
                   tries k
                   ∙ then-stop _ (next k (node k .below) (2 * i)) 40 fuel
-                  (ap (λ x. M.attempt true (k .g) (k .rules) (calls true (k .g) (k .rules) deep) (k .rule) (node k .t ∷ node k .v ∷ node k .below) (k .b) x) z
-                  ∙ attempt-spent (k .g) (k .rules) deep (k .rule) (node k .t ∷ node k .v ∷ node k .below) (k .b) ∙ ap (stop 40) (sym z))
+                  (attempt-spent (k .g) (k .rules) deep (k .rule) (node k .t ∷ node k .v ∷ node k .below) (k .b) fuel z)
 
-          module _ (costs : fuel ≡ 0 → ⊥) (m : Matched) (arena part pairs : Words) (ea : arena ≡ take (frame .top) w) (ep : part ≡ take (2 * (n - i)) (drop (base + 2 * i) arena)) (es : pairs ≡ pairsAt book (plan .pattern))
+          module _ (costs : fuel .attempts ≡ 0 → ⊥) (m : Matched) (arena part pairs : Words) (ea : arena ≡ take (frame .top) w) (ep : part ≡ take (2 * (n - i)) (drop (base + 2 * i) arena)) (es : pairs ≡ pairsAt book (plan .pattern))
               (answers : Answers arena part (base + 2 * i) (frame .vars) (frame .live) (λ g ws b. match true g (shapes pairs) ws b) m) where
-            spends : fuel ≡ suc (fuel - 1)
-            spends = pred fuel costs
+            spends : fuel .attempts ≡ suc (fuel .attempts - 1)
+            spends = pred (fuel .attempts) costs
               where
                 pred : (f : ℕ) → (f ≡ 0 → ⊥) → f ≡ suc (f - 1)
                 pred zero h = absurd (h refl)
                 pred (suc f) h = omega arith
 
             -- the pattern set against the node, and what follows
-            matching : (k : Case) → whole k ≡ thenOf (thenOf (match true (k .g) (k .rule .pattern) (node k .t ∷ node k .v ∷ node k .below) (k .b) (fuel - 1)) (λ m. whether m (M.parts true (k .g) (k .rules) (calls true (k .g) (k .rules) deep) (k .rule .parts)) (return none)))
+            matching : (k : Case) → whole k ≡ thenOf (thenOf (match true (k .g) (k .rule .pattern) (node k .t ∷ node k .v ∷ node k .below) (k .b) (spent fuel)) (λ m. whether m (M.parts true (k .g) (k .rules) (calls true (k .g) (k .rules) deep) (k .rule .parts)) (return none)))
                 (next k (node k .below) (2 * i))
-            matching k = tries k ∙ ap (λ x. thenOf x (next k (node k .below) (2 * i))) (attempt-first (k .g) (k .rules) deep (k .rule) (node k .t ∷ node k .v ∷ node k .below) (k .b) fuel (fuel - 1) spends)
+            matching k = tries k ∙ ap (λ x. thenOf x (next k (node k .below) (2 * i))) (attempt-first (k .g) (k .rules) deep (k .rule) (node k .t ∷ node k .v ∷ node k .below) (k .b) fuel (spent fuel) spends)
 
             stage : (k : Case) → Stage (k .g) arena part (base + 2 * i) (frame .vars) (frame .live) (go .run k .rest) (go .run k .scope .due) (k .b)
             stage k =
@@ -470,37 +470,37 @@ module _ (heads rows : Words) (types : ℕ) (book starts w₀ : Words) (plan : P
                 }
 
             -- the pattern is the rule's
-            matched : (k : Case) → Means (k .g) arena (k .b .besides) (m .verdict) (m .vars) (m .live) (fuel - 1) (match true (k .g) (k .rule .pattern) (node k .t ∷ node k .v ∷ node k .below) (k .b) (fuel - 1))
+            matched : (k : Case) → Means (k .g) arena (k .b .besides) (m .verdict) (m .vars) (m .live) (spent fuel) (match true (k .g) (k .rule .pattern) (node k .t ∷ node k .v ∷ node k .below) (k .b) (spent fuel))
             matched k =
                 let p : k .rule .pattern ≡ shapes pairs = k .planned .pattern ∙ ap shapes (sym es) in
-                let q : match true (k .g) (shapes pairs) (go .run k .rest) (k .b) (fuel - 1) ≡ match true (k .g) (k .rule .pattern) (node k .t ∷ node k .v ∷ node k .below) (k .b) (fuel - 1) =
-                ap₂ (λ x y. match true (k .g) x y (k .b) (fuel - 1)) (sym p) (node k .is) in
-                rw q at (answers .meant (k .g) (go .run k .rest) (go .run k .scope .due) (k .b) (fuel - 1) (stage k)
+                let q : match true (k .g) (shapes pairs) (go .run k .rest) (k .b) (spent fuel) ≡ match true (k .g) (k .rule .pattern) (node k .t ∷ node k .v ∷ node k .below) (k .b) (spent fuel) =
+                ap₂ (λ x y. match true (k .g) x y (k .b) (spent fuel)) (sym p) (node k .is) in
+                rw q at (answers .meant (k .g) (go .run k .rest) (go .run k .scope .due) (k .b) (spent fuel) (stage k)
                 (λ e. k .sure (matching k ∙ ap (λ x. thenOf (thenOf x (λ m. whether m (M.parts true (k .g) (k .rules) (calls true (k .g) (k .rules) deep) (k .rule .parts)) (return none))) (next k (node k .below) (2 * i))) (sym q ∙ e) ∙ stuck-twice _ _)))
 
-            pub searching-differs : m .verdict ≡ Differs → Searching w (fuel - 1) (i + 1)
+            pub searching-differs : m .verdict ≡ Differs → Searching w (spent fuel) (i + 1)
             searching-differs v = record {
               within = omega (arith, inside);
               less = omega (arith, go .less);
               long = go .long;
               run = λ k.
-                  let q : match true (k .g) (k .rule .pattern) (node k .t ∷ node k .v ∷ node k .below) (k .b) (fuel - 1) ≡ ok none (fuel - 1) = rw v at (matched k) in
-                  at-next k w w fuel (fuel - 1) i inside (go .run k) (go .run k .kept)
+                  let q : match true (k .g) (k .rule .pattern) (node k .t ∷ node k .v ∷ node k .below) (k .b) (spent fuel) ≡ ok none (spent fuel) = rw v at (matched k) in
+                  at-next k w w fuel (spent fuel) i inside (go .run k) (go .run k .kept)
                   (matching k ∙ ap (λ x. thenOf (thenOf x (λ m. whether m (M.parts true (k .g) (k .rules) (calls true (k .g) (k .rules) deep) (k .rule .parts)) (return none))) (next k (node k .below) (2 * i))) q
-                  ∙ none-twice (fuel - 1) _ (next k (node k .below) (2 * i)) ∙ after-none (k .g) (k .rules) deep (k .rule) (k .b) (node k .below) (2 * i) (fuel - 1));
+                  ∙ none-twice (spent fuel) _ (next k (node k .below) (2 * i)) ∙ after-none (k .g) (k .rules) deep (k .rule) (k .b) (node k .below) (2 * i) (spent fuel));
             }
 
-            pub searching-stops : {no : ℕ} → m .verdict ≡ Stops no → Seeks heads rows types book starts w₀ w plan base n frame deep left (record { found = Stopped no; frame = frame; left = fuel - 1; next = 0 })
-            searching-stops {no} v = sought (Stopped no) frame (fuel - 1) 0 w (go .long) (grown-same room) (omega (arith, go .less)) (λ k. (go .run k .kept, stops k))
+            pub searching-stops : {no : ℕ} → m .verdict ≡ Stops no → Seeks heads rows types book starts w₀ w plan base n frame deep left (record { found = Stopped no; frame = frame; left = spent fuel; next = 0 })
+            searching-stops {no} v = sought (Stopped no) frame (spent fuel) 0 w (go .long) (grown-same room) (omega (arith, go .less)) (λ k. (go .run k .kept, stops k))
               where
-                stops : (k : Case) → whole k ≡ stop no (fuel - 1)
+                stops : (k : Case) → whole k ≡ stop no (spent fuel)
                 stops k =
-                    let q : match true (k .g) (k .rule .pattern) (node k .t ∷ node k .v ∷ node k .below) (k .b) (fuel - 1) ≡ stop no (fuel - 1) = rw v at (matched k) in
+                    let q : match true (k .g) (k .rule .pattern) (node k .t ∷ node k .v ∷ node k .below) (k .b) (spent fuel) ≡ stop no (spent fuel) = rw v at (matched k) in
                     matching k ∙ ap (λ x. thenOf (thenOf x (λ m. whether m (M.parts true (k .g) (k .rules) (calls true (k .g) (k .rules) deep) (k .rule .parts)) (return none))) (next k (node k .below) (2 * i))) q
-                    ∙ stop-twice no (fuel - 1) _ _
+                    ∙ stop-twice no (spent fuel) _ _
 
             -- the parts that are left, at a node that the pattern matches
-            record AtPart (k : Case) (w′ : Words) (now : ℕ) (fr : Frame) (at count : ℕ) : Type 0 where
+            record AtPart (k : Case) (w′ : Words) (now : State) (fr : Frame) (at count : ℕ) : Type 0 where
               kept : take (frame .top) w′ ≡ take (frame .top) w₀
               env : Env
               held : Held (k .g) w′ fr (bindings env (k .b .besides))
@@ -508,22 +508,22 @@ module _ (heads rows : Words) (types : ℕ) (book starts w₀ : Words) (plan : P
               read : many count (Layout.part types book) at ≡ value ps (k .planned .end)
               is : whole k ≡ thenOf (M.parts true (k .g) (k .rules) (calls true (k .g) (k .rules) deep) ps (bindings env (k .b .besides)) now) (next k (node k .below) (2 * i))
 
-            pub record Trying (w′ : Words) (now : ℕ) (fr : Frame) (at count : ℕ) : Type 0 where
+            pub record Trying (w′ : Words) (now : State) (fr : Frame) (at count : ℕ) : Type 0 where
               pub grown : Grown frame fr
-              pub less : now < left
+              pub less : now .attempts < left .attempts
               pub long : length w′ ≡ length w₀
               try : (k : Case) → AtPart k w′ now fr at count
 
             pub trying-grown : Grown frame (record { vars = m .vars; live = m .live; top = frame .top })
             trying-grown = grown-matched w₀ frame room (m .vars) (m .live) (answers .sound) (answers .fits) (answers .grows)
 
-            pub trying-start : m .verdict ≡ Matches → plan .count ≤ 8 → Trying w (fuel - 1) (record { vars = m .vars; live = m .live; top = frame .top }) (plan .first) (plan .count)
+            pub trying-start : m .verdict ≡ Matches → plan .count ≤ 8 → Trying w (spent fuel) (record { vars = m .vars; live = m .live; top = frame .top }) (plan .first) (plan .count)
             trying-start v eight = record {
               grown = trying-grown;
               less = omega (arith, go .less, spends);
               long = go .long;
               try = λ k.
-                  let q : Means (k .g) (take (frame .top) w) (k .b .besides) Matches (m .vars) (m .live) (fuel - 1) (match true (k .g) (k .rule .pattern) (node k .t ∷ node k .v ∷ node k .below) (k .b) (fuel - 1)) = rw (v, ea) at (matched k) in
+                  let q : Means (k .g) (take (frame .top) w) (k .b .besides) Matches (m .vars) (m .live) (spent fuel) (match true (k .g) (k .rule .pattern) (node k .t ∷ node k .v ∷ node k .below) (k .b) (spent fuel)) = rw (v, ea) at (matched k) in
                   record {
                     kept = go .run k .kept;
                     env = q .0;
@@ -531,12 +531,12 @@ module _ (heads rows : Words) (types : ℕ) (book starts w₀ : Words) (plan : P
                     ps = k .rule .parts;
                     read = k .planned .parts;
                     is = matching k ∙ ap (λ x. thenOf (thenOf x (λ m. whether m (M.parts true (k .g) (k .rules) (calls true (k .g) (k .rules) deep) (k .rule .parts)) (return none))) (next k (node k .below) (2 * i))) (q .3)
-                        ∙ some-twice (bindings (q .0) (k .b .besides)) (fuel - 1) _ (next k (node k .below) (2 * i));
+                        ∙ some-twice (bindings (q .0) (k .b .besides)) (spent fuel) _ (next k (node k .below) (2 * i));
                   };
             }
 
-            pub trying-run : (v : m .verdict ≡ Matches) (eight : plan .count ≤ 8) (w₁ : Words) (now : ℕ) (fr : Frame) (at count : ℕ)
-                → Parting heads rows types book starts deep w (fuel - 1) (record { vars = m .vars; live = m .live; top = frame .top }) (plan .first) (plan .count) w₁ now fr at count → Trying w₁ now fr at count
+            pub trying-run : (v : m .verdict ≡ Matches) (eight : plan .count ≤ 8) (w₁ : Words) (now : State) (fr : Frame) (at count : ℕ)
+                → Parting heads rows types book starts deep w (spent fuel) (record { vars = m .vars; live = m .live; top = frame .top }) (plan .first) (plan .count) w₁ now fr at count → Trying w₁ now fr at count
             trying-run v eight w₁ now fr at count pr =
                 let st = trying-start v eight in
                 record {
@@ -549,7 +549,7 @@ module _ (heads rows : Words) (types : ℕ) (book starts w₀ : Words) (plan : P
                       record { kept = x .kept ∙ a .kept; env = x .env; held = x .held; ps = x .ps; read = x .read; is = a .is ∙ ap (λ y. thenOf y (next k (node k .below) (2 * i))) (x .is) };
                 }
 
-            module _ (w₁ : Words) (now : ℕ) (fr : Frame) (at count : ℕ) (tr : Trying w₁ now fr at count) where
+            module _ (w₁ : Words) (now : State) (fr : Frame) (at count : ℕ) (tr : Trying w₁ now fr at count) where
               pub trying-done : count ≡ 0 → Seeks heads rows types book starts w₀ w₁ plan base n frame deep left (record { found = At i; frame = fr; left = now; next = at })
               trying-done z = sought (At i) fr now at w₁ (tr .long) (tr .grown) (inside, tr .less) (λ k. (tr .try k .kept, done k))
                 where
@@ -611,7 +611,7 @@ module _ (heads rows : Words) (types : ℕ) (book starts w₀ : Words) (plan : P
 
     -- THE NODES PASSED OVER
 
-    module _ (fits : 0 < n → base + 2 * n ≤ frame .top) (pairs : Words) (es : pairs ≡ pairsAt book (plan .pattern)) (w : Words) (fuel i : ℕ) (go : Searching w fuel i) where
+    module _ (fits : 0 < n → base + 2 * n ≤ frame .top) (pairs : Words) (es : pairs ≡ pairsAt book (plan .pattern)) (w : Words) (fuel : State) (i : ℕ) (go : Searching w fuel i) where
       -- the stretch from a node on, as a part of what is open
       stretch : (j : ℕ) → j < n → span w (base + 2 * j) (base + 2 * n) ≡ take (2 * (n - j)) (drop (base + 2 * j) (take (frame .top) w))
       stretch j h =
@@ -619,26 +619,26 @@ module _ (heads rows : Words) (types : ℕ) (book starts w₀ : Words) (plan : P
           let a : base + 2 * n - (base + 2 * j) ≡ 2 * (n - j) = omega arith in
           ap (λ x. take x (drop (base + 2 * j) w)) a ∙ sym (ap (take (2 * (n - j))) (drop-take (frame .top) (base + 2 * j) w) ∙ take-take (2 * (n - j)) (frame .top - (base + 2 * j)) (drop (base + 2 * j) w) (omega arith))
 
-      passed-other : (k now : ℕ) → Searching w now (i + k) → i + k < triedOf (plan .strategy) n → (typeIn (getD w (base + 2 * (i + k)) 0) ≡ plan .target → ⊥) → Searching w now (i + suc k)
+      passed-other : (k : ℕ) (now : State) → Searching w now (i + k) → i + k < triedOf (plan .strategy) n → (typeIn (getD w (base + 2 * (i + k)) 0) ≡ plan .target → ⊥) → Searching w now (i + suc k)
       passed-other k now at-k l other = let z : i + suc k ≡ i + k + 1 = omega arith in rw z (searching-other w now (i + k) at-k l other)
 
-      passed-clash : (k now : ℕ) → Searching w (suc now) (i + k) → i + k < triedOf (plan .strategy) n → typeIn (getD w (base + 2 * (i + k)) 0) ≡ plan .target
+      passed-clash : (k : ℕ) (now : State) → Searching w (unspent now) (i + k) → i + k < triedOf (plan .strategy) n → typeIn (getD w (base + 2 * (i + k)) 0) ≡ plan .target
           → Clashes pairs (span w (base + 2 * (i + k)) (base + 2 * n)) (frame .live) → Searching w now (i + suc k)
       passed-clash k now at-k l this clashes =
           let z : i + suc k ≡ i + k + 1 = omega arith in
-          let y : suc now - 1 ≡ now = omega arith in
+          let y : suc (now .attempts) - 1 ≡ now .attempts = omega arith in
           let c = clashes .clash (take (frame .top) w) (base + 2 * (i + k)) (frame .vars) (room .sound) in
-          let s : Searching w (suc now - 1) (i + k + 1) =
-          searching-differs w (suc now) (i + k) at-k l this (λ e. omega arith) (c .0) (take (frame .top) w) (span w (base + 2 * (i + k)) (base + 2 * n)) pairs refl (stretch (i + k) (omega (arith, tried-few (plan .strategy) n))) es (c .2 true) (c .1) in
+          let s : Searching w (spent (unspent now)) (i + k + 1) =
+          searching-differs w (unspent now) (i + k) at-k l this (λ e. omega arith) (c .0) (take (frame .top) w) (span w (base + 2 * (i + k)) (base + 2 * n)) pairs refl (stretch (i + k) (omega (arith, tried-few (plan .strategy) n))) es (c .2 true) (c .1) in
           rw (z, ← y) s
 
-      searching-passed : (k now : ℕ) → (0 < k → i + k ≤ triedOf (plan .strategy) n) → Passed pairs w (plan .target) base (base + 2 * n) (frame .live) i fuel k now → Searching w now (i + k)
+      searching-passed : (k : ℕ) (now : State) → (0 < k → i + k ≤ triedOf (plan .strategy) n) → Passed pairs w (plan .target) base (base + 2 * n) (frame .live) i fuel k now → Searching w now (i + k)
       searching-passed zero now h e = let z : i + 0 ≡ i = omega arith in rw (z, e) go
       searching-passed (suc k) now h (inl x) = passed-other k now (searching-passed k now (λ _. omega (arith, h (omega arith))) (x .1)) (omega (arith, h (omega arith))) (x .0)
-      searching-passed (suc k) now h (inr x) = passed-clash k now (searching-passed k (suc now) (λ _. omega (arith, h (omega arith))) (x .2)) (omega (arith, h (omega arith))) (x .0) (x .1)
+      searching-passed (suc k) now h (inr x) = passed-clash k now (searching-passed k (unspent now) (λ _. omega (arith, h (omega arith))) (x .2)) (omega (arith, h (omega arith))) (x .0) (x .1)
 
       pub searching-next : (last end : ℕ) → last ≡ triedOf (plan .strategy) n → end ≡ base + 2 * n → (r : Candidate) → NextCandidate pairs w (plan .target) base end i last (frame .live) fuel r → Searching w (r .left) (r .node)
       searching-next last end el ee r x = rw (x .node-is) (searching-passed (x .passed) (r .left) (λ h. omega (arith, el, x .inside h)) (passed-as (x .passed) (r .left) ee (x .nodes)))
         where
-          passed-as : {a b : ℕ} (k now : ℕ) → a ≡ b → Passed pairs w (plan .target) base a (frame .live) i fuel k now → Passed pairs w (plan .target) base b (frame .live) i fuel k now
+          passed-as : {a b : ℕ} (k : ℕ) (now : State) → a ≡ b → Passed pairs w (plan .target) base a (frame .live) i fuel k now → Passed pairs w (plan .target) base b (frame .live) i fuel k now
           passed-as k now q y = rw q at y

@@ -14,6 +14,7 @@ use Rattle.rules.specs.Rules as Rules
 use Rattle.rules.specs.Rules.{Rule, Operation, rule, operation, nothing, applied, arguments, applications, Application, unreadable, conditionOf}
 use Rattle.rules.specs.Layout as Layout
 use Rattle.meaning.specs.Limits.{mostLive}
+use Rattle.meaning.specs.declared.State.{State}
 use Rattle.meaning.specs.Computation.{Result, ok, stop, stuck, Comp, thenOf, check, present, choose, whether, provided, return}
 use Rattle.meaning.specs.Operations.{compare}
 use Rattle.meaning.specs.Meaning as M
@@ -49,7 +50,7 @@ foundVerdict (At i) = Matches
 foundVerdict Nowhere = Differs
 foundVerdict (Stopped n) = Stops n
 
-found-less : (n left : ℕ) (f : Code.Found) (now : ℕ) → FoundFits n left f now → now ≤ left
+found-less : (n : ℕ) (left : State) (f : Code.Found) (now : State) → FoundFits n left f now → now .attempts ≤ left .attempts
 found-less n left (At i) now h = omega (arith, h .1)
 found-less n left Nowhere now h = h
 found-less n left (Stopped k) now h = h
@@ -58,7 +59,7 @@ found-less n left (Stopped k) now h = h
 abbrev isMatch : Option M.Found → Comp Bool
 isMatch m = whether m (λ f. return true) (return false)
 
-found-tested : (g : Grammar) (w′ : Words) (besides : ℕ) (book : Words) (r : Rule) (f : Code.Found) (frame : Frame) (left next : ℕ) (m : Result (Option M.Found))
+found-tested : (g : Grammar) (w′ : Words) (besides : ℕ) (book : Words) (r : Rule) (f : Code.Found) (frame : Frame) (left : State) (next : ℕ) (m : Result (Option M.Found))
     → SoughtAs g w′ besides book r f frame left next m → TestedAs (foundVerdict f) left (thenOf m isMatch)
 unfolding thenOf whether
 found-tested g w′ besides book r (At i) frame left next m s = rw (s .2)
@@ -66,11 +67,11 @@ found-tested g w′ besides book r Nowhere frame left next m s = rw s
 found-tested g w′ besides book r (Stopped n) frame left next m s = rw s
 
 -- the same verdict of the same computation
-tested-as : {v v′ : Verdict} (left : ℕ) {m m′ : Result Bool} → v ≡ v′ → m′ ≡ m → TestedAs v left m → TestedAs v′ left m′
+tested-as : {v v′ : Verdict} (left : State) {m m′ : Result Bool} → v ≡ v′ → m′ ≡ m → TestedAs v left m → TestedAs v′ left m′
 tested-as left ev e t = rw (← ev, e) t
 
 -- what a call in a condition does: the limit is tested, then its rule sought
-matches-steps : (g : Grammar) (rules : Rules.Rules) (deeper : M.Calls) (r : Rule) (args : Env) (scope : Words) (besides l : ℕ) → Sure (M.callMatches true g rules deeper r args scope besides l)
+matches-steps : (g : Grammar) (rules : Rules.Rules) (deeper : M.Calls) (r : Rule) (args : Env) (scope : Words) (besides : ℕ) (l : State) → Sure (M.callMatches true g rules deeper r args scope besides l)
     → M.callMatches true g rules deeper r args scope besides l
     ≡ thenOf (liveWithin (live (start args scope besides)) l) (λ u m. thenOf (M.seek true g rules deeper r scope 0 (start args scope besides) m) isMatch)
 unfolding M.callMatches
@@ -79,13 +80,13 @@ matches-steps g rules deeper r args scope besides l s =
     let b = begin-sure g r args scope besides l (sure-first (begin true g r args scope besides l) k s) in
     ap (λ m. thenOf m k) (b .1)
 
-module _ (heads rows : Words) (types : ℕ) (book starts w : Words) (at base n : ℕ) (frame : Frame) (deep left : ℕ) where
+module _ (heads rows : Words) (types : ℕ) (book starts w : Words) (at base n : ℕ) (frame : Frame) (deep : ℕ) (left : State) where
   -- too many nodes would be live
   pub matches-over : mostLive < frame .live + n → CallMatches heads rows types book starts w w at base n frame deep left (record { verdict = Stops 44; left = left })
   matches-over h = (
-    le-refl left,
+    le-refl (left .attempts),
     λ r next e. record {
-      less = le-refl left;
+      less = le-refl (left .attempts);
       long = refl;
       meant = λ g rules scope b s held tree sure. (
         refl,
@@ -119,11 +120,11 @@ abbrev pub testVerdict : Bool → Verdict
 testVerdict true = Matches
 testVerdict false = Differs
 
-tested-bool : (t : Bool) (left : ℕ) (m : Result Bool) → m ≡ ok t left → TestedAs (testVerdict t) left m
+tested-bool : (t : Bool) (left : State) (m : Result Bool) → m ≡ ok t left → TestedAs (testVerdict t) left m
 tested-bool true left m e = e
 tested-bool false left m e = e
 
-module _ (g : Grammar) (rules : Rules.Rules) (r : Rule) (args : Env) (scope : Words) (besides l : ℕ) where
+module _ (g : Grammar) (rules : Rules.Rules) (r : Rule) (args : Env) (scope : Words) (besides : ℕ) (l : State) where
   matches-none : (deep : ℕ) → deep ≡ 0 → calls true g rules deep .matches r args scope besides l ≡ stop 41 l
   unfolding calls
   matches-none deep e = rw e
@@ -138,20 +139,20 @@ module _ (g : Grammar) (rules : Rules.Rules) (r : Rule) (args : Env) (scope : Wo
   matches-begins deeper s = begin-sure g r args scope besides l (sure-first (begin true g r args scope besides l) _ s) .0
 
 module _ (g : Grammar) (rules : Rules.Rules) (deeper : M.Calls) (scope : Words) (besides : ℕ) where
-  succeeds-rule : (n : ℕ) (args : Env) (l : ℕ) → M.succeeds true g rules deeper (rule n) args scope besides l ≡ thenOf (present (getElem? rules n) l) (λ r. deeper .matches r args scope besides)
+  succeeds-rule : (n : ℕ) (args : Env) (l : State) → M.succeeds true g rules deeper (rule n) args scope besides l ≡ thenOf (present (getElem? rules n) l) (λ r. deeper .matches r args scope besides)
   unfolding M.succeeds
   succeeds-rule n args l = refl
 
-  succeeds-nothing : (args : Env) (l : ℕ) → M.succeeds true g rules deeper nothing args scope besides l ≡ stuck
+  succeeds-nothing : (args : Env) (l : State) → M.succeeds true g rules deeper nothing args scope besides l ≡ stuck
   unfolding M.succeeds
   succeeds-nothing args l = refl
 
-  succeeds-operation : (o : Operation) (args : Env) (l : ℕ)
+  succeeds-operation : (o : Operation) (args : Env) (l : State)
       → M.succeeds true g rules deeper (operation o) args scope besides l ≡ thenOf (check true (and (isNumberToken g scope) (areNumberTokens g args)) l) (λ u. compare o (valueOf scope) (valuesOf args))
   unfolding M.succeeds
   succeeds-operation o args l = refl
 
-module _ (heads rows : Words) (types : ℕ) (book starts w pairs : Words) (at base n : ℕ) (frame : Frame) (deep left : ℕ) where
+module _ (heads rows : Words) (types : ℕ) (book starts w pairs : Words) (at base n : ℕ) (frame : Frame) (deep : ℕ) (left : State) where
   abbrev Succeeding : Words → Tested → Type 0
   Succeeding w′ r = Succeeds heads rows types book starts w w′ pairs at base n frame deep left r
 
@@ -172,7 +173,7 @@ module _ (heads rows : Words) (types : ℕ) (book starts w pairs : Words) (at ba
       -- no call may nest deeper
       pub succeeds-deep : deep ≡ 0 → Succeeding w (record { verdict = Stops 41; left = left })
       succeeds-deep d = record {
-        less = le-refl left;
+        less = le-refl (left .attempts);
         long = refl;
         meant = λ g rules scope b st held tree s.
             let q = ruled g rules scope b s in
@@ -203,7 +204,7 @@ module _ (heads rows : Words) (types : ℕ) (book starts w pairs : Words) (at ba
       pub succeeds-holds : Sound (frame .vars) → (b x : ℕ) → b ≡ getD w (startAt (frame .vars) (getD pairs (at + 3) 0) + 1) 0 → x ≡ getD w (base + 1) 0 → (t : Bool) → Compared a x b t
           → (v : Verdict) → testVerdict t ≡ v → Succeeding w (record { verdict = v; left = left })
       succeeds-holds sound y x ey ex t cp v ev = record {
-        less = le-refl left;
+        less = le-refl (left .attempts);
         long = refl;
         meant = λ g rules scope b st held tree s.
             let q = operation-given (b .env) names (getD pairs at 0) left (λ p args. M.succeeds true g rules (calls true g rules deep) p args scope (live b))
@@ -230,37 +231,37 @@ Ended (Stops n) = Unit {0}
 abbrev orElse : Comp Bool → Bool → Comp Bool
 orElse rest found = choose found (return true) rest
 
-ended : (v : Verdict) → Ended v → (left : ℕ) (m : Result Bool) (rest : Comp Bool) → TestedAs v left m → TestedAs v left (thenOf m (orElse rest))
+ended : (v : Verdict) → Ended v → (left : State) (m : Result Bool) (rest : Comp Bool) → TestedAs v left m → TestedAs v left (thenOf m (orElse rest))
 unfolding thenOf choose
 ended Matches h left m rest t = rw t
 ended Differs h left m rest t = absurd h
 ended (Stops n) h left m rest t = rw t
 
-goes-on : (v : Verdict) → v ≡ Differs → (left : ℕ) (m : Result Bool) (rest : Comp Bool) → TestedAs v left m → thenOf m (orElse rest) ≡ rest left
+goes-on : (v : Verdict) → v ≡ Differs → (left : State) (m : Result Bool) (rest : Comp Bool) → TestedAs v left m → thenOf m (orElse rest) ≡ rest left
 unfolding thenOf choose
 goes-on Matches e left m rest t = let z : _≡_ {A = ℕ} 0 1 = cc in absurd (omega arith)
 goes-on Differs e left m rest t = rw t
 goes-on (Stops n) e left m rest t = let z : _≡_ {A = ℕ} 0 1 = cc in absurd (omega arith)
 
-any-step : (g : Grammar) (rules : Rules.Rules) (deep : ℕ) (pairs : Words) (at k : ℕ) (scope : Words) (b : Bindings) (l : ℕ) → 0 < k
+any-step : (g : Grammar) (rules : Rules.Rules) (deep : ℕ) (pairs : Words) (at k : ℕ) (scope : Words) (b : Bindings) (l : State) → 0 < k
     → M.anySucceeds true g rules (calls true g rules deep) (applications k (drop at pairs)) (b .env) scope (live b) l
     ≡ thenOf (succeedsAt deep pairs at g rules scope b l) (orElse (M.anySucceeds true g rules (calls true g rules deep) (applications (k - 1) (drop (nextAt pairs at) pairs)) (b .env) scope (live b)))
 unfolding M.anySucceeds
 any-step g rules deep pairs at k scope b l h =
     ap (λ apps. M.anySucceeds true g rules (calls true g rules deep) apps (b .env) scope (live b) l) (applications-step pairs at k h) ∙ then-then (variables (b .env) _ l) _ _
 
-any-end : (g : Grammar) (rules : Rules.Rules) (deeper : M.Calls) (ws : Words) (k : ℕ) (env : Env) (scope : Words) (besides l : ℕ) → k ≡ 0
+any-end : (g : Grammar) (rules : Rules.Rules) (deeper : M.Calls) (ws : Words) (k : ℕ) (env : Env) (scope : Words) (besides : ℕ) (l : State) → k ≡ 0
     → M.anySucceeds true g rules deeper (applications k ws) env scope besides l ≡ ok false l
 unfolding M.anySucceeds applications
 any-end g rules deeper ws k env scope besides l e = rw e
 
-module _ (heads rows : Words) (types : ℕ) (book starts w₀ pairs : Words) (base n : ℕ) (frame : Frame) (deep left : ℕ) where
+module _ (heads rows : Words) (types : ℕ) (book starts w₀ pairs : Words) (base n : ℕ) (frame : Frame) (deep : ℕ) (left : State) where
   abbrev Whole : Grammar → Rules.Rules → Words → Bindings → Result Bool
   Whole g rules scope b = M.anySucceeds true g rules (calls true g rules deep) (chainAt pairs 2) (b .env) scope (live b) left
 
   -- with k applications left, the next at `at`
-  pub record Trying (w : Words) (k at fuel : ℕ) : Type 0 where
-    pub less : fuel ≤ left
+  pub record Trying (w : Words) (k at : ℕ) (fuel : State) : Type 0 where
+    pub less : fuel .attempts ≤ left .attempts
     pub long : length w ≡ length w₀
     pub near : at + k * 8589934594 ≤ 2 ^ 36
     gone : (g : Grammar) (rules : Rules.Rules) (scope : Words) (b : Bindings) → Setting heads rows types book starts g rules → Held g w₀ frame b → Tree g (take (frame .top) w₀) base n scope
@@ -270,13 +271,13 @@ module _ (heads rows : Words) (types : ℕ) (book starts w₀ pairs : Words) (ba
 
   pub trying-start : (k : ℕ) → k ≡ chainCount pairs 2 → k ≤ 4 → Trying w₀ k 4 left
   trying-start k e h = record {
-    less = le-refl left;
+    less = le-refl (left .attempts);
     long = refl;
     near = omega arith;
     gone = λ g rules scope b st held tree s. (refl, ap (λ j. M.anySucceeds true g rules (calls true g rules deep) (applications j (drop 4 pairs)) (b .env) scope (live b) left) (sym e));
   }
 
-  module _ (w : Words) (k at fuel : ℕ) (i : Trying w k at fuel) where
+  module _ (w : Words) (k at : ℕ) (fuel : State) (i : Trying w k at fuel) where
     module _ (h : 0 < k) (w′ : Words) (r : Tested) (done : Succeeds heads rows types book starts w w′ pairs at base n frame deep fuel r) where
       -- what the application gave
       one : (g : Grammar) (rules : Rules.Rules) (scope : Words) (b : Bindings) → Setting heads rows types book starts g rules → Held g w₀ frame b → Tree g (take (frame .top) w₀) base n scope
@@ -326,7 +327,7 @@ module _ (heads rows : Words) (types : ℕ) (book starts w₀ pairs : Words) (ba
 abbrev holding : Bool → Bindings → Bool → Comp (Option Bindings)
 holding negated b found = provided (pick negated (not found) found) (return (some b))
 
-turned-taken : (negated : Bool) (v : Verdict) (g : Grammar) (w : Words) (frame : Frame) (b : Bindings) (left : ℕ) (m : Result Bool) → Held g w frame b → TestedAs v left m
+turned-taken : (negated : Bool) (v : Verdict) (g : Grammar) (w : Words) (frame : Frame) (b : Bindings) (left : State) (m : Result Bool) → Held g w frame b → TestedAs v left m
     → TakenAs g w (b .besides) (turnedBy negated v) frame left (thenOf m (holding negated b))
 unfolding thenOf choose
 turned-taken true Matches g w frame b left m h t = rw t
@@ -335,23 +336,23 @@ turned-taken true Differs g w frame b left m h t = (b .env, h, rw t)
 turned-taken false Differs g w frame b left m h t = rw t
 turned-taken negated (Stops n) g w frame b left m h t = rw t
 
-taken-as : (g : Grammar) (w : Words) (besides : ℕ) (v : Verdict) (frame : Frame) (left : ℕ) (m m′ : Result (Option Bindings)) → m′ ≡ m → TakenAs g w besides v frame left m → TakenAs g w besides v frame left m′
+taken-as : (g : Grammar) (w : Words) (besides : ℕ) (v : Verdict) (frame : Frame) (left : State) (m m′ : Result (Option Bindings)) → m′ ≡ m → TakenAs g w besides v frame left m → TakenAs g w besides v frame left m′
 taken-as g w besides v frame left m m′ e t = rw e t
 
 module _ (g : Grammar) (rules : Rules.Rules) (deeper : M.Calls) where
-  any-unreadable : (env : Env) (scope : Words) (besides l : ℕ) → M.anySucceeds true g rules deeper unreadable env scope besides l ≡ stuck
+  any-unreadable : (env : Env) (scope : Words) (besides : ℕ) (l : State) → M.anySucceeds true g rules deeper unreadable env scope besides l ≡ stuck
   unfolding M.anySucceeds M.succeeds unreadable variables thenOf
   any-unreadable env scope besides l = refl
 
   -- the variable's tree is there, and the limit is tested
-  condition-steps : (negated : Bool) (x : ℕ) (apps : List Application) (b : Bindings) (l : ℕ) → Sure (M.part true g rules deeper (Rules.condition negated x apps) b l)
+  condition-steps : (negated : Bool) (x : ℕ) (apps : List Application) (b : Bindings) (l : State) → Sure (M.part true g rules deeper (Rules.condition negated x apps) b l)
       → (t : Words) × (getElem? (b .env) x ≡ some t)
       × (M.part true g rules deeper (Rules.condition negated x apps) b l
       ≡ thenOf (liveWithin (live b + size t) l) (λ u m. thenOf (M.anySucceeds true g rules deeper apps (b .env) t (live b) m) (holding negated b)))
   unfolding M.part
   condition-steps negated x apps b l s = variable-sure (b .env) x l _ s
 
-module _ (heads rows : Words) (types : ℕ) (book starts w : Words) (negated : Bool) (at next : ℕ) (frame : Frame) (deep left : ℕ) (room : Room w frame) where
+module _ (heads rows : Words) (types : ℕ) (book starts w : Words) (negated : Bool) (at next : ℕ) (frame : Frame) (deep : ℕ) (left : State) (room : Room w frame) where
   abbrev Part : Grammar → Rules.Rules → Bindings → Result (Option Bindings)
   Part g rules b = partOn deep (Rules.condition negated (getD (pairsAt book at) 1 0) (conditionOf (pairsAt book at))) g rules b left
 
@@ -390,7 +391,7 @@ module _ (heads rows : Words) (types : ℕ) (book starts w : Words) (negated : B
       next-is = refl;
       takes = record {
         grown = same-frame;
-        less = le-refl left;
+        less = le-refl (left .attempts);
         long = refl;
         meant = λ g rules b st held s.
             let q = located g rules b st held s in

@@ -19,6 +19,7 @@ use Rattle.rules.specs.Layout as Layout
 use Rattle.rules.specs.Layout.{PartAt, partAt, partOf}
 use Rattle.rules.specs.declared.Deconstruct.{Deconstruct}
 use Rattle.meaning.specs.Limits.{mostLive}
+use Rattle.meaning.specs.declared.State.{State}
 use Rattle.meaning.specs.Computation.{Result, ok, stop, stuck, Comp, _>>=_, _>>_, return, never}
 use Rattle.meaning.specs.Meaning as M
 use Rattle.meaning.specs.Meaning.{Env, Bindings, live, total, variable, variables, liveWithin, nodesWithin, Ending, done, stopped, cannotGoOn, Found, calls}
@@ -86,24 +87,24 @@ abbrev pub Sure : {A : Type 0} → Result A → Type 0
 Sure m = m ≡ stuck → ⊥
 
 -- 0 says that a computation gives a value of which P holds; any other number that it stops by it
-abbrev pub Says : {A : Type 0} → (A → Type 0) → ℕ → ℕ → Result A → Type 0
+abbrev pub Says : {A : Type 0} → (A → Type 0) → ℕ → State → Result A → Type 0
 Says {A} P zero left m = (a : A) × P a × (m ≡ ok a left)
 Says P (suc k) left m = m ≡ stop (suc k) left
 
 -- what a verdict says of a computation that gives a match or none
-abbrev pub TakenAs : Grammar → Words → ℕ → Verdict → Frame → ℕ → Result (Option Bindings) → Type 0
+abbrev pub TakenAs : Grammar → Words → ℕ → Verdict → Frame → State → Result (Option Bindings) → Type 0
 TakenAs g w besides Matches frame left m = (env : Env) × Held g w frame (bindings env besides) × (m ≡ ok (some (bindings env besides)) left)
 TakenAs g w besides Differs frame left m = m ≡ ok none left
 TakenAs g w besides (Stops n) frame left m = m ≡ stop n left
 
 -- .. and of one that tests
-abbrev pub TestedAs : Verdict → ℕ → Result Bool → Type 0
+abbrev pub TestedAs : Verdict → State → Result Bool → Type 0
 TestedAs Matches left m = m ≡ ok true left
 TestedAs Differs left m = m ≡ ok false left
 TestedAs (Stops n) left m = m ≡ stop n left
 
 -- .. and where a search ended of one that searches; a rule's replacement stands at `next`
-abbrev pub SoughtAs : Grammar → Words → ℕ → Words → Rule → Code.Found → Frame → ℕ → ℕ → Result (Option Found) → Type 0
+abbrev pub SoughtAs : Grammar → Words → ℕ → Words → Rule → Code.Found → Frame → State → ℕ → Result (Option Found) → Type 0
 SoughtAs g w besides book r (At i) frame left next m =
     (env : Env) × Held g w frame (bindings env besides) × (m ≡ ok (some (record { place = 2 * i; bound = bindings env besides })) left)
     × ((ps : List Piece) → r .replacement ≡ some ps → ps ≡ pieces (pairsAt book next))
@@ -116,10 +117,10 @@ EndedAs zero e = e ≡ done
 EndedAs (suc k) e = e ≡ stopped (suc k)
 
 -- a match is one of the scope's nodes, and cost an attempt
-abbrev pub FoundFits : ℕ → ℕ → Code.Found → ℕ → Type 0
-FoundFits n left (At i) now = (i < n) × (now < left)
-FoundFits n left Nowhere now = now ≤ left
-FoundFits n left (Stopped k) now = now ≤ left
+abbrev pub FoundFits : ℕ → State → Code.Found → State → Type 0
+FoundFits n left (At i) now = (i < n) × (now .attempts < left .attempts)
+FoundFits n left Nowhere now = now .attempts ≤ left .attempts
+FoundFits n left (Stopped k) now = now .attempts ≤ left .attempts
 
 -- a marked tree of some type
 abbrev pub Tree : Grammar → Words → ℕ → ℕ → Words → Type 0
@@ -127,11 +128,11 @@ Tree g w base n ws = (t : ℕ) × Standing g w base n t ws
 
 -- PARTS
 
-module _ (w w′ : Words) (frame : Frame) (left : ℕ) (r : Taken) where
+module _ (w w′ : Words) (frame : Frame) (left : State) (r : Taken) where
   -- the answer is the computation's
   pub record Takes (With : Grammar → Rules.Rules → Type 0) (f : Grammar → Rules.Rules → Bindings → Comp (Option Bindings)) : Type 0 where
     pub grown : Grown frame (r .frame)
-    pub less : r .left ≤ left
+    pub less : r .left .attempts ≤ left .attempts
     pub long : length w′ ≡ length w
     pub meant : (g : Grammar) (rules : Rules.Rules) (b : Bindings) → With g rules → Held g w frame b → Sure (f g rules b left)
         → (take (frame .top) w′ ≡ take (frame .top) w) × TakenAs g w′ (b .besides) (r .verdict) (r .frame) (r .left) (f g rules b left)
@@ -151,7 +152,7 @@ deconstructIn book true s x p = Rules.search s (getD book x 0) (shapes (pairsAt 
 deconstructIn book false s x p = Rules.deconstruct (getD book x 0) (shapes (pairsAt book p))
 
 -- what a part that takes a variable apart comes to
-pub record Deconstructs (book w : Words) (d : Deconstruct) (next : ℕ) (frame : Frame) (left : ℕ) (r : Taken) : Type 0 where
+pub record Deconstructs (book w : Words) (d : Deconstruct) (next : ℕ) (frame : Frame) (left : State) (r : Taken) : Type 0 where
   pub next-is : r .next ≡ next
   pub takes : (deep : ℕ) → Takes w w frame left r (λ g rules. length g ≤ mostTypes) (partOn deep (deconstructIn book (d .searches) (d .searched) (d .variable) (d .pattern)))
 
@@ -159,21 +160,21 @@ module _ (heads rows : Words) (types : ℕ) (book starts w w′ : Words) where
   abbrev pub With : Grammar → Rules.Rules → Type 0
   With g rules = Setting heads rows types book starts g rules
 
-  pub record Constructs (at next : ℕ) (frame : Frame) (deep left : ℕ) (r : Taken) : Type 0 where
+  pub record Constructs (at next : ℕ) (frame : Frame) (deep : ℕ) (left : State) (r : Taken) : Type 0 where
     pub next-is : r .next ≡ next
     pub takes : (u : ℕ) → Takes w w′ frame left r With (partOn deep (Rules.construct u (pieces (pairsAt book at))))
 
-  pub record Conditions (negated : Bool) (at next : ℕ) (frame : Frame) (deep left : ℕ) (r : Taken) : Type 0 where
+  pub record Conditions (negated : Bool) (at next : ℕ) (frame : Frame) (deep : ℕ) (left : State) (r : Taken) : Type 0 where
     pub next-is : r .next ≡ next
     pub takes : Takes w w′ frame left r With (partOn deep (Rules.condition negated (getD (pairsAt book at) 1 0) (conditionOf (pairsAt book at))))
 
-  pub record Steps (at : ℕ) (frame : Frame) (deep left : ℕ) (r : Taken) : Type 0 where
+  pub record Steps (at : ℕ) (frame : Frame) (deep : ℕ) (left : State) (r : Taken) : Type 0 where
     pub next-is : (q : PartAt) (next : ℕ) → partAt types book at ≡ value q next → r .next ≡ next
     pub takes : Takes w w′ frame left r With (partRead deep book (partAt types book at))
 
   -- SEARCH
 
-  pub record Seeks (plan : Plan) (base n : ℕ) (frame : Frame) (deep left : ℕ) (r : Sought) : Type 0 where
+  pub record Seeks (plan : Plan) (base n : ℕ) (frame : Frame) (deep : ℕ) (left : State) (r : Sought) : Type 0 where
     pub grown : Grown frame (r .frame)
     pub fits : FoundFits n left (r .found) (r .left)
     pub long : length w′ ≡ length w
@@ -185,16 +186,16 @@ module _ (heads rows : Words) (types : ℕ) (book starts w w′ : Words) where
   -- CONDITIONS
 
   -- a test of the tree of n nodes at `start`, with the variables b
-  pub record Tests (start n : ℕ) (frame : Frame) (left : ℕ) (r : Tested) (f : Grammar → Rules.Rules → Words → Bindings → Comp Bool) : Type 0 where
-    pub less : r .left ≤ left
+  pub record Tests (start n : ℕ) (frame : Frame) (left : State) (r : Tested) (f : Grammar → Rules.Rules → Words → Bindings → Comp Bool) : Type 0 where
+    pub less : r .left .attempts ≤ left .attempts
     pub long : length w′ ≡ length w
     pub meant : (g : Grammar) (rules : Rules.Rules) (scope : Words) (b : Bindings) → With g rules → Held g w frame b → Tree g (take (frame .top) w) start n scope → Sure (f g rules scope b left)
         → (take (frame .top) w′ ≡ take (frame .top) w) × TestedAs (r .verdict) (r .left) (f g rules scope b left)
 
   -- a call in a condition, its arguments the variables
-  abbrev pub CallMatches : ℕ → ℕ → ℕ → Frame → ℕ → ℕ → Tested → Type 0
+  abbrev pub CallMatches : ℕ → ℕ → ℕ → Frame → ℕ → State → Tested → Type 0
   CallMatches at start n frame deep left r =
-      (r .left ≤ left)
+      (r .left .attempts ≤ left .attempts)
       × ((rule : Rule) (next : ℕ) → Layout.rule types book at ≡ value rule next → Tests start n frame left r (λ g rules scope b. M.callMatches true g rules (calls true g rules deep) rule (b .env) scope (b .besides)))
 
 -- one application of a condition
@@ -223,39 +224,39 @@ chainPiece deep x apps g rules env besides n = do
   return u
 
 module _ (heads rows : Words) (types : ℕ) (book starts w w′ : Words) where
-  abbrev pub Succeeds : Words → ℕ → ℕ → ℕ → Frame → ℕ → ℕ → Tested → Type 0
+  abbrev pub Succeeds : Words → ℕ → ℕ → ℕ → Frame → ℕ → State → Tested → Type 0
   Succeeds pairs at start n frame deep left r = Tests heads rows types book starts w w′ start n frame left r (succeedsAt deep pairs at)
 
-  abbrev pub AnySucceeds : Words → ℕ → ℕ → Frame → ℕ → ℕ → Tested → Type 0
+  abbrev pub AnySucceeds : Words → ℕ → ℕ → Frame → ℕ → State → Tested → Type 0
   AnySucceeds pairs start n frame deep left r =
       Tests heads rows types book starts w w′ start n frame left r (λ g rules scope b. M.anySucceeds true g rules (calls true g rules deep) (chainAt pairs 2) (b .env) scope (live b))
 
   -- REPLACEMENTS
 
   -- what was built of the tree of n nodes at base
-  pub record Builds (base n : ℕ) (vars : Vars) (besides left : ℕ) (r : Built) (f : Grammar → Rules.Rules → Env → Words → Comp Words) : Type 0 where
+  pub record Builds (base n : ℕ) (vars : Vars) (besides : ℕ) (left : State) (r : Built) (f : Grammar → Rules.Rules → Env → Words → Comp Words) : Type 0 where
     pub few : r .nodes ≤ mostNodes
     pub fits : besides + r .nodes ≤ mostLive
-    pub less : r .left ≤ left
+    pub less : r .left .attempts ≤ left .attempts
     pub long : length w′ ≡ length w
     pub meant : (g : Grammar) (rules : Rules.Rules) (env : Env) (scope : Words) → Setting heads rows types book starts g rules → EnvAt g (take base w) (startsOf vars) env → Tree g w base n scope
         → Sure (f g rules env scope left)
         → (take base w′ ≡ take base w) × Says (Tree g w′ base (r .nodes)) (r .stop) (r .left) (f g rules env scope left)
 
-  abbrev pub Applies : Words → ℕ → ℕ → ℕ → Vars → ℕ → ℕ → ℕ → Built → Type 0
+  abbrev pub Applies : Words → ℕ → ℕ → ℕ → Vars → ℕ → ℕ → State → Built → Type 0
   Applies pairs at base n vars besides deep left r = Builds base n vars besides left r (λ g rules env scope. applyAt deep pairs at g rules env scope besides)
 
-  pub record Chains (pairs : Words) (from base n : ℕ) (vars : Vars) (besides deep left : ℕ) (r : Chained) : Type 0 where
+  pub record Chains (pairs : Words) (from base n : ℕ) (vars : Vars) (besides deep : ℕ) (left : State) (r : Chained) : Type 0 where
     pub builds : Builds base n vars besides left (r .built) (λ g rules env scope. M.applyChain true g rules (calls true g rules deep) (chainAt pairs from) env scope besides)
     pub later : from + 2 ≤ r .next
     pub near : r .next < 2 ^ 40
     pub next-is : r .built .stop ≡ 0 → r .next ≡ from + 2 + 2 * pairsIn (chainAt pairs from)
 
   -- what a piece adds to the tree under way of n nodes on top
-  pub record FillsChain (pairs : Words) (i n : ℕ) (frame : Frame) (deep left : ℕ) (r : Chained) : Type 0 where
+  pub record FillsChain (pairs : Words) (i n : ℕ) (frame : Frame) (deep : ℕ) (left : State) (r : Chained) : Type 0 where
     pub few : r .built .stop ≡ 0 → r .built .nodes ≤ mostNodes
     pub fits : r .built .stop ≡ 0 → frame .live + r .built .nodes ≤ mostLive
-    pub less : r .built .left ≤ left
+    pub less : r .built .left .attempts ≤ left .attempts
     pub long : length w′ ≡ length w
     pub near : r .next < 2 ^ 40
     pub next-is : r .built .stop ≡ 0 → r .next ≡ i + 4 + 2 * pairsIn (chainAt pairs (i + 2))
@@ -265,30 +266,30 @@ module _ (heads rows : Words) (types : ℕ) (book starts w w′ : Words) where
         × Says (λ u. (r .built .nodes ≡ n + size u) × Tree g w′ (frame .top + 2 * n) (size u) u) (r .built .stop) (r .built .left) (chainPiece deep (getD pairs (i + 1) 0) (chainAt pairs (i + 2)) g rules (b .env) (live b) n left)
 
   -- what was built on top, with P
-  pub record Fresh (frame : Frame) (left : ℕ) (r : Built) (P : Grammar → Words → Type 0) (f : Grammar → Rules.Rules → Bindings → Comp Words) : Type 0 where
+  pub record Fresh (frame : Frame) (left : State) (r : Built) (P : Grammar → Words → Type 0) (f : Grammar → Rules.Rules → Bindings → Comp Words) : Type 0 where
     pub few : r .stop ≡ 0 → r .nodes ≤ mostNodes
     pub fits : r .stop ≡ 0 → frame .live + r .nodes ≤ mostLive
-    pub less : r .left ≤ left
+    pub less : r .left .attempts ≤ left .attempts
     pub long : length w′ ≡ length w
     pub meant : (g : Grammar) (rules : Rules.Rules) (b : Bindings) → Setting heads rows types book starts g rules → Held g w frame b → Sure (f g rules b left)
         → (take (frame .top) w′ ≡ take (frame .top) w) × Says (P g) (r .stop) (r .left) (f g rules b left)
 
   -- .. under way: its nodes are not all marked yet
-  abbrev pub Fills : ℕ → Frame → ℕ → ℕ → Built → Type 0
+  abbrev pub Fills : ℕ → Frame → ℕ → State → Built → Type 0
   Fills at frame deep left r =
       Fresh frame left r (λ g ws. (length ws ≡ 2 * r .nodes) × UnderWay g (take (2 * r .nodes) (drop (frame .top) w′)) ws)
       (λ g rules b. M.fill true g rules (calls true g rules deep) (pieces (pairsAt book at)) (b .env) (live b) 0)
 
   -- .. a tree of whatever type is asked
-  abbrev pub Finishes : ℕ → Frame → ℕ → ℕ → Built → Type 0
+  abbrev pub Finishes : ℕ → Frame → ℕ → State → Built → Type 0
   Finishes at frame deep left r =
       (u : ℕ) → Fresh frame left r (λ g ws. Standing g w′ (frame .top) (r .nodes) u ws) (λ g rules b. M.finish true g rules (calls true g rules deep) u (pieces (pairsAt book at)) b)
 
   -- the scope of n nodes at base after a replacement, or as it was
-  pub record Replaces (at base n i : ℕ) (frame : Frame) (deep left : ℕ) (r : Built) : Type 0 where
+  pub record Replaces (at base n i : ℕ) (frame : Frame) (deep : ℕ) (left : State) (r : Built) : Type 0 where
     pub few : r .stop ≡ 0 → r .nodes ≤ mostNodes
     pub fits : r .stop ≡ 0 → frame .live + r .nodes ≤ mostLive + n
-    pub less : r .left ≤ left
+    pub less : r .left .attempts ≤ left .attempts
     pub long : length w′ ≡ length w
     pub meant : (g : Grammar) (rules : Rules.Rules) (b : Bindings) (t target : ℕ) (scope : Words) → Setting heads rows types book starts g rules → Held g w frame b → Standing g w base n t scope
         → Sure (M.replace true g rules (calls true g rules deep) target (pieces (pairsAt book at)) scope (record { place = 2 * i; bound = b }) left)
@@ -300,10 +301,10 @@ module _ (heads rows : Words) (types : ℕ) (book starts w w′ : Words) where
   Left g base r c = EndedAs (r .stop) (c .ending) × (r .left ≡ c .left) × (r .replacements ≡ c .replacements) × Tree g w′ base (r .nodes) (c .scope)
 
   -- A CALL, of the rule whose map stands at `at`
-  pub record Calls (at base n : ℕ) (vars : Vars) (besides deep left : ℕ) (r : Called) : Type 0 where
+  pub record Calls (at base n : ℕ) (vars : Vars) (besides deep : ℕ) (left : State) (r : Called) : Type 0 where
     pub few : r .nodes ≤ mostNodes
     pub fits : (k : ℕ) → k ≤ besides → k + n ≤ mostLive → k + r .nodes ≤ mostLive
-    pub less : r .left ≤ left
+    pub less : r .left .attempts ≤ left .attempts
     pub long : length w′ ≡ length w
     pub meant : (g : Grammar) (rules : Rules.Rules) (rule : Rule) (next : ℕ) (args : Env) (scope : Words) (others : ℕ) → Setting heads rows types book starts g rules
         → Layout.rule types book at ≡ value rule next → EnvAt g (take base w) (startsOf vars) args → besides ≡ others + total args → Tree g w base n scope

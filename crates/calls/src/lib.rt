@@ -2,6 +2,7 @@
 //
 // Every member of the cycle may call those below it, and `apply` and `succeeds` the calls one level deeper. All that is below what a member is given stays
 // as it is.
+use meaning::State;
 use rewrite::MOST_LIVE;
 use rewrite::Matched;
 use rewrite::Vars;
@@ -28,11 +29,11 @@ ghost use lib.ListN.{length};
 ghost use Rattle.rewrite.specs.Vars.{Sound};
 ghost use Rattle.calls.specs.Engine.{turnedBy, Room, Deconstructs, Constructs, Conditions, Steps, Seeks, CallMatches, Succeeds, AnySucceeds, Applies, Chains, FillsChain, Fills, Finishes, Replaces, Calls};
 
-// What a part's step found, what is open then, the attempts left, and where the next part stands.
+// What a part's step found, what is open then, the state that is left, and where the next part stands.
 pub struct Taken {
     pub verdict: Verdict,
     pub frame: Frame,
-    pub left: u32,
+    pub left: State,
     pub next: usize,
 }
 
@@ -43,25 +44,25 @@ pub enum Found {
     Stopped(u32),
 }
 
-// What a search found, what is open then, the attempts left, and where the rule's replacement stands.
+// What a search found, what is open then, the state that is left, and where the rule's replacement stands.
 pub struct Sought {
     pub found: Found,
     pub frame: Frame,
-    pub left: u32,
+    pub left: State,
     pub next: usize,
 }
 
-// Whether an application of a condition succeeds, and the attempts left.
+// Whether an application of a condition succeeds, and the state that is left.
 pub struct Tested {
     pub verdict: Verdict,
-    pub left: u32,
+    pub left: State,
 }
 
-// A tree that was built: 0 or the number of the stop, its nodes, the attempts left.
+// A tree that was built: 0 or the number of the stop, its nodes, the state that is left.
 pub struct Built {
     pub stop: u32,
     pub nodes: usize,
-    pub left: u32,
+    pub left: State,
 }
 
 // What a chain made of its tree, and where the pairs after the chain begin.
@@ -70,16 +71,16 @@ pub struct Chained {
     pub next: usize,
 }
 
-// What a call left: 0 or the number of the stop, the nodes of its scope, the attempts left, and its replacements.
+// What a call left: 0 or the number of the stop, the nodes of its scope, the state that is left, and its replacements.
 pub struct Called {
     pub stop: u32,
     pub nodes: usize,
-    pub left: u32,
+    pub left: State,
     pub replacements: u32,
 }
 
 // A part's answer, by its parts.
-fn taking(verdict: Verdict, frame: Frame, left: u32, next: usize) -> Taken
+fn taking(verdict: Verdict, frame: Frame, left: State, next: usize) -> Taken
     ensures { λ r. ⌜ r ≡ record { verdict = verdict; frame = frame; left = left; next = next } ⌝ }
 {
     Taken {
@@ -91,7 +92,7 @@ fn taking(verdict: Verdict, frame: Frame, left: u32, next: usize) -> Taken
 }
 
 // A search's answer, by its parts.
-fn seeking(found: Found, frame: Frame, left: u32, next: usize) -> Sought
+fn seeking(found: Found, frame: Frame, left: State, next: usize) -> Sought
     ensures { λ r. ⌜ r ≡ record { found = found; frame = frame; left = left; next = next } ⌝ }
 {
     Sought {
@@ -103,7 +104,7 @@ fn seeking(found: Found, frame: Frame, left: u32, next: usize) -> Sought
 }
 
 // What was built, by its parts.
-fn building(stop: u32, nodes: usize, left: u32) -> Built
+fn building(stop: u32, nodes: usize, left: State) -> Built
     ensures { λ r. ⌜ r ≡ record { stop = stop; nodes = nodes; left = left } ⌝ }
 {
     Built { stop, nodes, left }
@@ -142,7 +143,7 @@ fn after_match(m: Matched, top: usize) -> Frame
 }
 
 // What a match found, as a part's step.
-fn match_taken(m: Matched, top: usize, left: u32, next: usize) -> Taken
+fn match_taken(m: Matched, top: usize, left: State, next: usize) -> Taken
     ensures { λ r. ⌜ r ≡ record { verdict = m .verdict; frame = record { vars = m .vars; live = m .live; top = top }; left = left; next = next } ⌝ }
 {
     let verdict = m.verdict;
@@ -157,7 +158,7 @@ fn deconstruct(
     d: Deconstruct,
     next: usize,
     frame: Frame,
-    left: u32,
+    left: State,
 ) -> Taken
     requires { ⌜ Room (now w) frame ⌝ }
     ensures { λ r. ⌜ Deconstructs (now (book .entry)) (now (w .entry)) d next frame left r ⌝ }
@@ -237,7 +238,7 @@ fn construct(
     next: usize,
     frame: Frame,
     deep: usize,
-    left: u32,
+    left: State,
 ) -> Taken
     requires { ⌜ Room (now w) frame × (1 ≤ types) ⌝ }
     ensures { λ r. ⌜ Constructs (now (heads .entry)) (now (rows .entry)) types (now (book .entry)) (now (starts .entry)) (now (w .entry)) (now (w .exit)) at next frame deep left r ⌝ }
@@ -273,7 +274,7 @@ fn condition(
     next: usize,
     frame: Frame,
     deep: usize,
-    left: u32,
+    left: State,
 ) -> Taken
     requires { ⌜ Room (now w) frame × (1 ≤ types) ⌝ }
     ensures { λ r. ⌜ Conditions (now (heads .entry)) (now (rows .entry)) types (now (book .entry)) (now (starts .entry)) (now (w .entry)) (now (w .exit)) (c .negated) (c .chain) next frame deep left r ⌝ }
@@ -315,7 +316,7 @@ fn step(
     at: usize,
     frame: Frame,
     deep: usize,
-    left: u32,
+    left: State,
 ) -> Taken
     requires { ⌜ Room (now w) frame × (1 ≤ types) ⌝ }
     ensures { λ r. ⌜ Steps (now (heads .entry)) (now (rows .entry)) types (now (book .entry)) (now (starts .entry)) (now (w .entry)) (now (w .exit)) at frame deep left r ⌝ }
@@ -370,7 +371,7 @@ fn seek(
     n: usize,
     frame: Frame,
     deep: usize,
-    left: u32,
+    left: State,
 ) -> Sought
     requires { ⌜ Room (now w) frame × (1 ≤ types) × (plan .count ≤ 8) × (base < 2 ^ 32) × (n ≤ 2048) × (0 < n → base + 2 * n ≤ frame .top) ⌝ }
     ensures { λ r. ⌜ Seeks (now (heads .entry)) (now (rows .entry)) types (now (book .entry)) (now (starts .entry)) (now (w .entry)) (now (w .exit)) plan base n frame deep left r ⌝ }
@@ -400,10 +401,11 @@ fn seek(
             break 'nodes seeking(Found::Nowhere, frame, fuel, 0);
         }
         let p = base + 2 * i;
-        if fuel == 0 {
+        if fuel.attempts == 0 {
             break 'nodes seeking(Found::Stopped(40), frame, fuel, 0);
         }
-        fuel = fuel - 1;
+        let fewer = fuel.attempts - 1;
+        fuel = State { attempts: fewer };
         let vars = now.vars;
         let arena = &w[..frame.top];
         let m = rewrite::match_pattern(pairs, arena, &arena[p..end], p, vars, now.live);
@@ -465,7 +467,7 @@ fn matches(
     n: usize,
     frame: Frame,
     deep: usize,
-    left: u32,
+    left: State,
 ) -> Tested
     requires { ⌜ Sound (frame .vars) × (frame .live ≤ 2 ^ 17) × (frame .top ≤ 2 * frame .live) × (frame .top ≤ 12288) × (16384 ≤ length (now w)) × (1 ≤ types) × (start < 2 ^ 32) × (n ≤ 2048) × (0 < n → start + 2 * n ≤ frame .top) ⌝ }
     ensures { λ r. ⌜ CallMatches (now (heads .entry)) (now (rows .entry)) types (now (book .entry)) (now (starts .entry)) (now (w .entry)) (now (w .exit)) at start n frame deep left r ⌝ }
@@ -498,19 +500,20 @@ fn matches(
         deep,
         left,
     );
+    let now = s.left;
     let found = s.found;
     match found {
         Found::At(_) => Tested {
             verdict: Verdict::Matches,
-            left: s.left,
+            left: now,
         },
         Found::Nowhere => Tested {
             verdict: Verdict::Differs,
-            left: s.left,
+            left: now,
         },
         Found::Stopped(no) => Tested {
             verdict: Verdict::Stops(no),
-            left: s.left,
+            left: now,
         },
     }
 }
@@ -529,7 +532,7 @@ fn succeeds(
     n: usize,
     frame: Frame,
     deep: usize,
-    left: u32,
+    left: State,
 ) -> Tested
     requires { ⌜ Room (now w) frame × (1 ≤ types) × (at < 2 ^ 36) × (start < 2 ^ 32) × (n ≤ 2048) × (0 < n → start + 2 * n ≤ frame .top) ⌝ }
     ensures { λ r. ⌜ Succeeds (now (heads .entry)) (now (rows .entry)) types (now (book .entry)) (now (starts .entry)) (now (w .entry)) (now (w .exit)) (now (pairs .entry)) at start n frame deep left r ⌝ }
@@ -592,7 +595,7 @@ fn any_succeeds(
     n: usize,
     frame: Frame,
     deep: usize,
-    left: u32,
+    left: State,
 ) -> Tested
     requires { ⌜ Room (now w) frame × (1 ≤ types) × (start < 2 ^ 32) × (n ≤ 2048) × (0 < n → start + 2 * n ≤ frame .top) ⌝ }
     ensures { λ r. ⌜ AnySucceeds (now (heads .entry)) (now (rows .entry)) types (now (book .entry)) (now (starts .entry)) (now (w .entry)) (now (w .exit)) (now (pairs .entry)) start n frame deep left r ⌝ }
@@ -652,7 +655,7 @@ fn apply(
     vars: Vars,
     besides: usize,
     deep: usize,
-    left: u32,
+    left: State,
 ) -> Built
     requires { ⌜ Sound vars × (besides + n ≤ 6144) × (base ≤ 2 * besides) × (n ≤ 2048) × (16384 ≤ length (now w)) × (1 ≤ types) × (at < 2 ^ 36) ⌝ }
     ensures { λ r. ⌜ Applies (now (heads .entry)) (now (rows .entry)) types (now (book .entry)) (now (starts .entry)) (now (w .entry)) (now (w .exit)) (now (pairs .entry)) at base n vars besides deep left r ⌝ }
@@ -703,7 +706,7 @@ fn chain(
     vars: Vars,
     besides: usize,
     deep: usize,
-    left: u32,
+    left: State,
 ) -> Chained
     requires { ⌜ Sound vars × (besides + n ≤ 6144) × (base ≤ 2 * besides) × (n ≤ 2048) × (16384 ≤ length (now w)) × (1 ≤ types) × (from ≤ 1024) ⌝ }
     ensures { λ r. ⌜ Chains (now (heads .entry)) (now (rows .entry)) types (now (book .entry)) (now (starts .entry)) (now (w .entry)) (now (w .exit)) (now (pairs .entry)) from base n vars besides deep left r ⌝ }
@@ -754,7 +757,7 @@ fn fill_chain(
     n: usize,
     frame: Frame,
     deep: usize,
-    left: u32,
+    left: State,
 ) -> Chained
     requires { ⌜ Room (now w) frame × (1 ≤ types) × (i ≤ 256) × (frame .live + n ≤ 6144) × (n ≤ 2048) ⌝ }
     ensures { λ r. ⌜ FillsChain (now (heads .entry)) (now (rows .entry)) types (now (book .entry)) (now (starts .entry)) (now (w .entry)) (now (w .exit)) (now (pairs .entry)) i n frame deep left r ⌝ }
@@ -809,7 +812,7 @@ fn fill(
     at: usize,
     frame: Frame,
     deep: usize,
-    left: u32,
+    left: State,
 ) -> Built
     requires { ⌜ Room (now w) frame × (1 ≤ types) ⌝ }
     ensures { λ r. ⌜ Fills (now (heads .entry)) (now (rows .entry)) types (now (book .entry)) (now (starts .entry)) (now (w .entry)) (now (w .exit)) at frame deep left r ⌝ }
@@ -880,7 +883,7 @@ fn finish(
     at: usize,
     frame: Frame,
     deep: usize,
-    left: u32,
+    left: State,
 ) -> Built
     requires { ⌜ Room (now w) frame × (1 ≤ types) ⌝ }
     ensures { λ r. ⌜ Finishes (now (heads .entry)) (now (rows .entry)) types (now (book .entry)) (now (starts .entry)) (now (w .entry)) (now (w .exit)) at frame deep left r ⌝ }
@@ -907,7 +910,7 @@ fn replace(
     i: usize,
     frame: Frame,
     deep: usize,
-    left: u32,
+    left: State,
 ) -> Built
     requires { ⌜ Room (now w) frame × (1 ≤ types) × (i < n) × (n ≤ 2048) × (base + 2 * n ≤ frame .top) ⌝ }
     ensures { λ r. ⌜ Replaces (now (heads .entry)) (now (rows .entry)) types (now (book .entry)) (now (starts .entry)) (now (w .entry)) (now (w .exit)) at base n i frame deep left r ⌝ }
@@ -935,7 +938,7 @@ pub fn call(
     vars: Vars,
     besides: usize,
     deep: usize,
-    left: u32,
+    left: State,
 ) -> Called
     requires { ⌜ Sound vars × (besides ≤ 2 ^ 17) × (base ≤ 2 * besides) × (base ≤ 12288) × (n ≤ 2048) × (16384 ≤ length (now w)) × (1 ≤ types) ⌝ }
     ensures { λ r. ⌜ Calls (now (heads .entry)) (now (rows .entry)) types (now (book .entry)) (now (starts .entry)) (now (w .entry)) (now (w .exit)) at base n vars besides deep left r ⌝ }
@@ -1010,7 +1013,7 @@ pub fn call(
 }
 
 // What a call left, by its parts.
-fn calling(stop: u32, nodes: usize, left: u32, replacements: u32) -> Called
+fn calling(stop: u32, nodes: usize, left: State, replacements: u32) -> Called
     ensures { λ r. ⌜ r ≡ record { stop = stop; nodes = nodes; left = left; replacements = replacements } ⌝ }
 {
     Called {

@@ -16,10 +16,10 @@ abbrev pub any-succeeds-claims : ℕ → any-succeeds-lts.Claims
 any-succeeds-claims t = (chain-count-reads.Asked, chain-count-reads.Learnt, succeeds-below t, succeeds.Post, word-reads.Asked, word-reads.Learnt, wide-reads.Asked, wide-reads.Learnt)
 
 abbrev pub any-succeeds-Inv-loop : any-succeeds-lts.InvT-loop
-any-succeeds-Inv-loop heads rows types book starts w₀ pairs start n frame deep left k₀ at₀ fuel₀ w k at fuel = Trying heads rows types book starts w₀ pairs start n frame deep left w k at fuel
+any-succeeds-Inv-loop heads rows types book starts w₀ pairs start n frame deep k₀ at₀ fuel₀ w k at fuel = Trying heads rows types book starts w₀ pairs start n frame deep fuel₀ w k at fuel
 
 abbrev pub any-succeeds-μ-loop : any-succeeds-lts.MeasureT-loop
-any-succeeds-μ-loop heads rows types book starts w₀ pairs start n frame deep left k₀ at₀ fuel₀ w k at fuel = k
+any-succeeds-μ-loop heads rows types book starts w₀ pairs start n frame deep k₀ at₀ fuel₀ w k at fuel = k
 
 pub any-succeeds-chain-count-requires : (t : ℕ) → any-succeeds-lts.Need-chain-count-requires (any-succeeds-claims t) (any-succeeds-at t) any-succeeds.Post any-succeeds-Inv-loop any-succeeds-μ-loop
 any-succeeds-chain-count-requires t c κs = search needs
@@ -59,10 +59,10 @@ pub any-succeeds-enum-told-3 : (t : ℕ) → any-succeeds-lts.Need-enum-told-3 (
 any-succeeds-enum-told-3 t c = search needs
 
 pub any-succeeds-add-at : (t : ℕ) → any-succeeds-lts.Need-add-at (any-succeeds-claims t) (any-succeeds-at t) any-succeeds.Post any-succeeds-Inv-loop any-succeeds-μ-loop
-any-succeeds-add-at t c = omega (arith, c .before .before .before .before .before .before .before .loop .inv .near)
+any-succeeds-add-at t c = omega (arith, c .before .before .before .before .before .before .before .before .loop .inv .near)
 
 pub any-succeeds-add-word : (t : ℕ) → any-succeeds-lts.Need-add-word (any-succeeds-claims t) (any-succeeds-at t) any-succeeds.Post any-succeeds-Inv-loop any-succeeds-μ-loop
-any-succeeds-add-word t c = omega (arith, c .before .before .before .before .before .before .before .loop .inv .near)
+any-succeeds-add-word t c = omega (arith, c .before .before .before .before .before .before .before .before .loop .inv .near)
 
 pub any-succeeds-word-requires : (t : ℕ) → any-succeeds-lts.Need-word-requires (any-succeeds-claims t) (any-succeeds-at t) any-succeeds.Post any-succeeds-Inv-loop any-succeeds-μ-loop
 any-succeeds-word-requires t c κs = search needs
@@ -74,7 +74,7 @@ pub any-succeeds-mul-at : (t : ℕ) → any-succeeds-lts.Need-mul-at (any-succee
 any-succeeds-mul-at t c = search needs
 
 pub any-succeeds-add-at-2 : (t : ℕ) → any-succeeds-lts.Need-add-at-2 (any-succeeds-claims t) (any-succeeds-at t) any-succeeds.Post any-succeeds-Inv-loop any-succeeds-μ-loop
-any-succeeds-add-at-2 t c = omega (arith, c .before .before .before .before .before .before .before .before .before .loop .inv .near)
+any-succeeds-add-at-2 t c = omega (arith, c .before .before .before .before .before .before .before .before .before .before .loop .inv .near)
 
 pub any-succeeds-sub-k : (t : ℕ) → any-succeeds-lts.Need-sub-k (any-succeeds-claims t) (any-succeeds-at t) any-succeeds.Post any-succeeds-Inv-loop any-succeeds-μ-loop
 any-succeeds-sub-k t c = search needs
@@ -83,9 +83,9 @@ pub any-succeeds-loop-less : (t : ℕ) → any-succeeds-lts.Need-loop-less (any-
 any-succeeds-loop-less t c = omega arith
 
 pub any-succeeds-loop-again : (t : ℕ) → any-succeeds-lts.Need-loop-again (any-succeeds-claims t) (any-succeeds-at t) any-succeeds.Post any-succeeds-Inv-loop any-succeeds-μ-loop
-any-succeeds-loop-again t c = let a = c .before .before .before .before .before .before .before .before .before .before .before .before .before .before .args in
+any-succeeds-loop-again t c = let a = c .before .before .before .before .before .before .before .before .before .before .before .before .before .before .before .args in
     trying-more (a .heads .now) (a .rows .now) (a .types) (a .book .now) (a .starts .now) (a .w .now) (a .pairs .now) (a .start) (a .n) (a .frame) (a .deep) (a .left)
-    _ _ _ _ (c .before .before .before .before .before .before .before .before .before .loop .inv) (c .before .before .before .before .before .before .before .before .loop-test .taken) (c .before .before .before .before .before .before .succeeds .last .1 .1 .1 .1 .1 .0) (c .before .before .before .before .before .before .succeeds .result) (c .before .before .before .before .before .before .succeeds .ensures) (c .before .before .enum-told3 .given .1) (c .wide .result) (c .wide .ensures ∙ c .before .word .ensures) (omega arith)
+    _ _ _ _ (c .before .before .before .before .before .before .before .before .before .before .loop .inv) (c .before .before .before .before .before .before .before .before .before .loop-test .taken) (c .before .before .before .before .before .before .before .succeeds .last .1 .1 .1 .1 .1 .0) (c .before .before .before .before .before .before .before .succeeds .result) (c .before .before .before .before .before .before .before .succeeds .ensures) (c .before .before .before .enum-told3 .given .1) (c .wide .result) (c .wide .ensures ∙ c .before .word .ensures) (omega arith)
 
 pub any-succeeds-same-length-3 : (t : ℕ) → any-succeeds-lts.Need-same-length-3 (any-succeeds-claims t) (any-succeeds-at t) any-succeeds.Post any-succeeds-Inv-loop any-succeeds-μ-loop
 any-succeeds-same-length-3 t c = c .before .loop .inv .long

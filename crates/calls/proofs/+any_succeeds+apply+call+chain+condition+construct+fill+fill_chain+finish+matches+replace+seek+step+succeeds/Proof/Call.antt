@@ -1,5 +1,5 @@
 -- The parts of the proof that `calls::call` meets its contract. Assumes nothing.
-use Prim.Native.Nat.{ℕ}
+use Prim.Native.Nat.{ℕ, _<_}
 use native.Mathlib.Omega.{arith}
 use borrow.Author.Needs.{needs}
 use Rattle.calls.proofs.Rounds.{Calling, Searched, Placed, calling-start, calls-over, searched, placed}
@@ -16,11 +16,11 @@ abbrev pub call-claims : ℕ → call-lts.Claims
 call-claims t = (plan-of-reads.Asked, plan-of-reads.Learnt, again-reads.Asked, again-reads.Learnt, calling-reads.Asked, calling-reads.Learnt, seek-below t, seek.Post, replace-below t, replace.Post)
 
 abbrev pub call-Inv-loop : call-lts.InvT-loop
-call-Inv-loop heads rows types book starts w₀ at base n vars besides deep left plan repeats nodes₀ fuel₀ count₀ w nodes fuel count =
-    Calling heads rows types book starts w₀ at base n vars besides deep left w nodes fuel count
+call-Inv-loop heads rows types book starts w₀ at base n vars besides deep plan repeats nodes₀ fuel₀ count₀ w nodes fuel count =
+    Calling heads rows types book starts w₀ at base n vars besides deep fuel₀ w nodes fuel count
 
 abbrev pub call-μ-loop : call-lts.MeasureT-loop
-call-μ-loop heads rows types book starts w₀ at base n vars besides deep left plan repeats nodes₀ fuel₀ count₀ w nodes fuel count = fuel
+call-μ-loop heads rows types book starts w₀ at base n vars besides deep plan repeats nodes₀ fuel₀ count₀ w nodes fuel count = fuel .attempts
 
 pub call-plan-of-requires : (t : ℕ) → call-lts.Need-plan-of-requires (call-claims t) (call-at t) call.Post call-Inv-loop call-μ-loop
 call-plan-of-requires t c κs = search needs
@@ -125,21 +125,21 @@ call-returns-4 t c = call-placed t (c .before .before .before .before .before) .
 
 pub call-add-count : (t : ℕ) → call-lts.Need-add-count (call-claims t) (call-at t) call.Post call-Inv-loop call-μ-loop
 call-add-count t c =
-    let h = call-placed t (c .before .before .before .before) .counted in
-    let l = c .before .before .before .before .before .before .before .before .before .before .before .before .before .before .before .before .before .before .before .before .fits .left in
+    let h = call-placed t (c .before .before .before .before .before) .counted in
+    let l : c .before .before .before .before .before .before .before .before .before .before .before .before .before .before .before .before .before .before .before .before .before .args .left .attempts < 4294967296 = search (needs, c .before .before .before .before .before .before .before .before .before .before .before .before .before .before .before .before .before .before .before .before .before .good) in
     omega arith
 
 pub call-calling-requires-5 : (t : ℕ) → call-lts.Need-calling-requires-5 (call-claims t) (call-at t) call.Post call-Inv-loop call-μ-loop
 call-calling-requires-5 t c κs = search needs
 
 pub call-same-length-5 : (t : ℕ) → call-lts.Need-same-length-5 (call-claims t) (call-at t) call.Post call-Inv-loop call-μ-loop
-call-same-length-5 t c = call-placed t (c .before .before .before .before .before .before) .long
+call-same-length-5 t c = call-placed t (c .before .before .before .before .before .before .before) .long
 
 pub call-returns-5 : (t : ℕ) → call-lts.Need-returns-5 (call-claims t) (call-at t) call.Post call-Inv-loop call-μ-loop
-call-returns-5 t c = call-placed t (c .before .before .before .before .before .before) .last (c .calling5 .result) (c .before .before .if2 .left) (c .before .if3 .taken) (c .calling5 .ensures)
+call-returns-5 t c = call-placed t (c .before .before .before .before .before .before .before) .last (c .calling5 .result) (c .before .before .before .if2 .left) (c .before .if3 .taken) (c .calling5 .ensures)
 
 pub call-loop-less : (t : ℕ) → call-lts.Need-loop-less (call-claims t) (call-at t) call.Post call-Inv-loop call-μ-loop
-call-loop-less t c = call-placed t (c .before .before .before .before .before) .spent
+call-loop-less t c = call-placed t (c .before .before .before .before .before .before) .spent
 
 pub call-loop-again : (t : ℕ) → call-lts.Need-loop-again (call-claims t) (call-at t) call.Post call-Inv-loop call-μ-loop
-call-loop-again t c = call-placed t (c .before .before .before .before .before) .again (c .before .if2 .left) (c .if3 .left)
+call-loop-again t c = call-placed t (c .before .before .before .before .before .before) .again (c .before .before .if2 .left) (c .if3 .left)

@@ -17,10 +17,10 @@ abbrev pub chain-claims : ℕ → chain-lts.Claims
 chain-claims t = (chain-count-reads.Asked, chain-count-reads.Learnt, apply-below t, apply.Post, word-reads.Asked, word-reads.Learnt, wide-reads.Asked, wide-reads.Learnt, building-reads.Asked, building-reads.Learnt)
 
 abbrev pub chain-Inv-loop : chain-lts.InvT-loop
-chain-Inv-loop heads rows types book starts w₀ pairs from base n vars besides deep left k₀ at₀ fuel₀ nodes₀ w k at fuel nodes = Chaining heads rows types book starts w₀ pairs from base n vars besides deep left w k at fuel nodes
+chain-Inv-loop heads rows types book starts w₀ pairs from base n vars besides deep k₀ at₀ fuel₀ nodes₀ w k at fuel nodes = Chaining heads rows types book starts w₀ pairs from base n vars besides deep fuel₀ w k at fuel nodes
 
 abbrev pub chain-μ-loop : chain-lts.MeasureT-loop
-chain-μ-loop heads rows types book starts w₀ pairs from base n vars besides deep left k₀ at₀ fuel₀ nodes₀ w k at fuel nodes = k
+chain-μ-loop heads rows types book starts w₀ pairs from base n vars besides deep k₀ at₀ fuel₀ nodes₀ w k at fuel nodes = k
 
 pub chain-chain-count-requires : (t : ℕ) → chain-lts.Need-chain-count-requires (chain-claims t) (chain-at t) chain.Post chain-Inv-loop chain-μ-loop
 chain-chain-count-requires t c κs = search needs
@@ -46,10 +46,10 @@ chain-returns t c = let a = c .before .before .before .before .before .before .b
     _ _ _ _ _ (c .before .before .before .before .before .before .before .loop .inv) (c .before .before .before .before .before .before .loop-test .taken) (c .before .before .before .before .apply .last .1 .1 .1 .1 .1 .0) (c .before .before .before .before .apply .result) (c .before .before .before .before .apply .ensures) (c .if1 .taken)
 
 pub chain-add-at-2 : (t : ℕ) → chain-lts.Need-add-at-2 (chain-claims t) (chain-at t) chain.Post chain-Inv-loop chain-μ-loop
-chain-add-at-2 t c = omega (arith, c .before .before .before .before .before .before .before .loop .inv .near)
+chain-add-at-2 t c = omega (arith, c .before .before .before .before .before .before .before .before .loop .inv .near)
 
 pub chain-add-word : (t : ℕ) → chain-lts.Need-add-word (chain-claims t) (chain-at t) chain.Post chain-Inv-loop chain-μ-loop
-chain-add-word t c = omega (arith, c .before .before .before .before .before .before .before .loop .inv .near)
+chain-add-word t c = omega (arith, c .before .before .before .before .before .before .before .before .loop .inv .near)
 
 pub chain-word-requires : (t : ℕ) → chain-lts.Need-word-requires (chain-claims t) (chain-at t) chain.Post chain-Inv-loop chain-μ-loop
 chain-word-requires t c κs = search needs
@@ -61,7 +61,7 @@ pub chain-mul-at : (t : ℕ) → chain-lts.Need-mul-at (chain-claims t) (chain-a
 chain-mul-at t c = search needs
 
 pub chain-add-at-3 : (t : ℕ) → chain-lts.Need-add-at-3 (chain-claims t) (chain-at t) chain.Post chain-Inv-loop chain-μ-loop
-chain-add-at-3 t c = omega (arith, c .before .before .before .before .before .before .before .before .before .loop .inv .near)
+chain-add-at-3 t c = omega (arith, c .before .before .before .before .before .before .before .before .before .before .loop .inv .near)
 
 pub chain-sub-k : (t : ℕ) → chain-lts.Need-sub-k (chain-claims t) (chain-at t) chain.Post chain-Inv-loop chain-μ-loop
 chain-sub-k t c = search needs
@@ -70,9 +70,9 @@ pub chain-loop-less : (t : ℕ) → chain-lts.Need-loop-less (chain-claims t) (c
 chain-loop-less t c = omega arith
 
 pub chain-loop-again : (t : ℕ) → chain-lts.Need-loop-again (chain-claims t) (chain-at t) chain.Post chain-Inv-loop chain-μ-loop
-chain-loop-again t c = let a = c .before .before .before .before .before .before .before .before .before .before .before .before .before .before .args in
+chain-loop-again t c = let a = c .before .before .before .before .before .before .before .before .before .before .before .before .before .before .before .args in
     chaining-more (a .heads .now) (a .rows .now) (a .types) (a .book .now) (a .starts .now) (a .w .now) (a .pairs .now) (a .from) (a .base) (a .n) (a .vars) (a .besides) (a .deep) (a .left)
-    _ _ _ _ _ (c .before .before .before .before .before .before .before .before .before .loop .inv) (c .before .before .before .before .before .before .before .before .loop-test .taken) (c .before .before .before .before .before .before .apply .last .1 .1 .1 .1 .1 .0) (c .before .before .before .before .before .before .apply .result) (c .before .before .before .before .before .before .apply .ensures) (c .before .before .if1 .left) (c .wide .result) (c .wide .ensures ∙ c .before .word .ensures) (omega arith)
+    _ _ _ _ _ (c .before .before .before .before .before .before .before .before .before .before .loop .inv) (c .before .before .before .before .before .before .before .before .before .loop-test .taken) (c .before .before .before .before .before .before .before .apply .last .1 .1 .1 .1 .1 .0) (c .before .before .before .before .before .before .before .apply .result) (c .before .before .before .before .before .before .before .apply .ensures) (c .before .before .before .if1 .left) (c .wide .result) (c .wide .ensures ∙ c .before .word .ensures) (omega arith)
 
 pub chain-building-requires : (t : ℕ) → chain-lts.Need-building-requires (chain-claims t) (chain-at t) chain.Post chain-Inv-loop chain-μ-loop
 chain-building-requires t c κs = search needs

@@ -21,10 +21,10 @@ abbrev pub fill-claims : ℕ → fill-lts.Claims
 fill-claims t = (pairs-of-reads.Asked, pairs-of-reads.Learnt, fill-chain-below t, fill-chain.Post, start-of-reads.Asked, start-of-reads.Learnt, nodes-at-reads.Asked, nodes-at-reads.Learnt, over-reads.Asked, over-reads.Learnt, building-reads.Asked, building-reads.Learnt, push-tree-reads.Asked, push-tree-reads.Learnt, push-node-reads.Asked, push-node-reads.Learnt)
 
 abbrev pub fill-Inv-loop : fill-lts.InvT-loop
-fill-Inv-loop heads rows types book starts w₀ at frame deep left pairs vars top live fuel₀ n₀ i₀ w fuel n i = Filling heads rows types book starts w₀ pairs frame deep left w fuel n i
+fill-Inv-loop heads rows types book starts w₀ at frame deep pairs vars top live fuel₀ n₀ i₀ w fuel n i = Filling heads rows types book starts w₀ pairs frame deep fuel₀ w fuel n i
 
 abbrev pub fill-μ-loop : fill-lts.MeasureT-loop
-fill-μ-loop heads rows types book starts w₀ at frame deep left pairs vars top live fuel₀ n₀ i₀ w fuel n i = length pairs - i
+fill-μ-loop heads rows types book starts w₀ at frame deep pairs vars top live fuel₀ n₀ i₀ w fuel n i = length pairs - i
 
 pub fill-pairs-of-requires : (t : ℕ) → fill-lts.Need-pairs-of-requires (fill-claims t) (fill-at t) fill.Post fill-Inv-loop fill-μ-loop
 fill-pairs-of-requires t c κs = search needs
@@ -65,13 +65,13 @@ fill-returns t c =
     filling-chain-stops (a .heads .now) (a .rows .now) (a .types) (a .book .now) (a .starts .now) (a .w .now) (c .before .before .before .before .before .before .before .before .before .before .before .before .before .pairs-of .result .now) (a .frame) (a .deep) (a .left) (c .before .before .before .before .before .before .before .before .before .before .before .before .before .before .before .before .pre .1 .0) (l .w) (l .fuel) (l .n) (l .i) (l .inv) (c .before .before .before .before .before .before .before .before .before .before .loop-test .taken) (c .before .before .before .before .before .before .before .before .before .before .before .before .before .pairs-of .ensures .1) (c .before .before .before .before .before .before .before .if1 .taken) (c .before .before .before .before .before .fill-chain .last .1 .1 .1 .1 .1 .0) (c .before .before .before .before .before .fill-chain .result) (c .before .before .before .before .before .fill-chain .ensures) (c .if2 .taken) (a .at) (c .before .before .before .before .before .before .before .before .before .before .before .before .before .pairs-of .ensures .0)
 
 pub fill-loop-less : (t : ℕ) → fill-lts.Need-loop-less (fill-claims t) (fill-at t) fill.Post fill-Inv-loop fill-μ-loop
-fill-loop-less t c = omega (arith, c .before .before .before .before .before .fill-chain .ensures .next-is (c .if2 .left), c .before .before .before .before .before .before .before .before .before .before .loop-test .taken)
+fill-loop-less t c = omega (arith, c .before .before .before .before .before .before .fill-chain .ensures .next-is (c .before .if2 .left), c .before .before .before .before .before .before .before .before .before .before .before .loop-test .taken)
 
 pub fill-loop-again : (t : ℕ) → fill-lts.Need-loop-again (fill-claims t) (fill-at t) fill.Post fill-Inv-loop fill-μ-loop
 fill-loop-again t c =
-    let a = c .before .before .before .before .before .before .before .before .before .before .before .before .before .before .before .before .args in
-    let l = c .before .before .before .before .before .before .before .before .before .before .before .loop in
-    filling-chain (a .heads .now) (a .rows .now) (a .types) (a .book .now) (a .starts .now) (a .w .now) (c .before .before .before .before .before .before .before .before .before .before .before .before .before .pairs-of .result .now) (a .frame) (a .deep) (a .left) (c .before .before .before .before .before .before .before .before .before .before .before .before .before .before .before .before .pre .1 .0) (l .w) (l .fuel) (l .n) (l .i) (l .inv) (c .before .before .before .before .before .before .before .before .before .before .loop-test .taken) (c .before .before .before .before .before .before .before .before .before .before .before .before .before .pairs-of .ensures .1) (c .before .before .before .before .before .before .before .if1 .taken) (c .before .before .before .before .before .fill-chain .last .1 .1 .1 .1 .1 .0) (c .before .before .before .before .before .fill-chain .result) (c .before .before .before .before .before .fill-chain .ensures) (c .if2 .left)
+    let a = c .before .before .before .before .before .before .before .before .before .before .before .before .before .before .before .before .before .args in
+    let l = c .before .before .before .before .before .before .before .before .before .before .before .before .loop in
+    filling-chain (a .heads .now) (a .rows .now) (a .types) (a .book .now) (a .starts .now) (a .w .now) (c .before .before .before .before .before .before .before .before .before .before .before .before .before .before .pairs-of .result .now) (a .frame) (a .deep) (a .left) (c .before .before .before .before .before .before .before .before .before .before .before .before .before .before .before .before .before .pre .1 .0) (l .w) (l .fuel) (l .n) (l .i) (l .inv) (c .before .before .before .before .before .before .before .before .before .before .before .loop-test .taken) (c .before .before .before .before .before .before .before .before .before .before .before .before .before .before .pairs-of .ensures .1) (c .before .before .before .before .before .before .before .before .if1 .taken) (c .before .before .before .before .before .before .fill-chain .last .1 .1 .1 .1 .1 .0) (c .before .before .before .before .before .before .fill-chain .result) (c .before .before .before .before .before .before .fill-chain .ensures) (c .before .if2 .left)
 
 pub fill-start-of-requires : (t : ℕ) → fill-lts.Need-start-of-requires (fill-claims t) (fill-at t) fill.Post fill-Inv-loop fill-μ-loop
 fill-start-of-requires t c κs = search needs

@@ -48,16 +48,16 @@ pub matches-same-length : (t : ℕ) → matches-lts.Need-same-length (matches-cl
 matches-same-length t c = search needs
 
 pub matches-returns-2 : (t : ℕ) → matches-lts.Need-returns-2 (matches-claims t) (matches-at t) matches.Post
-matches-returns-2 t c = matches-sought t (c .before .before .before .before) _ (ap foundVerdict (c .enum-told .given .1))
+matches-returns-2 t c = matches-sought t (c .before .before .before .before .before) _ (ap foundVerdict (c .enum-told .given .1))
 
 pub matches-same-length-2 : (t : ℕ) → matches-lts.Need-same-length-2 (matches-claims t) (matches-at t) matches.Post
 matches-same-length-2 t c = search needs
 
 pub matches-returns-3 : (t : ℕ) → matches-lts.Need-returns-3 (matches-claims t) (matches-at t) matches.Post
-matches-returns-3 t c = matches-sought t (c .before .before .before .before) _ (ap foundVerdict (c .enum-told2 .given .1))
+matches-returns-3 t c = matches-sought t (c .before .before .before .before .before) _ (ap foundVerdict (c .enum-told2 .given .1))
 
 pub matches-same-length-3 : (t : ℕ) → matches-lts.Need-same-length-3 (matches-claims t) (matches-at t) matches.Post
 matches-same-length-3 t c = search needs
 
 pub matches-returns-4 : (t : ℕ) → matches-lts.Need-returns-4 (matches-claims t) (matches-at t) matches.Post
-matches-returns-4 t c = matches-sought t (c .before .before .before .before .before) _ (ap foundVerdict (c .before .found .given .1))
+matches-returns-4 t c = matches-sought t (c .before .before .before .before .before .before) _ (ap foundVerdict (c .before .found .given .1))
