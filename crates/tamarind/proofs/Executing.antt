@@ -15,6 +15,8 @@ use Rattle.rules.specs.Rules.{Rules}
 use Rattle.rules.specs.Layout.{rule}
 use Rattle.typing.specs.Views.{positions}
 use Rattle.typing.proofs.Check.{grammar-types, layout-starts, read-laid, read-placed}
+use Rattle.meaning.specs.declared.State.{State}
+use Rattle.meaning.specs.Computation.{initial}
 use Rattle.meaning.specs.Meaning as M
 use Rattle.meaning.specs.Meaning.{Ending, done, stopped, cannotGoOn, total, calls, runFrom, run}
 use Rattle.meaning.specs.Outcome.{Inputs, ended, endedAs, outcomeOf, outcome, resultAfter, workAfter, filledBy}
@@ -44,11 +46,11 @@ module _ (c : Called) (budget filled : ℕ) where
   ended-stopped zero e z h = absurd (z refl)
   ended-stopped (suc n) e z h = h
 
-  pub answered-done : c .stop ≡ 0 → Answered c budget filled (Done (record { attempts = budget - c .left; replacements = c .replacements; filled = filled }))
-  answered-done z = record { says = λ e result h well. ap (λ i. ended i (budget - c .left) (c .replacements) (take filled result)) (sym (ended-done (c .stop) e z h)); filled-is = refl }
+  pub answered-done : c .stop ≡ 0 → Answered c budget filled (Done (record { attempts = budget - c .left .attempts; replacements = c .replacements; filled = filled }))
+  answered-done z = record { says = λ e result h well. ap (λ i. ended i (budget - c .left .attempts) (c .replacements) (take filled result)) (sym (ended-done (c .stop) e z h)); filled-is = refl }
 
-  pub answered-stopped : {s : Stop} → (c .stop ≡ 0 → ⊥) → Named (c .stop) s → Answered c budget filled (Stopped s (record { attempts = budget - c .left; replacements = c .replacements; filled = filled }))
-  answered-stopped {s} z name = record { says = λ e result h well. ap (λ i. ended i (budget - c .left) (c .replacements) (take filled result)) (ending e h well); filled-is = refl }
+  pub answered-stopped : {s : Stop} → (c .stop ≡ 0 → ⊥) → Named (c .stop) s → Answered c budget filled (Stopped s (record { attempts = budget - c .left .attempts; replacements = c .replacements; filled = filled }))
+  answered-stopped {s} z name = record { says = λ e result h well. ap (λ i. ended i (budget - c .left .attempts) (c .replacements) (take filled result)) (ending e h well); filled-is = refl }
     where
       ending : (e : Ending) → EndedAs (c .stop) e → WellEnded e → stopped (numberOf s) ≡ e
       ending e h well =
@@ -117,15 +119,15 @@ module _ (x : Inputs) (result work heads rows : Words) (a : Accepted x (length r
         setting = record { tables = a .tables; few = omega (arith, types-are .0, a .tables .rows-of .types); placed = read-placed g types (x .rules) rules (all .n) (types-are .0) (all .rules) en es }
 
         -- THE FIRST CALL is the strict run
-        module _ {w w′ : Words} (l : Laid heads rows (x .tree) work w) {vars : Vars} (none : vars .n ≡ 0) (c : Called) (k : Calls heads rows types (x .rules) starts w w′ main 0 (length (x .tree) / 2) vars 0 31 (x .budget) c) where
+        module _ {w w′ : Words} (l : Laid heads rows (x .tree) work w) {vars : Vars} (none : vars .n ≡ 0) (c : Called) (k : Calls heads rows types (x .rules) starts w w′ main 0 (length (x .tree) / 2) vars 0 31 (initial (x .budget)) c) where
           left : Left heads rows types (x .rules) starts w w′ g 0 c meant
           unfolding run runFrom total
           left =
               let typed = read-typed (length result) (length work) x (a .with) all in
               let p = setting .placed 0 (typed .first) (typed .there) .1 in
-              let same : meant ≡ M.call true g rules (calls true g rules 31) (typed .first) [] (x .tree) 0 (x .budget) = rw (typed .there) in
+              let same : meant ≡ M.call true g rules (calls true g rules 31) (typed .first) [] (x .tree) 0 (initial (x .budget)) = rw (typed .there) in
               let at : rule types (x .rules) main ≡ _ = ap (rule types (x .rules)) em ∙ p .1 in
-              let fine : M.call true g rules (calls true g rules 31) (typed .first) [] (x .tree) 0 (x .budget) .ending ≡ cannotGoOn → ⊥ = never-stuck _ (rw same at (sound .ends)) in
+              let fine : M.call true g rules (calls true g rules 31) (typed .first) [] (x .tree) 0 (initial (x .budget)) .ending ≡ cannotGoOn → ⊥ = never-stuck _ (rw same at (sound .ends)) in
               rw same (k .meant g rules (typed .first) (p .0) [] (x .tree) 0 setting at (no-variables g (take 0 w) vars none) refl (0, l .stands g 0 (a .tables) tree) fine .1)
 
           pub call-long : length w′ ≡ length work

@@ -11,6 +11,7 @@ use Rattle.tables.specs.Tables.{Tables, readOf}
 use Rattle.tree.specs.Tree.{Tree}
 use Rattle.tree.specs.Reading.{readTree}
 use Rattle.judgement.specs.Typing.{readRules}
+use Rattle.meaning.specs.declared.State.{State}
 use Rattle.meaning.specs.Meaning.{Ending, done, stopped}
 use Rattle.meaning.specs.Sound.{WellEnded}
 use Rattle.meaning.specs.Outcome.{Inputs, Outcome, refused, ended, Decoded, decode, filledBy}
@@ -105,7 +106,7 @@ pub record Laid (heads rows tree w w′ : Words) : Type 0 where
 
 -- the answer says how the first call ended, and what it counted
 pub record Answered (c : Called) (budget filled : ℕ) (r : Code.Outcome) : Type 0 where
-  pub says : (e : Ending) (result : Words) → EndedAs (c .stop) e → WellEnded e → said r result ≡ ended e (budget - c .left) (c .replacements) (take filled result)
+  pub says : (e : Ending) (result : Words) → EndedAs (c .stop) e → WellEnded e → said r result ≡ ended e (budget - c .left .attempts) (c .replacements) (take filled result)
   pub filled-is : filledOf r ≡ filled
 
 -- nothing is refused, and these are the grammar's tables

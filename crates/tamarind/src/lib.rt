@@ -1,5 +1,6 @@
 // The product's face: the callable functions, and their exports for C and Rust.
 use calls::Called;
+use meaning::State;
 use rewrite::Vars;
 use tables::HEADS;
 use tables::ROWS;
@@ -203,11 +204,12 @@ fn lay_tree(heads: &[u32; HEADS], rows: &[u8; ROWS], tree: &[u32], work: &mut [u
 
 // The answer that the first call gives, with so many words filled.
 fn answer_of(c: Called, budget: u32, filled: usize) -> Outcome
-    requires { ⌜ c .left ≤ budget ⌝ }
+    requires { ⌜ c .left .attempts ≤ budget ⌝ }
     ensures { λ r. ⌜ Answered c budget filled r ⌝ }
 {
+    let left = c.left;
     let counts = Counts {
-        attempts: budget - c.left,
+        attempts: budget - left.attempts,
         replacements: c.replacements,
         filled,
     };
@@ -246,6 +248,7 @@ fn execute(
     let main = rules::rule_at(&starts, 0);
     let vars = no_variables();
     lay_tree(heads, rows, tree, work);
+    let left = State { attempts: budget };
     let c = calls::call(
         heads,
         rows,
@@ -259,7 +262,7 @@ fn execute(
         vars,
         0,
         MOST_CALLS - 1,
-        budget,
+        left,
     );
     let filled = 2 * c.nodes;
     let scope = &work[..];
