@@ -17,7 +17,6 @@ use Rattle.judgement.specs.Typing.{readRules}
 use Rattle.judgement.specs.WellTyped.{WellTyped}
 use Rattle.judgement.proofs.Exactly.{passes-exactly}
 use Rattle.meaning.specs.Limits.{leastResult, leastWork}
-use Rattle.meaning.specs.declared.State.{State}
 use Rattle.meaning.specs.Meaning.{Called, run}
 use Rattle.meaning.specs.Outcome.{Inputs, Decoded, callFits, decode, endedAs, outcomeOf, outcome}
 use Rattle.meaning.specs.Runs.{Went, Sure}

@@ -5,4 +5,5 @@ pub mod Level
 pub mod Sound
 pub mod FromWords
 pub mod Runs
+pub mod Related
 pub mod Numbered

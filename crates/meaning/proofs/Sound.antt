@@ -9,7 +9,6 @@ use Rattle.grammar.specs.Grammar.{Grammar}
 use Rattle.rules.specs.Rules.{Rules}
 use Rattle.judgement.specs.WellTyped.{Types, WellTyped}
 use Rattle.meaning.specs.Limits.{mostCalls}
-use Rattle.meaning.specs.declared.State.{State}
 use Rattle.meaning.specs.Computation.{initial}
 use Rattle.meaning.specs.Meaning.{calls, runFrom, run}
 use Rattle.meaning.specs.Sound.{Soundness}

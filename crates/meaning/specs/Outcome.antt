@@ -13,7 +13,6 @@ use Rattle.rules.specs.Rules.{Rules}
 use Rattle.rules.specs.Layout.{rulesFit}
 use Rattle.judgement.specs.Typing.{readRules}
 use Rattle.meaning.specs.Limits.{mostBudget, leastResult, leastWork}
-use Rattle.meaning.specs.declared.State.{State}
 use Rattle.meaning.specs.Meaning.{Ending, done, stopped, cannotGoOn, Called, run}
 
 -- what a run brings: "a budget and a grammar, book and slip"

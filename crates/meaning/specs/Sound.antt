@@ -7,7 +7,6 @@ use Rattle.grammar.specs.Grammar.{Grammar}
 use Rattle.tree.specs.Tree.{Tree}
 use Rattle.rules.specs.Rules.{Rules}
 use Rattle.judgement.specs.WellTyped.{WellTyped}
-use Rattle.meaning.specs.declared.State.{State}
 use Rattle.meaning.specs.Meaning.{Ending, done, stopped, cannotGoOn, Called, run}
 
 -- "the end or a stop 40 to 45", never stuck

@@ -15,7 +15,6 @@ use Rattle.rules.specs.Rules.{Rules}
 use Rattle.rules.specs.Layout.{rule}
 use Rattle.typing.specs.Views.{positions}
 use Rattle.typing.proofs.Check.{grammar-types, layout-starts, read-laid, read-placed}
-use Rattle.meaning.specs.declared.State.{State}
 use Rattle.meaning.specs.Computation.{initial}
 use Rattle.meaning.specs.Meaning as M
 use Rattle.meaning.specs.Meaning.{Ending, done, stopped, cannotGoOn, total, calls, runFrom, run}

@@ -11,7 +11,6 @@ use Rattle.tables.specs.Tables.{Tables, readOf}
 use Rattle.tree.specs.Tree.{Tree}
 use Rattle.tree.specs.Reading.{readTree}
 use Rattle.judgement.specs.Typing.{readRules}
-use Rattle.meaning.specs.declared.State.{State}
 use Rattle.meaning.specs.Meaning.{Ending, done, stopped}
 use Rattle.meaning.specs.Sound.{WellEnded}
 use Rattle.meaning.specs.Outcome.{Inputs, Outcome, refused, ended, Decoded, decode, filledBy}
