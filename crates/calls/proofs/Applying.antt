@@ -26,7 +26,7 @@ use Rattle.rewrite.specs.Vars.{EnvAt, startsOf, startAt, Sound}
 use Rattle.rewrite.specs.declared.Vars.{Vars}
 use Rattle.rewrite.specs.Arena.{Standing, Gathered, ComputedAs, Computed}
 use Rattle.rules.specs.Views.{chainCount}
-use Rattle.calls.specs.Engine.{Sure, Says, EndedAs, Tree, Setting, applyAt, chainAt, Applies, Chains, Calls}
+use Rattle.calls.specs.Engine.{Sure, Says, EndedAs, Tree, Given, Setting, applyAt, chainAt, Applies, Chains, Calls}
 use Rattle.rewrite.specs.declared.arena.Args.{Args}
 use Rattle.calls.specs.declared.Built.{Built}
 use Rattle.calls.specs.declared.Called.{Called}
@@ -101,9 +101,9 @@ computed-says g w w′ base n t scope k x o a bs left zero z = (
 )
 computed-says g w w′ base n t scope k x o a bs left (suc j) z = (ap (take base) (z .1), then-stop (compute o a bs left) (λ v. return (withValue scope v)) (suc j) left (z .0))
 
-module _ (heads rows : Words) (types : ℕ) (book starts w pairs : Words) (at base n : ℕ) (vars : Vars) (besides deep : ℕ) (left : State) (few : n ≤ mostNodes) (fits : besides + n ≤ mostLive) where
+module _ (given : Given) (w pairs : Words) (at base n : ℕ) (vars : Vars) (besides deep : ℕ) (left : State) (few : n ≤ mostNodes) (fits : besides + n ≤ mostLive) where
   abbrev Done : Words → Built → Type 0
-  Done w′ r = Applies heads rows types book starts w w′ pairs at base n vars besides deep left r
+  Done w′ r = Applies given w w′ pairs at base n vars besides deep left r
 
   abbrev Run : Grammar → Rules.Rules → Env → Words → Result Words
   Run g rules env scope = applyAt deep pairs at g rules env scope besides left
@@ -131,8 +131,8 @@ module _ (heads rows : Words) (types : ℕ) (book starts w pairs : Words) (at ba
             (refl, q .same ∙ rewrites-none g rules (q .rule) (q .args) scope besides left deep d);
       })
 
-      pub apply-called : (deep ≡ 0 → ⊥) → (args : Args) → Gathered w pairs (at + 2) k vars args → (start : ℕ) → (a < 64 → start ≡ getD starts a 0) → (w′ : Words) (c : Called)
-          → Calls heads rows types book starts w w′ start base n (args .vars) (besides + args .total) (deep - 1) left c
+      pub apply-called : (deep ≡ 0 → ⊥) → (args : Args) → Gathered w pairs (at + 2) k vars args → (start : ℕ) → (a < 64 → start ≡ getD (given .starts) a 0) → (w′ : Words) (c : Called)
+          → Calls given w w′ start base n (args .vars) (besides + args .total) (deep - 1) left c
           → (r : Built) → r ≡ record { stop = c .stop; nodes = c .nodes; left = c .left } → Done w′ r
       apply-called d args ga start es w′ c cs r e = rw e (record {
         few = cs .few;
@@ -146,11 +146,11 @@ module _ (heads rows : Words) (types : ℕ) (book starts w pairs : Words) (at ba
             let run : Run g rules env scope ≡ resultOf m = q .same ∙ rewrites-call g rules (q .rule) (q .args) scope besides left deep d in
             let goes = result-sure m (sure-as run s) in
             let b = begin-sure g (q .rule) (q .args) scope besides left (call-begins g rules (calls true g rules (deep - 1)) (q .rule) (q .args) scope besides left goes) in
-            let f = rule-few types book (getD starts (getD pairs at 0) 0) (q .rule) (p .1 .0) (p .1 .1) in
+            let f = rule-few (given .types) (given .book) (getD (given .starts) (getD pairs at 0) 0) (q .rule) (p .1 .0) (p .1 .1) in
             let held = ga .stands g base env (q .args) left (st .tables .heads-of .types) env-at (omega (arith, f, b .0, q .many, arguments-length (getD pairs (at + 1) 0) (drop (at + 2) pairs)))
             (subst (λ j. variables env (arguments j (drop (at + 2) pairs)) left ≡ ok (q .args) left) (sym ek) (q .read)) in
-            let place : start ≡ getD starts (getD pairs at 0) 0 = es (omega (arith, p .0)) ∙ ap (λ j. getD starts j 0) ea in
-            let z = cs .meant g rules (q .rule) (p .1 .0) (q .args) scope besides st (ap (Layout.rule types book) place ∙ p .1 .1) (held .0) (omega (arith, held .1)) tree goes in (
+            let place : start ≡ getD (given .starts) (getD pairs at 0) 0 = es (omega (arith, p .0)) ∙ ap (λ j. getD (given .starts) j 0) ea in
+            let z = cs .meant g rules (q .rule) (p .1 .0) (q .args) scope besides st (ap (Layout.rule (given .types) (given .book)) place ∙ p .1 .1) (held .0) (omega (arith, held .1)) tree goes in (
               z .0,
               says-map (Tree g w′ base (c .nodes)) (Tree g w′ base (c .nodes)) (resultOf m) (Run g rules env scope) (c .left) (c .stop) (λ ws x. x) run
                   (result-says (c .stop) (c .left) m (Tree g w′ base (c .nodes)) (z .1 .0) (z .1 .1) (z .1 .3)),
@@ -194,7 +194,7 @@ chain-end : (g : Grammar) (rules : Rules.Rules) (deeper : M.Calls) (ws : Words) 
 unfolding M.applyChain applications
 chain-end g rules deeper ws k env scope besides l e = rw e
 
-module _ (heads rows : Words) (types : ℕ) (book starts w₀ pairs : Words) (from base n : ℕ) (vars : Vars) (besides deep : ℕ) (left : State) where
+module _ (given : Given) (w₀ pairs : Words) (from base n : ℕ) (vars : Vars) (besides deep : ℕ) (left : State) where
   abbrev Whole : Grammar → Rules.Rules → Env → Words → Result Words
   Whole g rules env scope = M.applyChain true g rules (calls true g rules deep) (chainAt pairs from) env scope besides left
 
@@ -214,7 +214,7 @@ module _ (heads rows : Words) (types : ℕ) (book starts w₀ pairs : Words) (fr
     pub later : from + 2 ≤ at
     pub near : at + k * 8589934594 ≤ 2 ^ 36
     pub ends : at + 2 * pairsIn (applications k (drop at pairs)) ≡ from + 2 + 2 * pairsIn (chainAt pairs from)
-    gone : (g : Grammar) (rules : Rules.Rules) (env : Env) (scope : Words) → Setting heads rows types book starts g rules → EnvAt g (take base w₀) (startsOf vars) env → Tree g w₀ base n scope
+    gone : (g : Grammar) (rules : Rules.Rules) (env : Env) (scope : Words) → Setting given g rules → EnvAt g (take base w₀) (startsOf vars) env → Tree g w₀ base n scope
         → Sure (Whole g rules env scope) → Gone w k at fuel nodes g rules env scope
 
   pub chaining-start : n ≤ mostNodes → besides + n ≤ mostLive → from ≤ 1024 → (k : ℕ) → k ≡ chainCount pairs from → k ≤ 4 → Chaining w₀ k (from + 2) left n
@@ -235,9 +235,9 @@ module _ (heads rows : Words) (types : ℕ) (book starts w₀ pairs : Words) (fr
   }
 
   module _ (w : Words) (k at : ℕ) (fuel : State) (nodes : ℕ) (i : Chaining w k at fuel nodes) where
-    module _ (h : 0 < k) (w′ : Words) (b : Built) (done : Applies heads rows types book starts w w′ pairs at base nodes vars besides deep fuel b) where
+    module _ (h : 0 < k) (w′ : Words) (b : Built) (done : Applies given w w′ pairs at base nodes vars besides deep fuel b) where
       -- what the application gave
-      one : (g : Grammar) (rules : Rules.Rules) (env : Env) (scope : Words) → Setting heads rows types book starts g rules → EnvAt g (take base w₀) (startsOf vars) env → Tree g w₀ base n scope
+      one : (g : Grammar) (rules : Rules.Rules) (env : Env) (scope : Words) → Setting given g rules → EnvAt g (take base w₀) (startsOf vars) env → Tree g w₀ base n scope
           → Sure (Whole g rules env scope) → (now : Words) × (take base w′ ≡ take base w₀) × Says (Tree g w′ base (b .nodes)) (b .stop) (b .left) (applyAt deep pairs at g rules env now besides fuel)
           × (Whole g rules env scope ≡ thenOf (applyAt deep pairs at g rules env now besides fuel) (λ next. M.applyChain true g rules (calls true g rules deep) (applications (k - 1) (drop (nextAt pairs at) pairs)) env next besides))
       one g rules env scope st env-at tree s =
@@ -246,7 +246,7 @@ module _ (heads rows : Words) (types : ℕ) (book starts w₀ pairs : Words) (fr
           let m = done .meant g rules env (q .now) st (env-kept g w₀ w base (q .kept) (startsOf vars) env env-at) (q .tree) (sure-first _ _ (sure-as e s)) in
           (q .now, m .0 ∙ q .kept, m .1, e)
 
-      pub chaining-stop : (b .stop ≡ 0 → ⊥) → Chains heads rows types book starts w₀ w′ pairs from base n vars besides deep left (record { built = b; next = at })
+      pub chaining-stop : (b .stop ≡ 0 → ⊥) → Chains given w₀ w′ pairs from base n vars besides deep left (record { built = b; next = at })
       chaining-stop ne = record {
         builds = record {
           few = done .few;
@@ -285,7 +285,7 @@ module _ (heads rows : Words) (types : ℕ) (book starts w₀ pairs : Words) (fr
                 };
           }
 
-    pub chaining-end : k ≡ 0 → (b : Built) → b ≡ record { stop = 0; nodes = nodes; left = fuel } → Chains heads rows types book starts w₀ w pairs from base n vars besides deep left (record { built = b; next = at })
+    pub chaining-end : k ≡ 0 → (b : Built) → b ≡ record { stop = 0; nodes = nodes; left = fuel } → Chains given w₀ w pairs from base n vars besides deep left (record { built = b; next = at })
     unfolding pairsIn applications
     chaining-end z b e = rw e (record {
       builds = record {

@@ -28,7 +28,7 @@ use Rattle.marks.proofs.Laying.{under-tree, under-append}
 use Rattle.rewrite.specs.Vars.{startsOf, startAt}
 use Rattle.rewrite.specs.Arena.{NodesAt, overBy, Standing}
 use Rattle.rules.specs.Views.{pairsAt}
-use Rattle.calls.specs.Engine.{Room, Held, Setting, Sure, Says, Tree, chainAt, chainPiece, Chains, FillsChain, Fills}
+use Rattle.calls.specs.Engine.{Room, Held, Given, Setting, Sure, Says, Tree, chainAt, chainPiece, Chains, FillsChain, Fills}
 use Rattle.rewrite.specs.declared.arena.Frame.{Frame}
 use Rattle.calls.specs.declared.Built.{Built}
 use Rattle.calls.specs.declared.Chained.{Chained}
@@ -295,7 +295,7 @@ chainOn deep apps g rules env besides n t = do
   nodesWithin (n + size u)
   return u
 
-module _ (heads rows : Words) (types : ℕ) (book starts w pairs : Words) (i n : ℕ) (frame : Frame) (deep : ℕ) (left : State) (room : Room w frame) (few : frame .live + n ≤ mostLive)
+module _ (given : Given) (w pairs : Words) (i n : ℕ) (frame : Frame) (deep : ℕ) (left : State) (room : Room w frame) (few : frame .live + n ≤ mostLive)
     (start m : ℕ) (at : start ≡ startAt (frame .vars) (getD pairs (i + 1) 0)) (nodes : NodesAt w start (frame .top) m) where
   abbrev x : ℕ
   x = getD pairs (i + 1) 0
@@ -316,7 +316,7 @@ module _ (heads rows : Words) (types : ℕ) (book starts w pairs : Words) (i n :
     counted : m ≡ size t
     same-run : piece g rules env ≡ thenOf (liveWithin (frame .live + n + size t) left) (λ z. chainOn deep apps g rules env (frame .live) n t)
 
-  copied : (g : Grammar) (rules : Rules.Rules) (b : Bindings) → Setting heads rows types book starts g rules → Held g w frame b → Sure (piece g rules (b .env)) → Copied g rules (b .env)
+  copied : (g : Grammar) (rules : Rules.Rules) (b : Bindings) → Setting given g rules → Held g w frame b → Sure (piece g rules (b .env)) → Copied g rules (b .env)
   copied g rules b st h sure =
       let v = variable-sure (b .env) x left _ sure in
       let s = rw (← at) at (variable-stands g (take (frame .top) w) (frame .vars) (b .env) x (v .0) (room .sound) (h .stands) (v .1)) in
@@ -328,7 +328,7 @@ module _ (heads rows : Words) (types : ℕ) (book starts w pairs : Words) (i n :
   by-live P g rules b h f = subst (λ k. Sure (chainPiece deep x apps g rules (b .env) k n left) → P (chainPiece deep x apps g rules (b .env) k n left)) (h .counted) f
 
   -- too many nodes would be live
-  pub fills-over : mostLive < frame .live + n + m → i ≤ 256 → (r : Built) → r ≡ record { stop = 44; nodes = n; left = left } → FillsChain heads rows types book starts w w pairs i n frame deep left (record { built = r; next = i })
+  pub fills-over : mostLive < frame .live + n + m → i ≤ 256 → (r : Built) → r ≡ record { stop = 44; nodes = n; left = left } → FillsChain given w w pairs i n frame deep left (record { built = r; next = i })
   fills-over h k r e = rw e (record {
     few = λ z. absurd (omega arith);
     fits = λ z. absurd (omega arith);
@@ -339,12 +339,12 @@ module _ (heads rows : Words) (types : ℕ) (book starts w pairs : Words) (i n :
     meant = λ g rules b st hd sure. (refl, by-live (λ p. p ≡ stop 44 left) g rules b hd (stops g rules b st hd) sure);
   })
     where
-      stops : (g : Grammar) (rules : Rules.Rules) (b : Bindings) → Setting heads rows types book starts g rules → Held g w frame b → Sure (piece g rules (b .env)) → piece g rules (b .env) ≡ stop 44 left
+      stops : (g : Grammar) (rules : Rules.Rules) (b : Bindings) → Setting given g rules → Held g w frame b → Sure (piece g rules (b .env)) → piece g rules (b .env) ≡ stop 44 left
       stops g rules b st hd sure = let c = copied g rules b st hd sure in c .same-run ∙ live-over (frame .live + n + size (c .t)) left _ (omega (arith, c .counted))
 
   -- the copy stands on top
   module _ (fits : frame .live + n + m ≤ mostLive) (w₁ w′ : Words) (same : length w₁ ≡ length w) (pushed : w₁ ≡ take base w ++ (take (2 * m) (drop start w) ++ drop (base + 2 * m) w)) (c : Chained)
-      (chains : Chains heads rows types book starts w₁ w′ pairs (i + 2) base m (frame .vars) (frame .live + n) deep left c) where
+      (chains : Chains given w₁ w′ pairs (i + 2) base m (frame .vars) (frame .live + n) deep left c) where
     record Applied (g : Grammar) (rules : Rules.Rules) (env : Env) : Type 0 where
       t : Words
       same-run : piece g rules env ≡ chainOn deep apps g rules env (frame .live) n t left
@@ -354,7 +354,7 @@ module _ (heads rows : Words) (types : ℕ) (book starts w pairs : Words) (i n :
     room-there : base + 2 * m ≤ length w
     room-there = omega (arith, room .low, room .few, room .long)
 
-    applied : (g : Grammar) (rules : Rules.Rules) (b : Bindings) → Setting heads rows types book starts g rules → Held g w frame b → Sure (piece g rules (b .env)) → Applied g rules (b .env)
+    applied : (g : Grammar) (rules : Rules.Rules) (b : Bindings) → Setting given g rules → Held g w frame b → Sure (piece g rules (b .env)) → Applied g rules (b .env)
     applied g rules b st hd sure =
         let o = copied g rules b st hd sure in
         let run = o .same-run ∙ live-fits (frame .live + n + size (o .t)) left (λ z. chainOn deep apps g rules (b .env) (frame .live) n (o .t)) (omega (arith, o .counted)) in
@@ -364,7 +364,7 @@ module _ (heads rows : Words) (types : ℕ) (book starts w pairs : Words) (i n :
         (o .stands .type, tree-pushed w w₁ (frame .top) start m base (o .stands) (o .counted) room-there pushed) (sure-first _ _ (sure-as run sure)) in
         record { t = o .t; same-run = run; kept = q .0 ∙ kept; says = q .1 }
 
-    pub fills-stopped : (c .built .stop ≡ 0 → ⊥) → FillsChain heads rows types book starts w w′ pairs i n frame deep left c
+    pub fills-stopped : (c .built .stop ≡ 0 → ⊥) → FillsChain given w w′ pairs i n frame deep left c
     fills-stopped h = record {
       few = λ z. absurd (h z);
       fits = λ z. absurd (h z);
@@ -375,14 +375,14 @@ module _ (heads rows : Words) (types : ℕ) (book starts w pairs : Words) (i n :
       meant = λ g rules b st hd sure. by-live (λ p. (take base w′ ≡ take base w) × Says (λ u. (c .built .nodes ≡ n + size u) × Tree g w′ base (size u) u) (c .built .stop) (c .built .left) p) g rules b hd (stops g rules b st hd) sure;
     }
       where
-        stops : (g : Grammar) (rules : Rules.Rules) (b : Bindings) → Setting heads rows types book starts g rules → Held g w frame b → Sure (piece g rules (b .env))
+        stops : (g : Grammar) (rules : Rules.Rules) (b : Bindings) → Setting given g rules → Held g w frame b → Sure (piece g rules (b .env))
             → (take base w′ ≡ take base w) × Says (λ u. (c .built .nodes ≡ n + size u) × Tree g w′ base (size u) u) (c .built .stop) (c .built .left) (piece g rules (b .env))
         stops g rules b st hd sure =
             let a = applied g rules b st hd sure in
             (a .kept, stop-says _ _ (c .built .left) (c .built .stop) h (a .same-run ∙ then-stop _ _ (c .built .stop) (c .built .left) (says-stop _ _ (c .built .left) (c .built .stop) h (a .says))))
 
     pub fills-added : c .built .stop ≡ 0 → (s : ℕ) → s ≡ overBy (n + c .built .nodes) 0 → (r : Built) → r ≡ record { stop = s; nodes = n + c .built .nodes; left = c .built .left }
-        → FillsChain heads rows types book starts w w′ pairs i n frame deep left (record { built = r; next = c .next })
+        → FillsChain given w w′ pairs i n frame deep left (record { built = r; next = c .next })
     fills-added h s e r er = rw er (record {
       few = λ z. over-fits (n + c .built .nodes) 0 (sym e ∙ z) .0;
       fits = λ z. omega (arith, chains .builds .fits);
@@ -401,7 +401,7 @@ module _ (heads rows : Words) (types : ℕ) (book starts w pairs : Words) (i n :
             go zero e = (u, (omega arith, t), run ∙ nodes-pass (n + size u) (c .built .left) 0 (λ z. return u) e refl)
             go (suc k) e = run ∙ nodes-stop (n + size u) (c .built .left) (suc k) (λ z. return u) e (λ z. omega arith)
 
-        gives : (g : Grammar) (rules : Rules.Rules) (b : Bindings) → Setting heads rows types book starts g rules → Held g w frame b → Sure (piece g rules (b .env))
+        gives : (g : Grammar) (rules : Rules.Rules) (b : Bindings) → Setting given g rules → Held g w frame b → Sure (piece g rules (b .env))
             → (take base w′ ≡ take base w) × Says (λ u. (n + c .built .nodes ≡ n + size u) × Tree g w′ base (size u) u) s (c .built .left) (piece g rules (b .env))
         gives g rules b st hd sure =
             let a = applied g rules b st hd sure in
@@ -429,17 +429,17 @@ record SoFar (g : Grammar) (rules : Rules.Rules) (deep : ℕ) (env : Env) (besid
   kept : take top w ≡ take top w₀
   same-run : filled g rules deep env besides (pieces pairs) 0 left ≡ onward g rules deep env besides done (pieces (drop i pairs)) n fuel
 
-pub record Filling (heads rows : Words) (types : ℕ) (book starts w₀ pairs : Words) (frame : Frame) (deep : ℕ) (left : State) (w : Words) (fuel : State) (n i : ℕ) : Type 0 where
+pub record Filling (given : Given) (w₀ pairs : Words) (frame : Frame) (deep : ℕ) (left : State) (w : Words) (fuel : State) (n i : ℕ) : Type 0 where
   pub few : n ≤ mostNodes
   pub fits : frame .live + n ≤ mostLive
   pub less : fuel .attempts ≤ left .attempts
   pub long : length w ≡ length w₀
   pub near : i < 2 ^ 40
-  run : (g : Grammar) (rules : Rules.Rules) (b : Bindings) → Setting heads rows types book starts g rules → Held g w₀ frame b → Sure (filled g rules deep (b .env) (live b) (pieces pairs) 0 left)
+  run : (g : Grammar) (rules : Rules.Rules) (b : Bindings) → Setting given g rules → Held g w₀ frame b → Sure (filled g rules deep (b .env) (live b) (pieces pairs) 0 left)
       → SoFar g rules deep (b .env) (live b) left w₀ pairs w (frame .top) fuel n i
 
-pub filling-start : (heads rows : Words) (types : ℕ) (book starts w pairs : Words) (frame : Frame) (deep : ℕ) (left : State) → frame .live ≤ mostLive → Filling heads rows types book starts w pairs frame deep left w left 0 0
-filling-start heads rows types book starts w pairs frame deep left h = record {
+pub filling-start : (given : Given) (w pairs : Words) (frame : Frame) (deep : ℕ) (left : State) → frame .live ≤ mostLive → Filling given w pairs frame deep left w left 0 0
+filling-start given w pairs frame deep left h = record {
   few = omega arith;
   fits = omega arith;
   less = omega arith;
@@ -448,8 +448,8 @@ filling-start heads rows types book starts w pairs frame deep left h = record {
   run = λ g rules b st hd sure. record { done = []; long = refl; there = nothing; kept = refl; same-run = sym (then-all (filled g rules deep (b .env) (live b) (pieces pairs) 0 left)) };
 }
 
-module _ (heads rows : Words) (types : ℕ) (book starts w₀ pairs : Words) (frame : Frame) (deep : ℕ) (left : State) (room : Room w₀ frame) (w : Words) (fuel : State) (n i : ℕ)
-    (inv : Filling heads rows types book starts w₀ pairs frame deep left w fuel n i) where
+module _ (given : Given) (w₀ pairs : Words) (frame : Frame) (deep : ℕ) (left : State) (room : Room w₀ frame) (w : Words) (fuel : State) (n i : ℕ)
+    (inv : Filling given w₀ pairs frame deep left w fuel n i) where
   abbrev rest : Grammar → Rules.Rules → Bindings → Result Words
   rest g rules b = filled g rules deep (b .env) (live b) (pieces (drop i pairs)) n fuel
 
@@ -467,8 +467,8 @@ module _ (heads rows : Words) (types : ℕ) (book starts w₀ pairs : Words) (fr
   top-inside = omega (arith, room .low, room .few, room .long, inv .few, inv .long)
 
   grows : (w′ : Words) (now : State) (m j : ℕ) → m ≤ mostNodes → frame .live + m ≤ mostLive → now .attempts ≤ fuel .attempts → length w′ ≡ length w → j < 2 ^ 40
-      → ((g : Grammar) (rules : Rules.Rules) (b : Bindings) → Setting heads rows types book starts g rules → Held g w frame b → Sure (rest g rules b) → Added g rules b w′ now m j)
-      → Filling heads rows types book starts w₀ pairs frame deep left w′ now m j
+      → ((g : Grammar) (rules : Rules.Rules) (b : Bindings) → Setting given g rules → Held g w frame b → Sure (rest g rules b) → Added g rules b w′ now m j)
+      → Filling given w₀ pairs frame deep left w′ now m j
   grows w′ now m j few fits less long near f = record {
     few = few;
     fits = fits;
@@ -488,9 +488,9 @@ module _ (heads rows : Words) (types : ℕ) (book starts w₀ pairs : Words) (fr
   }
 
   -- .. or a stop
-  ends : (at : ℕ) → pairs ≡ pairsAt book at → (w′ : Words) (r : Built) → (r .stop ≡ 0 → ⊥) → r .left .attempts ≤ fuel .attempts → length w′ ≡ length w
-      → ((g : Grammar) (rules : Rules.Rules) (b : Bindings) → Setting heads rows types book starts g rules → Held g w frame b → Sure (rest g rules b) → (take (frame .top) w′ ≡ take (frame .top) w) × (rest g rules b ≡ stop (r .stop) (r .left)))
-      → Fills heads rows types book starts w₀ w′ at frame deep left r
+  ends : (at : ℕ) → pairs ≡ pairsAt (given .book) at → (w′ : Words) (r : Built) → (r .stop ≡ 0 → ⊥) → r .left .attempts ≤ fuel .attempts → length w′ ≡ length w
+      → ((g : Grammar) (rules : Rules.Rules) (b : Bindings) → Setting given g rules → Held g w frame b → Sure (rest g rules b) → (take (frame .top) w′ ≡ take (frame .top) w) × (rest g rules b ≡ stop (r .stop) (r .left)))
+      → Fills given w₀ w′ at frame deep left r
   ends at ep w′ r h less long f = record {
     few = λ z. absurd (h z);
     fits = λ z. absurd (h z);
@@ -504,7 +504,7 @@ module _ (heads rows : Words) (types : ℕ) (book starts w₀ pairs : Words) (fr
   }
 
   -- the end
-  pub filling-end : (at : ℕ) → pairs ≡ pairsAt book at → length pairs < i + 2 → (r : Built) → r ≡ record { stop = 0; nodes = n; left = fuel } → Fills heads rows types book starts w₀ w at frame deep left r
+  pub filling-end : (at : ℕ) → pairs ≡ pairsAt (given .book) at → length pairs < i + 2 → (r : Built) → r ≡ record { stop = 0; nodes = n; left = fuel } → Fills given w₀ w at frame deep left r
   filling-end at ep h r e = rw e (record {
     few = λ z. inv .few;
     fits = λ z. inv .fits;
@@ -532,12 +532,12 @@ module _ (heads rows : Words) (types : ℕ) (book starts w₀ pairs : Words) (fr
       limit : {g : Grammar} {b : Bindings} → Held g w frame b → s ≡ overBy (n + 1) (live b + n + 1)
       limit hd = es ∙ ap (λ k. overBy (n + 1) (k + n + 1)) (hd .counted)
 
-      pub filling-write-stops : (s ≡ 0 → ⊥) → (at : ℕ) → pairs ≡ pairsAt book at → (r : Built) → r ≡ record { stop = s; nodes = n; left = fuel } → Fills heads rows types book starts w₀ w at frame deep left r
+      pub filling-write-stops : (s ≡ 0 → ⊥) → (at : ℕ) → pairs ≡ pairsAt (given .book) at → (r : Built) → r ≡ record { stop = s; nodes = n; left = fuel } → Fills given w₀ w at frame deep left r
       filling-write-stops z at ep r e = rw e (ends at ep w (record { stop = s; nodes = n; left = fuel }) z (omega arith) refl
           (λ g rules b st hd sure. (refl, writes g rules b ∙ write-stops g rules deep (b .env) (live b) (pieces (drop (i + 2) pairs)) n fuel t v s (limit hd) z)))
 
       pub filling-write : s ≡ 0 → (w′ : Words) → length w′ ≡ length w → w′ ≡ take (frame .top + 2 * n) w ++ (t ∷ v ∷ drop (frame .top + 2 * n + 2) w)
-          → Filling heads rows types book starts w₀ pairs frame deep left w′ fuel (n + 1) (i + 2)
+          → Filling given w₀ pairs frame deep left w′ fuel (n + 1) (i + 2)
       filling-write z w′ long e =
           let f = over-fits (n + 1) (frame .live + n + 1) (sym es ∙ z) in
           let fits : frame .top + 2 * n + 2 ≤ length w = omega (arith, room .low, room .few, room .long, f .0, inv .long) in
@@ -562,7 +562,7 @@ module _ (heads rows : Words) (types : ℕ) (book starts w₀ pairs : Words) (fr
         limit : s ≡ overBy (n + size u) (live b + n + size u)
         step : rest g rules b ≡ filled g rules deep (b .env) (live b) (copy v ∷ pieces (drop (i + 2) pairs)) n fuel
 
-      taken : (g : Grammar) (rules : Rules.Rules) (b : Bindings) → Setting heads rows types book starts g rules → Held g w frame b → Sure (rest g rules b) → Taken g rules b
+      taken : (g : Grammar) (rules : Rules.Rules) (b : Bindings) → Setting given g rules → Held g w frame b → Sure (rest g rules b) → Taken g rules b
       taken g rules b st hd sure =
           let e = ap (λ ps. filled g rules deep (b .env) (live b) ps n fuel) (pieces-copy pairs i h no-chain is-variable) in
           let q = copy-there g rules deep (b .env) (live b) (pieces (drop (i + 2) pairs)) n fuel v (sure-as e sure) in
@@ -570,12 +570,12 @@ module _ (heads rows : Words) (types : ℕ) (book starts w₀ pairs : Words) (fr
           let k = nodes .stands g (q .0) (st .tables .heads-of .types) x in
           record { u = q .0; found = q .1; stands = x; counted = k; limit = eo ∙ ap₂ (λ j l. overBy (n + j) (l + n + j)) k (hd .counted); step = e }
 
-      pub filling-copy-stops : (s ≡ 0 → ⊥) → (at : ℕ) → pairs ≡ pairsAt book at → (r : Built) → r ≡ record { stop = s; nodes = n; left = fuel } → Fills heads rows types book starts w₀ w at frame deep left r
+      pub filling-copy-stops : (s ≡ 0 → ⊥) → (at : ℕ) → pairs ≡ pairsAt (given .book) at → (r : Built) → r ≡ record { stop = s; nodes = n; left = fuel } → Fills given w₀ w at frame deep left r
       filling-copy-stops z at ep r e = rw e (ends at ep w (record { stop = s; nodes = n; left = fuel }) z (omega arith) refl
           (λ g rules b st hd sure. let o = taken g rules b st hd sure in (refl, o .step ∙ copy-stops g rules deep (b .env) (live b) (pieces (drop (i + 2) pairs)) n fuel v (o .u) (o .found) s (o .limit) z)))
 
       pub filling-copy : s ≡ 0 → (w′ : Words) → length w′ ≡ length w → w′ ≡ take (frame .top + 2 * n) w ++ (take (2 * m) (drop start w) ++ drop (frame .top + 2 * n + 2 * m) w)
-          → Filling heads rows types book starts w₀ pairs frame deep left w′ fuel (n + m) (i + 2)
+          → Filling given w₀ pairs frame deep left w′ fuel (n + m) (i + 2)
       filling-copy z w′ long e =
           let f = over-fits (n + m) (frame .live + n + m) (sym eo ∙ z) in
           let fits : frame .top + 2 * n + 2 * m ≤ length w = omega (arith, room .low, room .few, room .long, f .0, inv .long) in
@@ -594,13 +594,13 @@ module _ (heads rows : Words) (types : ℕ) (book starts w₀ pairs : Words) (fr
           })
 
     -- a chain
-    module _ (is-chain : t ≡ markChain) (w′ : Words) (c : Chained) (chains : FillsChain heads rows types book starts w w′ pairs i n frame deep fuel c) where
-      pub filling-chain-stops : (c .built .stop ≡ 0 → ⊥) → (at : ℕ) → pairs ≡ pairsAt book at → Fills heads rows types book starts w₀ w′ at frame deep left (c .built)
+    module _ (is-chain : t ≡ markChain) (w′ : Words) (c : Chained) (chains : FillsChain given w w′ pairs i n frame deep fuel c) where
+      pub filling-chain-stops : (c .built .stop ≡ 0 → ⊥) → (at : ℕ) → pairs ≡ pairsAt (given .book) at → Fills given w₀ w′ at frame deep left (c .built)
       filling-chain-stops z at ep = ends at ep w′ (c .built) z (chains .less) (chains .long) (λ g rules b st hd sure.
           let q = chains .meant g rules b st hd (chain-sure g rules deep (b .env) (live b) pairs i n fuel h is-chain sure) in
           (take-less (frame .top) (frame .top + 2 * n) w w′ (omega arith) (q .0), chain-stops g rules deep (b .env) (live b) pairs i n fuel h is-chain sure (c .built .stop) (c .built .left) (says-stop _ _ (c .built .left) (c .built .stop) z (q .1))))
 
-      pub filling-chain : c .built .stop ≡ 0 → Filling heads rows types book starts w₀ pairs frame deep left w′ (c .built .left) (c .built .nodes) (c .next)
+      pub filling-chain : c .built .stop ≡ 0 → Filling given w₀ pairs frame deep left w′ (c .built .left) (c .built .nodes) (c .next)
       filling-chain z = grows w′ (c .built .left) (c .built .nodes) (c .next) (chains .few z) (chains .fits z) (chains .less) (chains .long) (chains .near) (λ g rules b st hd sure.
           let q = chains .meant g rules b st hd (chain-sure g rules deep (b .env) (live b) pairs i n fuel h is-chain sure) in
           let o = says-ok _ _ (c .built .left) (c .built .stop) z (q .1) in

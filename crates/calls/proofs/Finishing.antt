@@ -28,7 +28,7 @@ use Rattle.rewrite.specs.declared.Verdict.the-variants.{Matches, Stops}
 use Rattle.rewrite.proofs.Matcher.{env-length, env-more, starts-length, starts-more, total-more}
 use Rattle.rewrite.specs.Arena.{Closed, Standing}
 use Rattle.rules.specs.Views.{pairsAt}
-use Rattle.calls.specs.Engine.{Room, Grown, Held, Setting, Sure, Says, TakenAs, Constructs, Fills, Finishes, partOn}
+use Rattle.calls.specs.Engine.{Room, Grown, Held, Given, Setting, Sure, Says, TakenAs, Constructs, Fills, Finishes, partOn}
 use Rattle.rewrite.specs.declared.arena.Frame.{Frame}
 use Rattle.calls.specs.declared.Built.{Built}
 use Rattle.calls.specs.declared.Taken.{Taken}
@@ -47,12 +47,12 @@ module _ {B : Type 0} (g : Grammar) (ws : Words) (l : State) (k : Unit {0} → C
   unfolding thenOf nestingWithin stopUnless
   nesting-over h = rw h
 
-module _ (heads rows : Words) (types : ℕ) (book starts w w′ : Words) (at : ℕ) (frame : Frame) (deep : ℕ) (left : State) (r : Built) (fills : Fills heads rows types book starts w w′ at frame deep left r) where
+module _ (given : Given) (w w′ : Words) (at : ℕ) (frame : Frame) (deep : ℕ) (left : State) (r : Built) (fills : Fills given w w′ at frame deep left r) where
   abbrev filledBy : Grammar → Rules.Rules → Bindings → Result Words
-  filledBy g rules b = fill true g rules (calls true g rules deep) (pieces (pairsAt book at)) (b .env) (live b) 0 left
+  filledBy g rules b = fill true g rules (calls true g rules deep) (pieces (pairsAt (given .book) at)) (b .env) (live b) 0 left
 
   abbrev finishedBy : ℕ → Grammar → Rules.Rules → Bindings → Result Words
-  finishedBy u g rules b = finish true g rules (calls true g rules deep) u (pieces (pairsAt book at)) b left
+  finishedBy u g rules b = finish true g rules (calls true g rules deep) u (pieces (pairsAt (given .book) at)) b left
 
   -- what is left to do with the words
   abbrev closing : ℕ → Grammar → Words → Comp Words
@@ -68,7 +68,7 @@ module _ (heads rows : Words) (types : ℕ) (book starts w w′ : Words) (at : �
   fill-sure : (u : ℕ) (g : Grammar) (rules : Rules.Rules) (b : Bindings) → Sure (finishedBy u g rules b) → Sure (filledBy g rules b)
   fill-sure u g rules b s = sure-first (filledBy g rules b) (closing u g) (sure-as (finish-as u g rules b) s)
 
-  pub finishes-stopped : (r .stop ≡ 0 → ⊥) → Finishes heads rows types book starts w w′ at frame deep left r
+  pub finishes-stopped : (r .stop ≡ 0 → ⊥) → Finishes given w w′ at frame deep left r
   finishes-stopped h u = record {
     few = fills .few;
     fits = fills .fits;
@@ -79,7 +79,7 @@ module _ (heads rows : Words) (types : ℕ) (book starts w w′ : Words) (at : �
         (q .0, stop-says _ _ (r .left) (r .stop) h (finish-as u g rules b ∙ then-stop _ (closing u g) (r .stop) (r .left) (says-stop _ _ (r .left) (r .stop) h (q .1))));
   }
 
-  module _ (h : r .stop ≡ 0) (w″ : Words) (s : ℕ) (closed : Closed heads rows w′ w″ (frame .top) (r .nodes) s) where
+  module _ (h : r .stop ≡ 0) (w″ : Words) (s : ℕ) (closed : Closed (given .heads) (given .rows) w′ w″ (frame .top) (r .nodes) s) where
     ends : (u : ℕ) (g : Grammar) (ws : Words) → Trees g (u ∷ []) ws → size ws ≡ r .nodes → take (2 * r .nodes) (drop (frame .top) w″) ≡ marked g ws
         → (b : Bool) → leb (nesting g ws) mostNesting ≡ b → s ≡ pick b 0 43 → (m : Result Words) → m ≡ thenOf (nestingWithin g ws (r .left)) (λ z. return ws)
         → Says (λ ws. Standing g w″ (frame .top) (r .nodes) u ws) s (r .left) m
@@ -87,7 +87,7 @@ module _ (heads rows : Words) (types : ℕ) (book starts w w′ : Words) (at : �
         rw q (ws, record { tree = record { typed = t; nodes = omega (arith, fills .few h); nested = leb-true (nesting g ws) mostNesting e }; nodes = n; words = words }, run ∙ nesting-fits g ws (r .left) (λ z. return ws) e)
     ends u g ws t n words false e q m run = rw q (run ∙ nesting-over g ws (r .left) (λ z. return ws) e)
 
-    pub finishes-closed : (r′ : Built) → r′ ≡ record { stop = s; nodes = r .nodes; left = r .left } → Finishes heads rows types book starts w w″ at frame deep left r′
+    pub finishes-closed : (r′ : Built) → r′ ≡ record { stop = s; nodes = r .nodes; left = r .left } → Finishes given w w″ at frame deep left r′
     finishes-closed r′ e u = rw e (record {
       few = λ z. fills .few h;
       fits = λ z. fills .fits h;
@@ -96,7 +96,7 @@ module _ (heads rows : Words) (types : ℕ) (book starts w w′ : Words) (at : �
       meant = meant;
     })
       where
-        meant : (g : Grammar) (rules : Rules.Rules) (b : Bindings) → Setting heads rows types book starts g rules → Held g w frame b → Sure (finishedBy u g rules b)
+        meant : (g : Grammar) (rules : Rules.Rules) (b : Bindings) → Setting given g rules → Held g w frame b → Sure (finishedBy u g rules b)
             → (take (frame .top) w″ ≡ take (frame .top) w) × Says (λ ws. Standing g w″ (frame .top) (r .nodes) u ws) s (r .left) (finishedBy u g rules b)
         meant g rules b st hd sure =
             let q = fills .meant g rules b st hd (fill-sure u g rules b sure) in
@@ -138,13 +138,13 @@ held-more {g} {w} {w′} {frame} {b} {u} {n} {t} s h hd e x =
       counted = omega (arith, hd .counted, x .nodes, total-more (b .env) t);
     }
 
-module _ (heads rows : Words) (types : ℕ) (book starts w w′ : Words) (at next : ℕ) (frame : Frame) (deep : ℕ) (left : State) (room : Room w frame) (f : Built)
-    (finishes : Finishes heads rows types book starts w w′ at frame deep left f) where
+module _ (given : Given) (w w′ : Words) (at next : ℕ) (frame : Frame) (deep : ℕ) (left : State) (room : Room w frame) (f : Built)
+    (finishes : Finishes given w w′ at frame deep left f) where
   abbrev finishedAs : ℕ → Grammar → Rules.Rules → Bindings → Result Words
-  finishedAs u g rules b = finish true g rules (calls true g rules deep) u (pieces (pairsAt book at)) b left
+  finishedAs u g rules b = finish true g rules (calls true g rules deep) u (pieces (pairsAt (given .book) at)) b left
 
   abbrev builtBy : ℕ → Grammar → Rules.Rules → Bindings → Result (Option Bindings)
-  builtBy u g rules b = partOn deep (construct u (pieces (pairsAt book at))) g rules b left
+  builtBy u g rules b = partOn deep (construct u (pieces (pairsAt (given .book) at))) g rules b left
 
   -- what is left to do with the tree
   abbrev binding : ℕ → Grammar → Bindings → Words → Comp (Option Bindings)
@@ -167,7 +167,7 @@ module _ (heads rows : Words) (types : ℕ) (book starts w w′ : Words) (at nex
       let c = check-sure (isTree g u t) l (λ z. return (bindings (b .env ++ t ∷ []) (b .besides))) (sure-as (a .1) (sure-first _ _ s)) in
       (ltb-true (length (b .env)) mostVariables (a .0), then-ok _ _ (bindings (b .env ++ t ∷ []) (b .besides)) l (a .1 ∙ c .1))
 
-  pub constructs-stopped : (f .stop ≡ 0 → ⊥) → (r : Taken) → r ≡ record { verdict = Stops (f .stop); frame = frame; left = f .left; next = next } → Constructs heads rows types book starts w w′ at next frame deep left r
+  pub constructs-stopped : (f .stop ≡ 0 → ⊥) → (r : Taken) → r ≡ record { verdict = Stops (f .stop); frame = frame; left = f .left; next = next } → Constructs given w w′ at next frame deep left r
   constructs-stopped h r e = rw e (record {
     next-is = refl;
     takes = λ u. record {
@@ -181,7 +181,7 @@ module _ (heads rows : Words) (types : ℕ) (book starts w w′ : Words) (at nex
   })
 
   module _ (h : f .stop ≡ 0) (vars : Vars) (v : Named frame vars) (more : Frame) (em : more ≡ record { vars = vars; live = frame .live + f .nodes; top = frame .top + 2 * f .nodes }) where
-    matched : (u : ℕ) (g : Grammar) (rules : Rules.Rules) (b : Bindings) → Setting heads rows types book starts g rules → Held g w frame b → Sure (builtBy u g rules b)
+    matched : (u : ℕ) (g : Grammar) (rules : Rules.Rules) (b : Bindings) → Setting given g rules → Held g w frame b → Sure (builtBy u g rules b)
         → (take (frame .top) w′ ≡ take (frame .top) w) × TakenAs g w′ (b .besides) Matches more (f .left) (builtBy u g rules b)
     matched u g rules b st hd sure =
         let q = finishes u .meant g rules b st hd (finish-sure u g rules b sure) in
@@ -192,5 +192,5 @@ module _ (heads rows : Words) (types : ℕ) (book starts w w′ : Words) (at nex
         let low : frame .vars .n < 16 = omega (arith, c .0, env-length g (take (frame .top) w) (startsOf (frame .vars)) (b .env) (hd .stands), starts-length (frame .vars) (room .sound)) in
         (q .0, (b .env ++ t ∷ [], subst (λ x. Held g w′ x (bindings (b .env ++ t ∷ []) (b .besides))) (sym (em ∙ ap (λ x. record { vars = x; live = frame .live + f .nodes; top = frame .top + 2 * f .nodes }) (v .is low))) (held-more (room .sound) low hd (q .0) (k .1)), run ∙ c .1))
 
-    pub constructs-bound : (r : Taken) → r ≡ record { verdict = Matches; frame = more; left = f .left; next = next } → Constructs heads rows types book starts w w′ at next frame deep left r
+    pub constructs-bound : (r : Taken) → r ≡ record { verdict = Matches; frame = more; left = f .left; next = next } → Constructs given w w′ at next frame deep left r
     constructs-bound r e = rw e (record { next-is = refl; takes = λ u. record { grown = rw em (more-open frame (f .nodes) (finishes u .fits h) (room .low) vars v); less = finishes u .less; long = finishes u .long; meant = matched u } })

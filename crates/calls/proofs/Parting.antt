@@ -36,7 +36,7 @@ use Rattle.rewrite.specs.declared.Verdict.{Verdict}
 use Rattle.rewrite.specs.declared.Verdict.the-variants.{Matches, Differs, Stops}
 use Rattle.rewrite.specs.declared.Matched.{Matched}
 use Rattle.rewrite.specs.declared.arena.Frame.{Frame}
-use Rattle.calls.specs.Engine.{Room, Held, Setting, Sure, TakenAs, Takes, partOn, partRead, deconstructIn, Deconstructs, Constructs, Conditions, Steps}
+use Rattle.calls.specs.Engine.{Room, Held, Given, Setting, Sure, TakenAs, Takes, partOn, partRead, deconstructIn, Deconstructs, Constructs, Conditions, Steps}
 use Rattle.calls.specs.declared.Taken.{Taken}
 use Rattle.calls.proofs.Frames.{tree-length, some-nodes, grown-same, grown-matched}
 use Rattle.rewrite.proofs.Leaves.{variable-stands}
@@ -181,36 +181,36 @@ takes-as w w′ frame left r A B f h same t = record {
       (x .0, rw (s .1 b) (x .1));
 }
 
-module _ (heads rows : Words) (types : ℕ) (book starts w : Words) (at : ℕ) (frame : Frame) (deep : ℕ) (left : State) where
+module _ (given : Given) (w : Words) (at : ℕ) (frame : Frame) (deep : ℕ) (left : State) where
   -- f is what is read there, if a part is
-  module _ (w′ : Words) (r : Taken) (f : FoundPart) (is : (types : ℕ) (q : PartAt) (next : ℕ) → partAt types book at ≡ value q next → f ≡ record { part = partAs q; next = next }) where
+  module _ (w′ : Words) (r : Taken) (f : FoundPart) (is : (types : ℕ) (q : PartAt) (next : ℕ) → partAt types (given .book) at ≡ value q next → f ≡ record { part = partAs q; next = next }) where
     -- the step of a part p, if that is what stands there
-    step-by : (A : Grammar → Rules.Rules → Type 0) (p : Rules.Part) → r .next ≡ f .next → ((g : Grammar) (rules : Rules.Rules) → Setting heads rows types book starts g rules → A g rules)
-        → ((q : PartAt) → pairsAt book (pairsOf q) ≡ stretch book (pairsOf q) → partAs q ≡ f .part → partOf book q ≡ p) → Takes w w′ frame left r A (partOn deep p)
-        → Steps heads rows types book starts w w′ at frame deep left r
-    step-by A p n give same t = record { next-is = λ q next z. n ∙ ap (λ x. x .next) (is types q next z); takes = go (partAt types book at) refl }
+    step-by : (A : Grammar → Rules.Rules → Type 0) (p : Rules.Part) → r .next ≡ f .next → ((g : Grammar) (rules : Rules.Rules) → Setting given g rules → A g rules)
+        → ((q : PartAt) → pairsAt (given .book) (pairsOf q) ≡ stretch (given .book) (pairsOf q) → partAs q ≡ f .part → partOf (given .book) q ≡ p) → Takes w w′ frame left r A (partOn deep p)
+        → Steps given w w′ at frame deep left r
+    step-by A p n give same t = record { next-is = λ q next z. n ∙ ap (λ x. x .next) (is (given .types) q next z); takes = go (partAt (given .types) (given .book) at) refl }
       where
-        go : (x : Read PartAt) → partAt types book at ≡ x → Takes w w′ frame left r (λ g rules. Setting heads rows types book starts g rules) (partRead deep book (partAt types book at))
+        go : (x : Read PartAt) → partAt (given .types) (given .book) at ≡ x → Takes w w′ frame left r (λ g rules. Setting given g rules) (partRead deep (given .book) (partAt (given .types) (given .book) at))
         go (value q next) y =
-            takes-as w w′ frame left r A (λ g rules. Setting heads rows types book starts g rules) (partOn deep p) (partRead deep book (partAt types book at))
+            takes-as w w′ frame left r A (λ g rules. Setting given g rules) (partOn deep p) (partRead deep (given .book) (partAt (given .types) (given .book) at))
             (λ g rules with.
-            let here = told-here book q next (part-tells types book (with .few) at q next y) in
-            (give g rules with, λ b. ap (λ x. partRead deep book x g rules b left) y ∙ ap (λ x. partOn deep x g rules b left) (same q here (sym (ap (λ x. x .part) (is types q next y)))))) t
-        go (refused m o) y = record { grown = t .grown; less = t .less; long = t .long; meant = λ g rules b with held sure. absurd (sure (ap (λ x. partRead deep book x g rules b left) y)) }
+            let here = told-here (given .book) q next (part-tells (given .types) (given .book) (with .few) at q next y) in
+            (give g rules with, λ b. ap (λ x. partRead deep (given .book) x g rules b left) y ∙ ap (λ x. partOn deep x g rules b left) (same q here (sym (ap (λ x. x .part) (is (given .types) q next y)))))) t
+        go (refused m o) y = record { grown = t .grown; less = t .less; long = t .long; meant = λ g rules b with held sure. absurd (sure (ap (λ x. partRead deep (given .book) x g rules b left) y)) }
 
-    pub step-deconstruct : (d : Deconstruct) → f .part ≡ Part.Deconstruct d → Deconstructs book w d (f .next) frame left r → w′ ≡ w → Steps heads rows types book starts w w′ at frame deep left r
+    pub step-deconstruct : (d : Deconstruct) → f .part ≡ Part.Deconstruct d → Deconstructs (given .book) w d (f .next) frame left r → w′ ≡ w → Steps given w w′ at frame deep left r
     step-deconstruct d k x ew =
-        step-by (λ g rules. length g ≤ mostTypes) (deconstructIn book (d .searches) (d .searched) (d .variable) (d .pattern)) (x .next-is)
-        (λ g rules with. with .tables .heads-of .types) (λ q h e. deconstruct-is book q d h (e ∙ k)) (rw ew (x .takes deep))
+        step-by (λ g rules. length g ≤ mostTypes) (deconstructIn (given .book) (d .searches) (d .searched) (d .variable) (d .pattern)) (x .next-is)
+        (λ g rules with. with .tables .heads-of .types) (λ q h e. deconstruct-is (given .book) q d h (e ∙ k)) (rw ew (x .takes deep))
 
-    pub step-construct : (c : Construct) → f .part ≡ Part.Construct c → Constructs heads rows types book starts w w′ (c .replacement) (f .next) frame deep left r
-        → Steps heads rows types book starts w w′ at frame deep left r
+    pub step-construct : (c : Construct) → f .part ≡ Part.Construct c → Constructs given w w′ (c .replacement) (f .next) frame deep left r
+        → Steps given w w′ at frame deep left r
     step-construct c k x =
-        step-by (λ g rules. Setting heads rows types book starts g rules) (Rules.construct (c .built) (pieces (pairsAt book (c .replacement)))) (x .next-is) (λ g rules with. with)
-        (λ q h e. construct-is book q c h (e ∙ k)) (x .takes (c .built))
+        step-by (λ g rules. Setting given g rules) (Rules.construct (c .built) (pieces (pairsAt (given .book) (c .replacement)))) (x .next-is) (λ g rules with. with)
+        (λ q h e. construct-is (given .book) q c h (e ∙ k)) (x .takes (c .built))
 
-    pub step-condition : (c : Condition) → f .part ≡ Part.Condition c → Conditions heads rows types book starts w w′ (c .negated) (c .chain) (f .next) frame deep left r
-        → Steps heads rows types book starts w w′ at frame deep left r
+    pub step-condition : (c : Condition) → f .part ≡ Part.Condition c → Conditions given w w′ (c .negated) (c .chain) (f .next) frame deep left r
+        → Steps given w w′ at frame deep left r
     step-condition c k x =
-        step-by (λ g rules. Setting heads rows types book starts g rules) (Rules.condition (c .negated) (getD (pairsAt book (c .chain)) 1 0) (conditionOf (pairsAt book (c .chain)))) (x .next-is)
-        (λ g rules with. with) (λ q h e. condition-is book q c h (e ∙ k)) (x .takes)
+        step-by (λ g rules. Setting given g rules) (Rules.condition (c .negated) (getD (pairsAt (given .book) (c .chain)) 1 0) (conditionOf (pairsAt (given .book) (c .chain)))) (x .next-is)
+        (λ g rules with. with) (λ q h e. condition-is (given .book) q c h (e ∙ k)) (x .takes)

@@ -20,7 +20,7 @@ use Rattle.meaning.specs.Meaning as M
 use Rattle.meaning.specs.Meaning.{Bindings, put, calls, nodesWithin, nestingWithin}
 use Rattle.rewrite.specs.Arena.{Standing, Replaced, PlacedAs}
 use Rattle.rules.specs.Views.{pairsAt}
-use Rattle.calls.specs.Engine.{Held, Setting, Sure, Says, Finishes, Replaces}
+use Rattle.calls.specs.Engine.{Held, Given, Setting, Sure, Says, Finishes, Replaces}
 use Rattle.rewrite.specs.declared.arena.Frame.{Frame}
 use Rattle.rewrite.specs.declared.arena.Placed.{Placed}
 use Rattle.calls.specs.declared.Built.{Built}
@@ -99,14 +99,14 @@ module _ (g : Grammar) (w w′ : Words) (base t : ℕ) (scope : Words) (nodes : 
 
 -- THE CODE'S WAYS
 
-module _ (heads rows : Words) (types : ℕ) (book starts w w₁ : Words) (at base n i : ℕ) (frame : Frame) (deep : ℕ) (left : State) (b r : Built) (low : base + 2 * n ≤ frame .top)
-    (f : Finishes heads rows types book starts w w₁ at frame deep left b) where
-  module _ (g : Grammar) (rules : Rules.Rules) (v : Bindings) (target : ℕ) (scope : Words) (set : Setting heads rows types book starts g rules) (held : Held g w frame v) where
+module _ (given : Given) (w w₁ : Words) (at base n i : ℕ) (frame : Frame) (deep : ℕ) (left : State) (b r : Built) (low : base + 2 * n ≤ frame .top)
+    (f : Finishes given w w₁ at frame deep left b) where
+  module _ (g : Grammar) (rules : Rules.Rules) (v : Bindings) (target : ℕ) (scope : Words) (set : Setting given g rules) (held : Held g w frame v) where
     abbrev d : M.Calls
     d = calls true g rules deep
 
     abbrev ps : List Piece
-    ps = pieces (pairsAt book at)
+    ps = pieces (pairsAt (given .book) at)
 
     abbrev m : M.Found
     m = record { place = 2 * i; bound = v }
@@ -123,7 +123,7 @@ module _ (heads rows : Words) (types : ℕ) (book starts w w₁ : Words) (at bas
         stop-says P (M.replace true g rules d target ps scope m left) (b .left) (b .stop) ne (replace-stops g rules d target ps scope m left (b .stop) (b .left) y)
 
   -- the replacement is not finished
-  pub replaces-stopped : (b .stop ≡ 0 → ⊥) → r ≡ record { stop = b .stop; nodes = n; left = b .left } → Replaces heads rows types book starts w w₁ at base n i frame deep left r
+  pub replaces-stopped : (b .stop ≡ 0 → ⊥) → r ≡ record { stop = b .stop; nodes = n; left = b .left } → Replaces given w w₁ at base n i frame deep left r
   replaces-stopped ne e = rw e (record {
     few = λ z. absurd (ne z);
     fits = λ z. absurd (ne z);
@@ -134,15 +134,15 @@ module _ (heads rows : Words) (types : ℕ) (book starts w w₁ : Words) (at bas
         (take-less base (frame .top) w w₁ (omega arith) (x .0), λ z. take-less (base + 2 * n) (frame .top) w w₁ low (x .0), stopped-says g rules v target scope set held ne x (Standing g w₁ base n t));
   })
 
-  module _ (w₂ : Words) (p : Placed) (z : b .stop ≡ 0) (x : Replaced heads rows w₁ w₂ base n i (frame .top) (b .nodes) p) where
-    put-says : (g : Grammar) (rules : Rules.Rules) (v : Bindings) (t target : ℕ) (scope : Words) → Setting heads rows types book starts g rules → Held g w frame v → Standing g w base n t scope
-        → Sure (M.replace true g rules (calls true g rules deep) target (pieces (pairsAt book at)) scope (record { place = 2 * i; bound = v }) left)
+  module _ (w₂ : Words) (p : Placed) (z : b .stop ≡ 0) (x : Replaced (given .heads) (given .rows) w₁ w₂ base n i (frame .top) (b .nodes) p) where
+    put-says : (g : Grammar) (rules : Rules.Rules) (v : Bindings) (t target : ℕ) (scope : Words) → Setting given g rules → Held g w frame v → Standing g w base n t scope
+        → Sure (M.replace true g rules (calls true g rules deep) target (pieces (pairsAt (given .book) at)) scope (record { place = 2 * i; bound = v }) left)
         → (take base w₂ ≡ take base w) × ((p .stop ≡ 0 → ⊥) → take (base + 2 * n) w₂ ≡ take (base + 2 * n) w)
-        × Says (Standing g w₂ base (p .nodes) t) (p .stop) (b .left) (M.replace true g rules (calls true g rules deep) target (pieces (pairsAt book at)) scope (record { place = 2 * i; bound = v }) left)
+        × Says (Standing g w₂ base (p .nodes) t) (p .stop) (b .left) (M.replace true g rules (calls true g rules deep) target (pieces (pairsAt (given .book) at)) scope (record { place = 2 * i; bound = v }) left)
     put-says g rules v t target scope set held stands sure =
         let m : M.Found = record { place = 2 * i; bound = v } in
         let d = calls true g rules deep in
-        let ps = pieces (pairsAt book at) in
+        let ps = pieces (pairsAt (given .book) at) in
         let y = finish-says g rules v target scope set held sure in
         let q = says-ok (Standing g w₁ (frame .top) (b .nodes) target) (M.finish true g rules d target ps v left) (b .left) (b .stop) z (y .1) in
         let go = replace-goes g rules d target ps scope m left (q .0) (b .left) (q .2) in
@@ -158,8 +158,8 @@ module _ (heads rows : Words) (types : ℕ) (book starts w w₁ : Words) (at bas
         )
 
   -- it is, and is put in place or stops there
-  pub replaces-put : (w₂ : Words) (p : Placed) → n ≤ mostNodes → b .stop ≡ 0 → Replaced heads rows w₁ w₂ base n i (frame .top) (b .nodes) p
-      → r ≡ record { stop = p .stop; nodes = p .nodes; left = b .left } → Replaces heads rows types book starts w w₂ at base n i frame deep left r
+  pub replaces-put : (w₂ : Words) (p : Placed) → n ≤ mostNodes → b .stop ≡ 0 → Replaced (given .heads) (given .rows) w₁ w₂ base n i (frame .top) (b .nodes) p
+      → r ≡ record { stop = p .stop; nodes = p .nodes; left = b .left } → Replaces given w w₂ at base n i frame deep left r
   replaces-put w₂ p fw z x e = rw e (record {
     few = λ q. x .few q fw;
     fits = λ q. omega (arith, x .most, f 0 .fits z);

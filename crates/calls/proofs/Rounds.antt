@@ -24,7 +24,7 @@ use Rattle.rewrite.specs.Matching.{bindings}
 use Rattle.rewrite.specs.declared.Vars.{Vars}
 use Rattle.rewrite.specs.Arena.{Standing}
 use Rattle.rules.specs.Views.{pairsAt, Planned, strategyAs, againOf}
-use Rattle.calls.specs.Engine.{Room, Held, Setting, Sure, Says, SoughtAs, EndedAs, FoundFits, Tree, Seeks, Replaces, Left, Calls}
+use Rattle.calls.specs.Engine.{Room, Held, Given, Setting, Sure, Says, SoughtAs, EndedAs, FoundFits, Tree, Seeks, Replaces, Left, Calls}
 use Rattle.rewrite.specs.declared.arena.Frame.{Frame}
 use Rattle.rules.specs.declared.Plan.{Plan}
 use Rattle.calls.specs.declared.Found as Code
@@ -195,11 +195,11 @@ pred-of : (n m : ℕ) → m < n → (k : ℕ) × (n ≡ suc k)
 pred-of zero m h = absurd (omega arith)
 pred-of (suc k) m h = (k, refl)
 
-module _ (heads rows : Words) (types : ℕ) (book starts w₀ : Words) (at base n : ℕ) (vars : Vars) (besides deep : ℕ) (left : State) where
+module _ (given : Given) (w₀ : Words) (at base n : ℕ) (vars : Vars) (besides deep : ℕ) (left : State) where
   -- a call of the meaning that goes on, of which the contract speaks
   pub record Case (g : Grammar) (rules : Rules.Rules) (rule : Rule) (next : ℕ) (args : Env) (scope : Words) (others : ℕ) : Type 0 where
-    pub setting : Setting heads rows types book starts g rules
-    pub read : Layout.rule types book at ≡ value rule next
+    pub setting : Setting given g rules
+    pub read : Layout.rule (given .types) (given .book) at ≡ value rule next
     pub env : EnvAt g (take base w₀) (startsOf vars) args
     pub counted : besides ≡ others + total args
     pub tree : Tree g w₀ base n scope
@@ -230,7 +230,7 @@ module _ (heads rows : Words) (types : ℕ) (book starts w₀ : Words) (at base 
 
   -- the contract
   abbrev Answers : Words → Called → Type 0
-  Answers w r = Calls heads rows types book starts w₀ w at base n vars besides deep left r
+  Answers w r = Calls given w₀ w at base n vars besides deep left r
 
   -- after a search, by where it ended
   pub record Searched (nodes count : ℕ) (w : Words) (s : Sought) : Type 0 where
@@ -251,7 +251,7 @@ module _ (heads rows : Words) (types : ℕ) (book starts w₀ : Words) (at base 
   -- what a call leaves, as the contract says it
   abbrev Leaves : Words → Called → Type 0
   Leaves w r = (g : Grammar) (rules : Rules.Rules) (rule : Rule) (next : ℕ) (args : Env) (scope : Words) (others : ℕ) → Case g rules rule next args scope others
-      → (take base w ≡ take base w₀) × Left heads rows types book starts w₀ w g base r (M.call true g rules (calls true g rules deep) rule args scope others left)
+      → (take base w ≡ take base w₀) × Left given w₀ w g base r (M.call true g rules (calls true g rules deep) rule args scope others left)
 
   -- .. with the numbers that it is answered by
   answers : {number nodes : ℕ} {l : State} {k : ℕ} (w : Words) (r : Called) → r ≡ record { stop = number; nodes = nodes; left = l; replacements = k } → nodes ≤ mostNodes
@@ -268,7 +268,7 @@ module _ (heads rows : Words) (types : ℕ) (book starts w₀ : Words) (at base 
 
   -- a call that has come to its end
   left-is : (w : Words) (g : Grammar) (number nodes k : ℕ) (left : State) (count : ℕ) (now : Words) (e : Ending) (c : M.Called) → c ≡ called now k e left → EndedAs number e → count ≡ k → Tree g w base nodes now
-      → Left heads rows types book starts w₀ w g base (record { stop = number; nodes = nodes; left = left; replacements = count }) c
+      → Left given w₀ w g base (record { stop = number; nodes = nodes; left = left; replacements = count }) c
   left-is w g number nodes k left count now e c q ends same tree = rw q (ends, refl, same, tree)
 
   -- what is live as a call begins
@@ -315,8 +315,8 @@ module _ (heads rows : Words) (types : ℕ) (book starts w₀ : Words) (at base 
     abbrev frame : Frame
     frame = record { vars = vars; live = besides + nodes; top = base + 2 * nodes }
 
-    module _ (fit : besides + nodes ≤ mostLive) (plan : Plan) (planned : (rule : Rule) (next : ℕ) → Layout.rule types book at ≡ value rule next → Planned types book rule plan) (w₁ : Words) (s : Sought)
-        (x : Seeks heads rows types book starts w w₁ plan base nodes frame deep fuel s) where
+    module _ (fit : besides + nodes ≤ mostLive) (plan : Plan) (planned : (rule : Rule) (next : ℕ) → Layout.rule (given .types) (given .book) at ≡ value rule next → Planned (given .types) (given .book) rule plan) (w₁ : Words) (s : Sought)
+        (x : Seeks given w w₁ plan base nodes frame deep fuel s) where
       fits-as : (v : Code.Found) → s .found ≡ v → FoundFits nodes fuel v (s .left)
       fits-as v f = subst (λ z. FoundFits nodes fuel z (s .left)) f (x .fits)
 
@@ -337,15 +337,15 @@ module _ (heads rows : Words) (types : ℕ) (book starts w₀ : Words) (at base 
         turn-goes = turn-sure g rules (calls true g rules deep) rule (here .ps) args (here .now) others (here .most) count fuel (λ e. c .goes (ap (λ z. z .ending) (here .rest) ∙ e))
 
         found : (take (base + 2 * nodes) w₁ ≡ take (base + 2 * nodes) w)
-            × SoughtAs g w₁ (others + size (here .now)) book rule (s .found) (s .frame) (s .left) (s .next) (M.seek true g rules (calls true g rules deep) rule (here .now) 0 (start args (here .now) others) fuel)
+            × SoughtAs g w₁ (others + size (here .now)) (given .book) rule (s .found) (s .frame) (s .left) (s .next) (M.seek true g rules (calls true g rules deep) rule (here .now) 0 (start args (here .now) others) fuel)
         found =
             x .meant g rules rule (start args (here .now) others) (here .now) (c .setting) (planned rule next (c .read)) held (here .type, standing-below w (base + 2 * nodes) (omega arith) (here .stands))
             (seek-sure g rules (calls true g rules deep) rule (here .ps) args (here .now) others fuel turn-goes)
 
         found-as : (v : Code.Found) → s .found ≡ v
-            → SoughtAs g w₁ (others + size (here .now)) book rule v (s .frame) (s .left) (s .next) (M.seek true g rules (calls true g rules deep) rule (here .now) 0 (start args (here .now) others) fuel)
+            → SoughtAs g w₁ (others + size (here .now)) (given .book) rule v (s .frame) (s .left) (s .next) (M.seek true g rules (calls true g rules deep) rule (here .now) 0 (start args (here .now) others) fuel)
         found-as v f =
-            subst (λ z. SoughtAs g w₁ (others + size (here .now)) book rule z (s .frame) (s .left) (s .next) (M.seek true g rules (calls true g rules deep) rule (here .now) 0 (start args (here .now) others) fuel)) f (found .1)
+            subst (λ z. SoughtAs g w₁ (others + size (here .now)) (given .book) rule z (s .frame) (s .left) (s .next) (M.seek true g rules (calls true g rules deep) rule (here .now) 0 (start args (here .now) others) fuel)) f (found .1)
 
         kept₁ : take base w₁ ≡ take base w₀
         kept₁ = take-less base (base + 2 * nodes) w w₁ (omega arith) (found .0) ∙ kept
@@ -381,7 +381,7 @@ module _ (heads rows : Words) (types : ℕ) (book starts w₀ : Words) (at base 
         stops = calls-stopped;
       }
 
-      module _ (j : ℕ) (f : s .found ≡ At j) (w₂ : Words) (b : Built) (y : Replaces heads rows types book starts w₁ w₂ (s .next) base nodes j (s .frame) deep (s .left) b) where
+      module _ (j : ℕ) (f : s .found ≡ At j) (w₂ : Words) (b : Built) (y : Replaces given w₁ w₂ (s .next) base nodes j (s .frame) deep (s .left) b) where
         -- an attempt is spent
         spends : b .left .attempts < fuel .attempts
         spends = omega (arith, y .less, fits-as (At j) f .1)
@@ -400,7 +400,7 @@ module _ (heads rows : Words) (types : ℕ) (book starts w₀ : Words) (at base 
           abbrev made : List Piece → Result Words
           made ps = M.replace true g rules (calls true g rules deep) (rule .target) ps (here c .now) m (s .left)
 
-          put-as : (ps : List Piece) → ps ≡ pieces (pairsAt book (s .next)) → Sure (made ps)
+          put-as : (ps : List Piece) → ps ≡ pieces (pairsAt (given .book) (s .next)) → Sure (made ps)
               → (take base w₂ ≡ take base w₁) × ((b .stop ≡ 0 → ⊥) → take (base + 2 * nodes) w₂ ≡ take (base + 2 * nodes) w₁)
               × Says (Standing g w₂ base (b .nodes) (here c .type)) (b .stop) (b .left) (made ps)
           put-as ps e =

@@ -43,7 +43,7 @@ use Rattle.rewrite.proofs.Matcher.{Node, node-of, two-marked}
 use Rattle.rewrite.specs.declared.Verdict.the-variants.{Matches, Differs, Stops}
 use Rattle.rewrite.specs.declared.Matched.{Matched}
 use Rattle.rewrite.specs.declared.arena.Frame.{Frame}
-use Rattle.calls.specs.Engine.{Room, Grown, Held, Setting, Sure, TakenAs, partOn, partRead, SoughtAs, FoundFits, Tree, Steps, Seeks}
+use Rattle.calls.specs.Engine.{Room, Grown, Held, Given, Setting, Sure, TakenAs, partOn, partRead, SoughtAs, FoundFits, Tree, Steps, Seeks}
 use Rattle.calls.specs.declared.Taken.{Taken}
 use Rattle.calls.specs.declared.Found as Code
 use Rattle.calls.specs.declared.Found.the-variants.{At, Nowhere, Stopped}
@@ -187,14 +187,14 @@ some-first : {A B : Type 0} (a : A) (l : State) (f : A → Comp (Option B)) → 
 unfolding thenOf whether
 some-first a l f = refl
 
-module _ (heads rows : Words) (types : ℕ) (book starts : Words) (deep : ℕ) (w₀ : Words) (fuel₀ : State) (frame₀ : Frame) (at₀ count₀ : ℕ) where
+module _ (given : Given) (deep : ℕ) (w₀ : Words) (fuel₀ : State) (frame₀ : Frame) (at₀ count₀ : ℕ) where
   -- parts have matched up to here: what is open now, and the parts that are left
   record Gone (g : Grammar) (rules : Rules.Rules) (env₀ : Env) (besides : ℕ) (ps₀ : List Rules.Part) (end : ℕ) (w : Words) (fuel : State) (frame : Frame) (at count : ℕ) : Type 0 where
     kept : take (frame₀ .top) w ≡ take (frame₀ .top) w₀
     env : Env
     held : Held g w frame (bindings env besides)
     ps : List Rules.Part
-    read : many count (Layout.part types book) at ≡ value ps end
+    read : many count (Layout.part (given .types) (given .book)) at ≡ value ps end
     is : M.parts true g rules (calls true g rules deep) ps₀ (bindings env₀ besides) fuel₀ ≡ M.parts true g rules (calls true g rules deep) ps (bindings env besides) fuel
 
   pub record Parting (w : Words) (fuel : State) (frame : Frame) (at count : ℕ) : Type 0 where
@@ -202,8 +202,8 @@ module _ (heads rows : Words) (types : ℕ) (book starts : Words) (deep : ℕ) (
     pub less : fuel .attempts ≤ fuel₀ .attempts
     pub fewer : count ≤ count₀
     pub long : length w ≡ length w₀
-    gone : (g : Grammar) (rules : Rules.Rules) (env₀ : Env) (besides : ℕ) (ps₀ : List Rules.Part) (end : ℕ) → Setting heads rows types book starts g rules → Held g w₀ frame₀ (bindings env₀ besides)
-        → many count₀ (Layout.part types book) at₀ ≡ value ps₀ end → Sure (M.parts true g rules (calls true g rules deep) ps₀ (bindings env₀ besides) fuel₀) → Gone g rules env₀ besides ps₀ end w fuel frame at count
+    gone : (g : Grammar) (rules : Rules.Rules) (env₀ : Env) (besides : ℕ) (ps₀ : List Rules.Part) (end : ℕ) → Setting given g rules → Held g w₀ frame₀ (bindings env₀ besides)
+        → many count₀ (Layout.part (given .types) (given .book)) at₀ ≡ value ps₀ end → Sure (M.parts true g rules (calls true g rules deep) ps₀ (bindings env₀ besides) fuel₀) → Gone g rules env₀ besides ps₀ end w fuel frame at count
 
   pub parting-start : Sound (frame₀ .vars) → frame₀ .live ≤ mostLive → frame₀ .top ≤ 2 * frame₀ .live → Parting w₀ fuel₀ frame₀ at₀ count₀
   parting-start s f l = record {
@@ -214,7 +214,7 @@ module _ (heads rows : Words) (types : ℕ) (book starts : Words) (deep : ℕ) (
     gone = λ g rules env₀ besides ps₀ end setting held read sure. record { kept = refl; env = env₀; held = held; ps = ps₀; read = read; is = refl };
   }
 
-  pub parting-on : (w : Words) (fuel : State) (frame : Frame) (at count : ℕ) → Parting w fuel frame at count → 0 < count → (w′ : Words) (r : Taken) → Steps heads rows types book starts w w′ at frame deep fuel r → r .verdict ≡ Matches
+  pub parting-on : (w : Words) (fuel : State) (frame : Frame) (at count : ℕ) → Parting w fuel frame at count → 0 < count → (w′ : Words) (r : Taken) → Steps given w w′ at frame deep fuel r → r .verdict ≡ Matches
       → Parting w′ (r .left) (r .frame) (r .next) (count - 1)
   parting-on w fuel frame at count pr pos w′ r steps v = record {
     grown = grown-more (pr .grown) (steps .takes .grown);
@@ -223,8 +223,8 @@ module _ (heads rows : Words) (types : ℕ) (book starts : Words) (deep : ℕ) (
     long = steps .takes .long ∙ pr .long;
     gone = λ g rules env₀ besides ps₀ end setting held read sure.
         let a = pr .gone g rules env₀ besides ps₀ end setting held read sure in
-        let x = there types book at count end (a .ps) pos (a .read) in
-        let first = step-first types book at count end (a .ps) x g rules deep (bindings (a .env) besides) fuel in
+        let x = there (given .types) (given .book) at count end (a .ps) pos (a .read) in
+        let first = step-first (given .types) (given .book) at count end (a .ps) x g rules deep (bindings (a .env) besides) fuel in
         let s = steps .takes .meant g rules (bindings (a .env) besides) setting (a .held) (sure-first _ _ (sure-as (a .is ∙ first) sure)) in
         let y = rw v at (s .1) in
         record {
@@ -232,7 +232,7 @@ module _ (heads rows : Words) (types : ℕ) (book starts : Words) (deep : ℕ) (
           env = y .0;
           held = y .1;
           ps = x .more;
-          read = ap (many (count - 1) (Layout.part types book)) (steps .next-is (x .q) (x .next) (x .read)) ∙ x .others;
+          read = ap (many (count - 1) (Layout.part (given .types) (given .book))) (steps .next-is (x .q) (x .next) (x .read)) ∙ x .others;
           is = a .is ∙ first ∙ ap (λ z. thenOf z (λ m. whether m (M.parts true g rules (calls true g rules deep) (x .more)) (return none))) (y .2)
               ∙ some-first (bindings (y .0) besides) (r .left) (M.parts true g rules (calls true g rules deep) (x .more));
         };
@@ -263,7 +263,7 @@ rest-as t v below more e q r = rw (e, q) at r
 below-word : (w w₀ : Words) (top p : ℕ) → p < top → take top w ≡ take top w₀ → getD w p 0 ≡ getD (take top w₀) p 0
 below-word w w₀ top p h e = sym (getD-take top w p 0 h) ∙ ap (λ x. getD x p 0) e
 
-module _ (heads rows : Words) (types : ℕ) (book starts w₀ : Words) (plan : Plan) (base n : ℕ) (frame : Frame) (deep : ℕ) (left : State) where
+module _ (given : Given) (w₀ : Words) (plan : Plan) (base n : ℕ) (frame : Frame) (deep : ℕ) (left : State) where
   -- what the meaning is given
   pub record Case : Type 0 where
     pub g : Grammar
@@ -271,8 +271,8 @@ module _ (heads rows : Words) (types : ℕ) (book starts w₀ : Words) (plan : P
     pub rule : Rule
     pub b : Bindings
     pub scope : Words
-    pub setting : Setting heads rows types book starts g rules
-    pub planned : Planned types book rule plan
+    pub setting : Setting given g rules
+    pub planned : Planned (given .types) (given .book) rule plan
     pub held : Held g w₀ frame b
     pub tree : Tree g (take (frame .top) w₀) base n scope
     pub sure : Sure (M.seek true g rules (calls true g rules deep) rule scope 0 b left)
@@ -377,8 +377,8 @@ module _ (heads rows : Words) (types : ℕ) (book starts w₀ : Words) (plan : P
     module _ (w : Words) (fuel : State) (i : ℕ) (go : Searching w fuel i) where
       -- an answer at a node
       sought : (f : Code.Found) (fr : Frame) (now : State) (at : ℕ) (w′ : Words) → length w′ ≡ length w₀ → Grown frame fr → FoundFits n left f now
-          → ((k : Case) → (take (frame .top) w′ ≡ take (frame .top) w₀) × SoughtAs (k .g) w′ (k .b .besides) book (k .rule) f fr now at (whole k))
-          → Seeks heads rows types book starts w₀ w′ plan base n frame deep left (record { found = f; frame = fr; left = now; next = at })
+          → ((k : Case) → (take (frame .top) w′ ≡ take (frame .top) w₀) × SoughtAs (k .g) w′ (k .b .besides) (given .book) (k .rule) f fr now at (whole k))
+          → Seeks given w₀ w′ plan base n frame deep left (record { found = f; frame = fr; left = now; next = at })
       sought f fr now at w′ l grown fits run = record {
         grown = grown;
         fits = fits;
@@ -386,7 +386,7 @@ module _ (heads rows : Words) (types : ℕ) (book starts w₀ : Words) (plan : P
         meant = λ g rules rule b scope setting planned held tree sure. run (record { g = g; rules = rules; rule = rule; b = b; scope = scope; setting = setting; planned = planned; held = held; tree = tree; sure = sure });
       }
 
-      pub searching-none : triedOf (plan .strategy) n ≤ i → Seeks heads rows types book starts w₀ w plan base n frame deep left (record { found = Nowhere; frame = frame; left = fuel; next = 0 })
+      pub searching-none : triedOf (plan .strategy) n ≤ i → Seeks given w₀ w plan base n frame deep left (record { found = Nowhere; frame = frame; left = fuel; next = 0 })
       searching-none past = sought Nowhere frame fuel 0 w (go .long) (grown-same room) (go .less) (λ k. (go .run k .kept, ended k))
         where
           empty : (x : Words) → length x ≡ 0 → x ≡ []
@@ -431,7 +431,7 @@ module _ (heads rows : Words) (types : ℕ) (book starts w₀ : Words) (plan : P
               run-here k w fuel i t inside (go .run k)
               ∙ seek-this (k .g) (k .rules) deep (k .rule) (k .b) (node k .t) (node k .v) (node k .below) (2 * i) fuel (sym (type-here k) ∙ this ∙ k .planned .target)
 
-          pub searching-spent : fuel .attempts ≡ 0 → Seeks heads rows types book starts w₀ w plan base n frame deep left (record { found = Stopped 40; frame = frame; left = fuel; next = 0 })
+          pub searching-spent : fuel .attempts ≡ 0 → Seeks given w₀ w plan base n frame deep left (record { found = Stopped 40; frame = frame; left = fuel; next = 0 })
           searching-spent z = sought (Stopped 40) frame fuel 0 w (go .long) (grown-same room) (go .less) (λ k. (go .run k .kept, stops k))
             where
               stops : (k : Case) → whole k ≡ stop 40 fuel
@@ -440,7 +440,7 @@ module _ (heads rows : Words) (types : ℕ) (book starts w₀ : Words) (plan : P
                   ∙ then-stop _ (next k (node k .below) (2 * i)) 40 fuel
                   (attempt-spent (k .g) (k .rules) deep (k .rule) (node k .t ∷ node k .v ∷ node k .below) (k .b) fuel z)
 
-          module _ (costs : fuel .attempts ≡ 0 → ⊥) (m : Matched) (arena part pairs : Words) (ea : arena ≡ take (frame .top) w) (ep : part ≡ take (2 * (n - i)) (drop (base + 2 * i) arena)) (es : pairs ≡ pairsAt book (plan .pattern))
+          module _ (costs : fuel .attempts ≡ 0 → ⊥) (m : Matched) (arena part pairs : Words) (ea : arena ≡ take (frame .top) w) (ep : part ≡ take (2 * (n - i)) (drop (base + 2 * i) arena)) (es : pairs ≡ pairsAt (given .book) (plan .pattern))
               (answers : Answers arena part (base + 2 * i) (frame .vars) (frame .live) (λ g ws b. match true g (shapes pairs) ws b) m) where
             spends : fuel .attempts ≡ suc (fuel .attempts - 1)
             spends = pred (fuel .attempts) costs
@@ -490,7 +490,7 @@ module _ (heads rows : Words) (types : ℕ) (book starts w₀ : Words) (plan : P
                   ∙ none-twice (spent fuel) _ (next k (node k .below) (2 * i)) ∙ after-none (k .g) (k .rules) deep (k .rule) (k .b) (node k .below) (2 * i) (spent fuel));
             }
 
-            pub searching-stops : {no : ℕ} → m .verdict ≡ Stops no → Seeks heads rows types book starts w₀ w plan base n frame deep left (record { found = Stopped no; frame = frame; left = spent fuel; next = 0 })
+            pub searching-stops : {no : ℕ} → m .verdict ≡ Stops no → Seeks given w₀ w plan base n frame deep left (record { found = Stopped no; frame = frame; left = spent fuel; next = 0 })
             searching-stops {no} v = sought (Stopped no) frame (spent fuel) 0 w (go .long) (grown-same room) (omega (arith, go .less)) (λ k. (go .run k .kept, stops k))
               where
                 stops : (k : Case) → whole k ≡ stop no (spent fuel)
@@ -505,7 +505,7 @@ module _ (heads rows : Words) (types : ℕ) (book starts w₀ : Words) (plan : P
               env : Env
               held : Held (k .g) w′ fr (bindings env (k .b .besides))
               ps : List Rules.Part
-              read : many count (Layout.part types book) at ≡ value ps (k .planned .end)
+              read : many count (Layout.part (given .types) (given .book)) at ≡ value ps (k .planned .end)
               is : whole k ≡ thenOf (M.parts true (k .g) (k .rules) (calls true (k .g) (k .rules) deep) ps (bindings env (k .b .besides)) now) (next k (node k .below) (2 * i))
 
             pub record Trying (w′ : Words) (now : State) (fr : Frame) (at count : ℕ) : Type 0 where
@@ -536,7 +536,7 @@ module _ (heads rows : Words) (types : ℕ) (book starts w₀ : Words) (plan : P
             }
 
             pub trying-run : (v : m .verdict ≡ Matches) (eight : plan .count ≤ 8) (w₁ : Words) (now : State) (fr : Frame) (at count : ℕ)
-                → Parting heads rows types book starts deep w (spent fuel) (record { vars = m .vars; live = m .live; top = frame .top }) (plan .first) (plan .count) w₁ now fr at count → Trying w₁ now fr at count
+                → Parting given deep w (spent fuel) (record { vars = m .vars; live = m .live; top = frame .top }) (plan .first) (plan .count) w₁ now fr at count → Trying w₁ now fr at count
             trying-run v eight w₁ now fr at count pr =
                 let st = trying-start v eight in
                 record {
@@ -550,13 +550,13 @@ module _ (heads rows : Words) (types : ℕ) (book starts w₀ : Words) (plan : P
                 }
 
             module _ (w₁ : Words) (now : State) (fr : Frame) (at count : ℕ) (tr : Trying w₁ now fr at count) where
-              pub trying-done : count ≡ 0 → Seeks heads rows types book starts w₀ w₁ plan base n frame deep left (record { found = At i; frame = fr; left = now; next = at })
+              pub trying-done : count ≡ 0 → Seeks given w₀ w₁ plan base n frame deep left (record { found = At i; frame = fr; left = now; next = at })
               trying-done z = sought (At i) fr now at w₁ (tr .long) (tr .grown) (inside, tr .less) (λ k. (tr .try k .kept, done k))
                 where
-                  done : (k : Case) → SoughtAs (k .g) w₁ (k .b .besides) book (k .rule) (At i) fr now at (whole k)
+                  done : (k : Case) → SoughtAs (k .g) w₁ (k .b .besides) (given .book) (k .rule) (At i) fr now at (whole k)
                   done k =
                       let a = tr .try k in
-                      let e : value [] at ≡ value (a .ps) (k .planned .end) = sym (many-none (Layout.part types book) count at (omega arith)) ∙ a .read in
+                      let e : value [] at ≡ value (a .ps) (k .planned .end) = sym (many-none (Layout.part (given .types) (given .book)) count at (omega arith)) ∙ a .read in
                       let all : a .ps ≡ [] = cc in
                       let ends-here : k .planned .end ≡ at = cc in (
                         a .env,
@@ -564,21 +564,21 @@ module _ (heads rows : Words) (types : ℕ) (book starts w₀ : Words) (plan : P
                         a .is ∙ ap (λ x. thenOf (M.parts true (k .g) (k .rules) (calls true (k .g) (k .rules) deep) x (bindings (a .env) (k .b .besides)) now) (next k (node k .below) (2 * i))) all
                             ∙ then-ok _ (next k (node k .below) (2 * i)) (some (bindings (a .env) (k .b .besides))) now (parts-end (k .g) (k .rules) deep (bindings (a .env) (k .b .besides)) now)
                             ∙ after-some (k .g) (k .rules) deep (k .rule) (k .b) (node k .below) (2 * i) now (bindings (a .env) (k .b .besides)),
-                        λ ps replaces. k .planned .replacement ps replaces ∙ ap (λ x. pieces (pairsAt book x)) ends-here,
+                        λ ps replaces. k .planned .replacement ps replaces ∙ ap (λ x. pieces (pairsAt (given .book) x)) ends-here,
                       )
 
-              module _ (more : 0 < count) (w₂ : Words) (r : Taken) (steps : Steps heads rows types book starts w₁ w₂ at fr deep now r) where
-                part-there : (k : Case) → There types book at count (k .planned .end) (tr .try k .ps)
-                part-there k = there types book at count (k .planned .end) (tr .try k .ps) more (tr .try k .read)
+              module _ (more : 0 < count) (w₂ : Words) (r : Taken) (steps : Steps given w₁ w₂ at fr deep now r) where
+                part-there : (k : Case) → There (given .types) (given .book) at count (k .planned .end) (tr .try k .ps)
+                part-there k = there (given .types) (given .book) at count (k .planned .end) (tr .try k .ps) more (tr .try k .read)
 
                 -- the run is that part's step, and what follows it
-                stepping : (k : Case) → whole k ≡ thenOf (thenOf (partRead deep book (partAt types book at) (k .g) (k .rules) (bindings (tr .try k .env) (k .b .besides)) now)
+                stepping : (k : Case) → whole k ≡ thenOf (thenOf (partRead deep (given .book) (partAt (given .types) (given .book) at) (k .g) (k .rules) (bindings (tr .try k .env) (k .b .besides)) now)
                     (λ m. whether m (M.parts true (k .g) (k .rules) (calls true (k .g) (k .rules) deep) (part-there k .more)) (return none))) (next k (node k .below) (2 * i))
                 stepping k =
                     let a = tr .try k in
-                    a .is ∙ ap (λ y. thenOf y (next k (node k .below) (2 * i))) (step-first types book at count (k .planned .end) (a .ps) (part-there k) (k .g) (k .rules) deep (bindings (a .env) (k .b .besides)) now)
+                    a .is ∙ ap (λ y. thenOf y (next k (node k .below) (2 * i))) (step-first (given .types) (given .book) at count (k .planned .end) (a .ps) (part-there k) (k .g) (k .rules) deep (bindings (a .env) (k .b .besides)) now)
 
-                stepped : (k : Case) → (take (fr .top) w₂ ≡ take (fr .top) w₁) × TakenAs (k .g) w₂ (k .b .besides) (r .verdict) (r .frame) (r .left) (partRead deep book (partAt types book at) (k .g) (k .rules) (bindings (tr .try k .env) (k .b .besides)) now)
+                stepped : (k : Case) → (take (fr .top) w₂ ≡ take (fr .top) w₁) × TakenAs (k .g) w₂ (k .b .besides) (r .verdict) (r .frame) (r .left) (partRead deep (given .book) (partAt (given .types) (given .book) at) (k .g) (k .rules) (bindings (tr .try k .env) (k .b .besides)) now)
                 stepped k = steps .takes .meant (k .g) (k .rules) (bindings (tr .try k .env) (k .b .besides)) (k .setting) (tr .try k .held)
                     (λ e. k .sure (stepping k ∙ ap (λ y. thenOf (thenOf y (λ m. whether m (M.parts true (k .g) (k .rules) (calls true (k .g) (k .rules) deep) (part-there k .more)) (return none))) (next k (node k .below) (2 * i))) e ∙ stuck-twice _ _))
 
@@ -594,24 +594,24 @@ module _ (heads rows : Words) (types : ℕ) (book starts w₀ : Words) (plan : P
                   less = omega (arith, tr .less, steps .takes .less);
                   long = same-long;
                   run = λ k.
-                      let y : partRead deep book (partAt types book at) (k .g) (k .rules) (bindings (tr .try k .env) (k .b .besides)) now ≡ ok none (r .left) = rw v at (stepped k .1) in
+                      let y : partRead deep (given .book) (partAt (given .types) (given .book) at) (k .g) (k .rules) (bindings (tr .try k .env) (k .b .besides)) now ≡ ok none (r .left) = rw v at (stepped k .1) in
                       at-next k w w₂ fuel (r .left) i inside (go .run k) (still k)
                       (stepping k ∙ ap (λ y. thenOf (thenOf y (λ m. whether m (M.parts true (k .g) (k .rules) (calls true (k .g) (k .rules) deep) (part-there k .more)) (return none))) (next k (node k .below) (2 * i))) y
                       ∙ none-twice (r .left) _ (next k (node k .below) (2 * i)) ∙ after-none (k .g) (k .rules) deep (k .rule) (k .b) (node k .below) (2 * i) (r .left));
                 }
 
-                pub trying-stops : {no : ℕ} → r .verdict ≡ Stops no → Seeks heads rows types book starts w₀ w₂ plan base n frame deep left (record { found = Stopped no; frame = frame; left = r .left; next = 0 })
+                pub trying-stops : {no : ℕ} → r .verdict ≡ Stops no → Seeks given w₀ w₂ plan base n frame deep left (record { found = Stopped no; frame = frame; left = r .left; next = 0 })
                 trying-stops {no} v = sought (Stopped no) frame (r .left) 0 w₂ same-long (grown-same room) (omega (arith, tr .less, steps .takes .less)) (λ k. (still k, stops k))
                   where
                     stops : (k : Case) → whole k ≡ stop no (r .left)
                     stops k =
-                        let y : partRead deep book (partAt types book at) (k .g) (k .rules) (bindings (tr .try k .env) (k .b .besides)) now ≡ stop no (r .left) = rw v at (stepped k .1) in
+                        let y : partRead deep (given .book) (partAt (given .types) (given .book) at) (k .g) (k .rules) (bindings (tr .try k .env) (k .b .besides)) now ≡ stop no (r .left) = rw v at (stepped k .1) in
                         stepping k ∙ ap (λ y. thenOf (thenOf y (λ m. whether m (M.parts true (k .g) (k .rules) (calls true (k .g) (k .rules) deep) (part-there k .more)) (return none))) (next k (node k .below) (2 * i))) y
                         ∙ stop-twice no (r .left) _ _
 
     -- THE NODES PASSED OVER
 
-    module _ (fits : 0 < n → base + 2 * n ≤ frame .top) (pairs : Words) (es : pairs ≡ pairsAt book (plan .pattern)) (w : Words) (fuel : State) (i : ℕ) (go : Searching w fuel i) where
+    module _ (fits : 0 < n → base + 2 * n ≤ frame .top) (pairs : Words) (es : pairs ≡ pairsAt (given .book) (plan .pattern)) (w : Words) (fuel : State) (i : ℕ) (go : Searching w fuel i) where
       -- the stretch from a node on, as a part of what is open
       stretch : (j : ℕ) → j < n → span w (base + 2 * j) (base + 2 * n) ≡ take (2 * (n - j)) (drop (base + 2 * j) (take (frame .top) w))
       stretch j h =

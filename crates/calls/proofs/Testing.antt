@@ -27,7 +27,7 @@ use Rattle.rewrite.specs.declared.Verdict.{Verdict}
 use Rattle.rewrite.specs.declared.Verdict.the-variants.{Matches, Differs, Stops}
 use Rattle.rewrite.specs.Arena.{NodesAt, Gathered, Standing}
 use Rattle.rules.specs.Views.{pairsAt, Planned, chainCount}
-use Rattle.calls.specs.Engine.{turnedBy, Room, Grown, Sure, TakenAs, TestedAs, SoughtAs, FoundFits, Tree, Held, Setting, partOn, Conditions, Seeks, CallMatches, succeedsAt, chainAt, Succeeds, AnySucceeds}
+use Rattle.calls.specs.Engine.{turnedBy, Room, Grown, Sure, TakenAs, TestedAs, SoughtAs, FoundFits, Tree, Held, Given, Setting, partOn, Conditions, Seeks, CallMatches, succeedsAt, chainAt, Succeeds, AnySucceeds}
 use Rattle.rewrite.specs.declared.arena.Args.{Args}
 use Rattle.rewrite.specs.declared.arena.Frame.{Frame}
 use Rattle.rules.specs.declared.Plan.{Plan}
@@ -80,9 +80,9 @@ matches-steps g rules deeper r args scope besides l s =
     let b = begin-sure g r args scope besides l (sure-first (begin true g r args scope besides l) k s) in
     ap (λ m. thenOf m k) (b .1)
 
-module _ (heads rows : Words) (types : ℕ) (book starts w : Words) (at base n : ℕ) (frame : Frame) (deep : ℕ) (left : State) where
+module _ (given : Given) (w : Words) (at base n : ℕ) (frame : Frame) (deep : ℕ) (left : State) where
   -- too many nodes would be live
-  pub matches-over : mostLive < frame .live + n → CallMatches heads rows types book starts w w at base n frame deep left (record { verdict = Stops 44; left = left })
+  pub matches-over : mostLive < frame .live + n → CallMatches given w w at base n frame deep left (record { verdict = Stops 44; left = left })
   matches-over h = (
     le-refl (left .attempts),
     λ r next e. record {
@@ -97,9 +97,9 @@ module _ (heads rows : Words) (types : ℕ) (book starts w : Words) (at base n :
   )
 
   pub matches-found : frame .live + n ≤ mostLive → (w′ : Words) (plan : Plan) (s : Sought)
-      → ((rule : Rule) (next : ℕ) → Layout.rule types book at ≡ value rule next → Planned types book rule plan)
-      → Seeks heads rows types book starts w w′ plan base n (record { vars = frame .vars; live = frame .live + n; top = frame .top }) deep left s
-      → (v : Verdict) → foundVerdict (s .found) ≡ v → CallMatches heads rows types book starts w w′ at base n frame deep left (record { verdict = v; left = s .left })
+      → ((rule : Rule) (next : ℕ) → Layout.rule (given .types) (given .book) at ≡ value rule next → Planned (given .types) (given .book) rule plan)
+      → Seeks given w w′ plan base n (record { vars = frame .vars; live = frame .live + n; top = frame .top }) deep left s
+      → (v : Verdict) → foundVerdict (s .found) ≡ v → CallMatches given w w′ at base n frame deep left (record { verdict = v; left = s .left })
   matches-found h w′ plan s planned sk v ev = (
     found-less n left (s .found) (s .left) (sk .fits),
     λ r next e. record {
@@ -110,7 +110,7 @@ module _ (heads rows : Words) (types : ℕ) (book starts w : Words) (at base n :
           let steps = matches-steps g rules (calls true g rules deep) r (b .env) scope (b .besides) left sure ∙ live-fits (live b′) left _ (omega (arith, h, held .counted, tree .1 .nodes)) in
           let q = sk .meant g rules r b′ scope st (planned r next e) (record { stands = held .stands; counted = omega (arith, held .counted, tree .1 .nodes) }) tree
           (sure-first (M.seek true g rules (calls true g rules deep) r scope 0 b′ left) isMatch (sure-as steps sure)) in
-          (q .0, tested-as (s .left) ev steps (found-tested g w′ (b′ .besides) book r (s .found) (s .frame) (s .left) (s .next) _ (q .1)));
+          (q .0, tested-as (s .left) ev steps (found-tested g w′ (b′ .besides) (given .book) r (s .found) (s .frame) (s .left) (s .next) _ (q .1)));
     },
   )
 
@@ -152,9 +152,9 @@ module _ (g : Grammar) (rules : Rules.Rules) (deeper : M.Calls) (scope : Words) 
   unfolding M.succeeds
   succeeds-operation o args l = refl
 
-module _ (heads rows : Words) (types : ℕ) (book starts w pairs : Words) (at base n : ℕ) (frame : Frame) (deep : ℕ) (left : State) where
+module _ (given : Given) (w pairs : Words) (at base n : ℕ) (frame : Frame) (deep : ℕ) (left : State) where
   abbrev Succeeding : Words → Tested → Type 0
-  Succeeding w′ r = Succeeds heads rows types book starts w w′ pairs at base n frame deep left r
+  Succeeding w′ r = Succeeds given w w′ pairs at base n frame deep left r
 
   abbrev Run : Grammar → Rules.Rules → Words → Bindings → Result Bool
   Run g rules scope b = succeedsAt deep pairs at g rules scope b left
@@ -180,8 +180,8 @@ module _ (heads rows : Words) (types : ℕ) (book starts w pairs : Words) (at ba
             (refl, q .same ∙ matches-none g rules (q .rule) (q .args) scope (live b) left deep d);
       }
 
-      pub succeeds-called : (deep ≡ 0 → ⊥) → (args : Args) → Gathered w pairs (at + 2) k (frame .vars) args → (place : ℕ) → (a < 64 → place ≡ getD starts a 0) → (w′ : Words) → length w′ ≡ length w → (r : Tested)
-          → CallMatches heads rows types book starts w w′ place base n (record { vars = args .vars; live = frame .live + args .total; top = frame .top }) (deep - 1) left r → Succeeding w′ r
+      pub succeeds-called : (deep ≡ 0 → ⊥) → (args : Args) → Gathered w pairs (at + 2) k (frame .vars) args → (place : ℕ) → (a < 64 → place ≡ getD (given .starts) a 0) → (w′ : Words) → length w′ ≡ length w → (r : Tested)
+          → CallMatches given w w′ place base n (record { vars = args .vars; live = frame .live + args .total; top = frame .top }) (deep - 1) left r → Succeeding w′ r
       succeeds-called d args ga place es w′ long r cm = record {
         less = cm .0;
         long = long;
@@ -190,12 +190,12 @@ module _ (heads rows : Words) (types : ℕ) (book starts w pairs : Words) (at ba
             let p = st .placed (getD pairs at 0) (q .rule) (q .there) in
             let run = q .same ∙ matches-call g rules (q .rule) (q .args) scope (live b) left deep d in
             let s′ = sure-as run s in
-            let f = rule-few types book (getD starts (getD pairs at 0) 0) (q .rule) (p .1 .0) (p .1 .1) in
+            let f = rule-few (given .types) (given .book) (getD (given .starts) (getD pairs at 0) 0) (q .rule) (p .1 .0) (p .1 .1) in
             let here = ga .stands g (frame .top) (b .env) (q .args) left (st .tables .heads-of .types) (held .stands)
             (omega (arith, f, matches-begins g rules (q .rule) (q .args) scope (live b) left (calls true g rules (deep - 1)) s′, q .many, arguments-length (getD pairs (at + 1) 0) (drop (at + 2) pairs)))
             (subst (λ j. variables (b .env) (arguments j (drop (at + 2) pairs)) left ≡ ok (q .args) left) (sym ek) (q .read)) in
-            let there : place ≡ getD starts (getD pairs at 0) 0 = es (omega (arith, p .0)) ∙ ap (λ j. getD starts j 0) ea in
-            let z = cm .1 (q .rule) (p .1 .0) (ap (Layout.rule types book) there ∙ p .1 .1) .meant g rules scope (bindings (q .args) (live b)) st
+            let there : place ≡ getD (given .starts) (getD pairs at 0) 0 = es (omega (arith, p .0)) ∙ ap (λ j. getD (given .starts) j 0) ea in
+            let z = cm .1 (q .rule) (p .1 .0) (ap (Layout.rule (given .types) (given .book)) there ∙ p .1 .1) .meant g rules scope (bindings (q .args) (live b)) st
             (record { stands = here .0; counted = omega (arith, here .1, held .counted) }) tree s′ in
             (z .0, tested-as {v = r .verdict} (r .left) refl run (z .1));
       }
@@ -255,7 +255,7 @@ any-end : (g : Grammar) (rules : Rules.Rules) (deeper : M.Calls) (ws : Words) (k
 unfolding M.anySucceeds applications
 any-end g rules deeper ws k env scope besides l e = rw e
 
-module _ (heads rows : Words) (types : ℕ) (book starts w₀ pairs : Words) (base n : ℕ) (frame : Frame) (deep : ℕ) (left : State) where
+module _ (given : Given) (w₀ pairs : Words) (base n : ℕ) (frame : Frame) (deep : ℕ) (left : State) where
   abbrev Whole : Grammar → Rules.Rules → Words → Bindings → Result Bool
   Whole g rules scope b = M.anySucceeds true g rules (calls true g rules deep) (chainAt pairs 2) (b .env) scope (live b) left
 
@@ -264,7 +264,7 @@ module _ (heads rows : Words) (types : ℕ) (book starts w₀ pairs : Words) (ba
     pub less : fuel .attempts ≤ left .attempts
     pub long : length w ≡ length w₀
     pub near : at + k * 8589934594 ≤ 2 ^ 36
-    gone : (g : Grammar) (rules : Rules.Rules) (scope : Words) (b : Bindings) → Setting heads rows types book starts g rules → Held g w₀ frame b → Tree g (take (frame .top) w₀) base n scope
+    gone : (g : Grammar) (rules : Rules.Rules) (scope : Words) (b : Bindings) → Setting given g rules → Held g w₀ frame b → Tree g (take (frame .top) w₀) base n scope
         → Sure (Whole g rules scope b)
         → (take (frame .top) w ≡ take (frame .top) w₀)
         × (Whole g rules scope b ≡ M.anySucceeds true g rules (calls true g rules deep) (applications k (drop at pairs)) (b .env) scope (live b) fuel)
@@ -278,9 +278,9 @@ module _ (heads rows : Words) (types : ℕ) (book starts w₀ pairs : Words) (ba
   }
 
   module _ (w : Words) (k at : ℕ) (fuel : State) (i : Trying w k at fuel) where
-    module _ (h : 0 < k) (w′ : Words) (r : Tested) (done : Succeeds heads rows types book starts w w′ pairs at base n frame deep fuel r) where
+    module _ (h : 0 < k) (w′ : Words) (r : Tested) (done : Succeeds given w w′ pairs at base n frame deep fuel r) where
       -- what the application gave
-      one : (g : Grammar) (rules : Rules.Rules) (scope : Words) (b : Bindings) → Setting heads rows types book starts g rules → Held g w₀ frame b → Tree g (take (frame .top) w₀) base n scope
+      one : (g : Grammar) (rules : Rules.Rules) (scope : Words) (b : Bindings) → Setting given g rules → Held g w₀ frame b → Tree g (take (frame .top) w₀) base n scope
           → Sure (Whole g rules scope b) → (take (frame .top) w′ ≡ take (frame .top) w₀) × TestedAs (r .verdict) (r .left) (succeedsAt deep pairs at g rules scope b fuel)
           × (Whole g rules scope b
           ≡ thenOf (succeedsAt deep pairs at g rules scope b fuel) (orElse (M.anySucceeds true g rules (calls true g rules deep) (applications (k - 1) (drop (nextAt pairs at) pairs)) (b .env) scope (live b))))
@@ -290,7 +290,7 @@ module _ (heads rows : Words) (types : ℕ) (book starts w₀ pairs : Words) (ba
           let m = done .meant g rules scope b st (held-kept (q .0) held) (subst (λ u. Tree g u base n scope) (sym (q .0)) tree) (sure-first _ _ (sure-as e s)) in
           (m .0 ∙ q .0, m .1, e)
 
-      pub trying-stop : Ended (r .verdict) → AnySucceeds heads rows types book starts w₀ w′ pairs base n frame deep left r
+      pub trying-stop : Ended (r .verdict) → AnySucceeds given w₀ w′ pairs base n frame deep left r
       trying-stop over = record {
         less = omega (arith, done .less, i .less);
         long = done .long ∙ i .long;
@@ -312,7 +312,7 @@ module _ (heads rows : Words) (types : ℕ) (book starts w₀ pairs : Words) (ba
             );
       }
 
-    pub trying-end : k ≡ 0 → AnySucceeds heads rows types book starts w₀ w pairs base n frame deep left (record { verdict = Differs; left = fuel })
+    pub trying-end : k ≡ 0 → AnySucceeds given w₀ w pairs base n frame deep left (record { verdict = Differs; left = fuel })
     trying-end z = record {
       less = i .less;
       long = i .long;
@@ -352,16 +352,16 @@ module _ (g : Grammar) (rules : Rules.Rules) (deeper : M.Calls) where
   unfolding M.part
   condition-steps negated x apps b l s = variable-sure (b .env) x l _ s
 
-module _ (heads rows : Words) (types : ℕ) (book starts w : Words) (negated : Bool) (at next : ℕ) (frame : Frame) (deep : ℕ) (left : State) (room : Room w frame) where
+module _ (given : Given) (w : Words) (negated : Bool) (at next : ℕ) (frame : Frame) (deep : ℕ) (left : State) (room : Room w frame) where
   abbrev Part : Grammar → Rules.Rules → Bindings → Result (Option Bindings)
-  Part g rules b = partOn deep (Rules.condition negated (getD (pairsAt book at) 1 0) (conditionOf (pairsAt book at))) g rules b left
+  Part g rules b = partOn deep (Rules.condition negated (getD (pairsAt (given .book) at) 1 0) (conditionOf (pairsAt (given .book) at))) g rules b left
 
   -- nothing is bound
   same-frame : Grown frame frame
   same-frame = record { sound = room .sound; few = room .few; low = room .low; more = le-refl (frame .live); higher = le-refl (frame .top) }
 
   -- the variable's tree has n nodes and stands at the place
-  module _ (ps : Words) (x place n : ℕ) (eps : ps ≡ pairsAt book at) (ex : x ≡ getD ps 1 0) (ep : place ≡ startAt (frame .vars) x) (na : NodesAt w place (frame .top) n) where
+  module _ (ps : Words) (x place n : ℕ) (eps : ps ≡ pairsAt (given .book) at) (ex : x ≡ getD ps 1 0) (ep : place ≡ startAt (frame .vars) x) (na : NodesAt w place (frame .top) n) where
     record Located (g : Grammar) (rules : Rules.Rules) (b : Bindings) : Type 0 where
       tree : Words
       stands : Tree g (take (frame .top) w) place n tree
@@ -369,13 +369,13 @@ module _ (heads rows : Words) (types : ℕ) (book starts w : Words) (negated : B
       same : Part g rules b
           ≡ thenOf (liveWithin (live b + size tree) left) (λ u m. thenOf (M.anySucceeds true g rules (calls true g rules deep) (conditionOf ps) (b .env) tree (live b) m) (holding negated b))
 
-    located : (g : Grammar) (rules : Rules.Rules) (b : Bindings) → Setting heads rows types book starts g rules → Held g w frame b → Sure (Part g rules b) → Located g rules b
+    located : (g : Grammar) (rules : Rules.Rules) (b : Bindings) → Setting given g rules → Held g w frame b → Sure (Part g rules b) → Located g rules b
     located g rules b st held s =
-        let q = condition-steps g rules (calls true g rules deep) negated (getD (pairsAt book at) 1 0) (conditionOf (pairsAt book at)) b left s in
-        let ey : getD (pairsAt book at) 1 0 ≡ x = sym (ex ∙ ap (λ l. getD l 1 0) eps) in
+        let q = condition-steps g rules (calls true g rules deep) negated (getD (pairsAt (given .book) at) 1 0) (conditionOf (pairsAt (given .book) at)) b left s in
+        let ey : getD (pairsAt (given .book) at) 1 0 ≡ x = sym (ex ∙ ap (λ l. getD l 1 0) eps) in
         let here : Stands g (take (frame .top) w) place (q .0) =
         subst (λ p. Stands g (take (frame .top) w) p (q .0)) (ap (startAt (frame .vars)) ey ∙ sym ep)
-        (variable-stands g (take (frame .top) w) (frame .vars) (b .env) (getD (pairsAt book at) 1 0) (q .0) (room .sound) (held .stands) (q .1)) in
+        (variable-stands g (take (frame .top) w) (frame .vars) (b .env) (getD (pairsAt (given .book) at) 1 0) (q .0) (room .sound) (held .stands) (q .1)) in
         let nodes : n ≡ size (q .0) = na .stands g (q .0) (st .tables .heads-of .types) here in
         record {
           tree = q .0;
@@ -386,7 +386,7 @@ module _ (heads rows : Words) (types : ℕ) (book starts w : Words) (negated : B
 
     -- too many nodes would be live
     pub condition-over : mostLive < frame .live + n → (r : Taken) → r ≡ record { verdict = Stops 44; frame = frame; left = left; next = next }
-        → Conditions heads rows types book starts w w negated at next frame deep left r
+        → Conditions given w w negated at next frame deep left r
     condition-over h r e = rw e (record {
       next-is = refl;
       takes = record {
@@ -399,8 +399,8 @@ module _ (heads rows : Words) (types : ℕ) (book starts w : Words) (negated : B
       };
     })
 
-    pub condition-tested : frame .live + n ≤ mostLive → (w′ : Words) (t : Tested) → AnySucceeds heads rows types book starts w w′ ps place n frame deep left t → (v : Verdict) → v ≡ turnedBy negated (t .verdict)
-        → (r : Taken) → r ≡ record { verdict = v; frame = frame; left = t .left; next = next } → Conditions heads rows types book starts w w′ negated at next frame deep left r
+    pub condition-tested : frame .live + n ≤ mostLive → (w′ : Words) (t : Tested) → AnySucceeds given w w′ ps place n frame deep left t → (v : Verdict) → v ≡ turnedBy negated (t .verdict)
+        → (r : Taken) → r ≡ record { verdict = v; frame = frame; left = t .left; next = next } → Conditions given w w′ negated at next frame deep left r
     condition-tested h w′ t ts v ev r e = rw (e, ev) (record {
       next-is = refl;
       takes = record {

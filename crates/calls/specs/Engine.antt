@@ -74,11 +74,23 @@ pub record Held (g : Grammar) (w : Words) (frame : Frame) (b : Bindings) : Type 
   pub stands : EnvAt g (take (frame .top) w) (startsOf (frame .vars)) (b .env)
   pub counted : frame .live ≡ b .besides + total (b .env)
 
--- what the engine works with: a grammar's tables, and the places of a book's rules
-pub record Setting (heads rows : Words) (types : ℕ) (book starts : Words) (g : Grammar) (rules : Rules.Rules) : Type 0 where
-  pub tables : Tables g heads rows
-  pub few : types ≤ mostTypes
-  pub placed : (n : ℕ) (r : Rule) → getElem? rules n ≡ some r → (n < mostRules) × ((next : ℕ) × (Layout.rule types book (getD starts n 0) ≡ value r next))
+-- what never changes in a run: a grammar's tables and its number of types, the book, and the places of its rules
+pub record Given : Type 0 where
+  pub heads : Words
+  pub rows : Words
+  pub types : ℕ
+  pub book : Words
+  pub starts : Words
+
+-- the same, by its parts
+abbrev pub givenOf : Words → Words → ℕ → Words → Words → Given
+givenOf heads rows types book starts = record { heads = heads; rows = rows; types = types; book = book; starts = starts }
+
+-- these are the tables of the grammar, and the places of the rules
+pub record Setting (given : Given) (g : Grammar) (rules : Rules.Rules) : Type 0 where
+  pub tables : Tables g (given .heads) (given .rows)
+  pub few : given .types ≤ mostTypes
+  pub placed : (n : ℕ) (r : Rule) → getElem? rules n ≡ some r → (n < mostRules) × ((next : ℕ) × (Layout.rule (given .types) (given .book) (getD (given .starts) n 0) ≡ value r next))
 
 -- ANSWERS
 
@@ -156,21 +168,21 @@ pub record Deconstructs (book w : Words) (d : Deconstruct) (next : ℕ) (frame :
   pub next-is : r .next ≡ next
   pub takes : (deep : ℕ) → Takes w w frame left r (λ g rules. length g ≤ mostTypes) (partOn deep (deconstructIn book (d .searches) (d .searched) (d .variable) (d .pattern)))
 
-module _ (heads rows : Words) (types : ℕ) (book starts w w′ : Words) where
+module _ (given : Given) (w w′ : Words) where
   abbrev pub With : Grammar → Rules.Rules → Type 0
-  With g rules = Setting heads rows types book starts g rules
+  With g rules = Setting given g rules
 
   pub record Constructs (at next : ℕ) (frame : Frame) (deep : ℕ) (left : State) (r : Taken) : Type 0 where
     pub next-is : r .next ≡ next
-    pub takes : (u : ℕ) → Takes w w′ frame left r With (partOn deep (Rules.construct u (pieces (pairsAt book at))))
+    pub takes : (u : ℕ) → Takes w w′ frame left r With (partOn deep (Rules.construct u (pieces (pairsAt (given .book) at))))
 
   pub record Conditions (negated : Bool) (at next : ℕ) (frame : Frame) (deep : ℕ) (left : State) (r : Taken) : Type 0 where
     pub next-is : r .next ≡ next
-    pub takes : Takes w w′ frame left r With (partOn deep (Rules.condition negated (getD (pairsAt book at) 1 0) (conditionOf (pairsAt book at))))
+    pub takes : Takes w w′ frame left r With (partOn deep (Rules.condition negated (getD (pairsAt (given .book) at) 1 0) (conditionOf (pairsAt (given .book) at))))
 
   pub record Steps (at : ℕ) (frame : Frame) (deep : ℕ) (left : State) (r : Taken) : Type 0 where
-    pub next-is : (q : PartAt) (next : ℕ) → partAt types book at ≡ value q next → r .next ≡ next
-    pub takes : Takes w w′ frame left r With (partRead deep book (partAt types book at))
+    pub next-is : (q : PartAt) (next : ℕ) → partAt (given .types) (given .book) at ≡ value q next → r .next ≡ next
+    pub takes : Takes w w′ frame left r With (partRead deep (given .book) (partAt (given .types) (given .book) at))
 
   -- SEARCH
 
@@ -178,10 +190,10 @@ module _ (heads rows : Words) (types : ℕ) (book starts w w′ : Words) where
     pub grown : Grown frame (r .frame)
     pub fits : FoundFits n left (r .found) (r .left)
     pub long : length w′ ≡ length w
-    pub meant : (g : Grammar) (rules : Rules.Rules) (rule : Rule) (b : Bindings) (scope : Words) → With g rules → Planned types book rule plan → Held g w frame b → Tree g (take (frame .top) w) base n scope
+    pub meant : (g : Grammar) (rules : Rules.Rules) (rule : Rule) (b : Bindings) (scope : Words) → With g rules → Planned (given .types) (given .book) rule plan → Held g w frame b → Tree g (take (frame .top) w) base n scope
         → Sure (M.seek true g rules (calls true g rules deep) rule scope 0 b left)
         → (take (frame .top) w′ ≡ take (frame .top) w)
-        × SoughtAs g w′ (b .besides) book rule (r .found) (r .frame) (r .left) (r .next) (M.seek true g rules (calls true g rules deep) rule scope 0 b left)
+        × SoughtAs g w′ (b .besides) (given .book) rule (r .found) (r .frame) (r .left) (r .next) (M.seek true g rules (calls true g rules deep) rule scope 0 b left)
 
   -- CONDITIONS
 
@@ -196,7 +208,7 @@ module _ (heads rows : Words) (types : ℕ) (book starts w w′ : Words) where
   abbrev pub CallMatches : ℕ → ℕ → ℕ → Frame → ℕ → State → Tested → Type 0
   CallMatches at start n frame deep left r =
       (r .left .attempts ≤ left .attempts)
-      × ((rule : Rule) (next : ℕ) → Layout.rule types book at ≡ value rule next → Tests start n frame left r (λ g rules scope b. M.callMatches true g rules (calls true g rules deep) rule (b .env) scope (b .besides)))
+      × ((rule : Rule) (next : ℕ) → Layout.rule (given .types) (given .book) at ≡ value rule next → Tests start n frame left r (λ g rules scope b. M.callMatches true g rules (calls true g rules deep) rule (b .env) scope (b .besides)))
 
 -- one application of a condition
 abbrev pub succeedsAt : ℕ → Words → ℕ → Grammar → Rules.Rules → Words → Bindings → Comp Bool
@@ -223,13 +235,13 @@ chainPiece deep x apps g rules env besides n = do
   nodesWithin (n + size u)
   return u
 
-module _ (heads rows : Words) (types : ℕ) (book starts w w′ : Words) where
+module _ (given : Given) (w w′ : Words) where
   abbrev pub Succeeds : Words → ℕ → ℕ → ℕ → Frame → ℕ → State → Tested → Type 0
-  Succeeds pairs at start n frame deep left r = Tests heads rows types book starts w w′ start n frame left r (succeedsAt deep pairs at)
+  Succeeds pairs at start n frame deep left r = Tests given w w′ start n frame left r (succeedsAt deep pairs at)
 
   abbrev pub AnySucceeds : Words → ℕ → ℕ → Frame → ℕ → State → Tested → Type 0
   AnySucceeds pairs start n frame deep left r =
-      Tests heads rows types book starts w w′ start n frame left r (λ g rules scope b. M.anySucceeds true g rules (calls true g rules deep) (chainAt pairs 2) (b .env) scope (live b))
+      Tests given w w′ start n frame left r (λ g rules scope b. M.anySucceeds true g rules (calls true g rules deep) (chainAt pairs 2) (b .env) scope (live b))
 
   -- REPLACEMENTS
 
@@ -239,7 +251,7 @@ module _ (heads rows : Words) (types : ℕ) (book starts w w′ : Words) where
     pub fits : besides + r .nodes ≤ mostLive
     pub less : r .left .attempts ≤ left .attempts
     pub long : length w′ ≡ length w
-    pub meant : (g : Grammar) (rules : Rules.Rules) (env : Env) (scope : Words) → Setting heads rows types book starts g rules → EnvAt g (take base w) (startsOf vars) env → Tree g w base n scope
+    pub meant : (g : Grammar) (rules : Rules.Rules) (env : Env) (scope : Words) → Setting given g rules → EnvAt g (take base w) (startsOf vars) env → Tree g w base n scope
         → Sure (f g rules env scope left)
         → (take base w′ ≡ take base w) × Says (Tree g w′ base (r .nodes)) (r .stop) (r .left) (f g rules env scope left)
 
@@ -260,7 +272,7 @@ module _ (heads rows : Words) (types : ℕ) (book starts w w′ : Words) where
     pub long : length w′ ≡ length w
     pub near : r .next < 2 ^ 40
     pub next-is : r .built .stop ≡ 0 → r .next ≡ i + 4 + 2 * pairsIn (chainAt pairs (i + 2))
-    pub meant : (g : Grammar) (rules : Rules.Rules) (b : Bindings) → Setting heads rows types book starts g rules → Held g w frame b
+    pub meant : (g : Grammar) (rules : Rules.Rules) (b : Bindings) → Setting given g rules → Held g w frame b
         → Sure (chainPiece deep (getD pairs (i + 1) 0) (chainAt pairs (i + 2)) g rules (b .env) (live b) n left)
         → (take (frame .top + 2 * n) w′ ≡ take (frame .top + 2 * n) w)
         × Says (λ u. (r .built .nodes ≡ n + size u) × Tree g w′ (frame .top + 2 * n) (size u) u) (r .built .stop) (r .built .left) (chainPiece deep (getD pairs (i + 1) 0) (chainAt pairs (i + 2)) g rules (b .env) (live b) n left)
@@ -271,19 +283,19 @@ module _ (heads rows : Words) (types : ℕ) (book starts w w′ : Words) where
     pub fits : r .stop ≡ 0 → frame .live + r .nodes ≤ mostLive
     pub less : r .left .attempts ≤ left .attempts
     pub long : length w′ ≡ length w
-    pub meant : (g : Grammar) (rules : Rules.Rules) (b : Bindings) → Setting heads rows types book starts g rules → Held g w frame b → Sure (f g rules b left)
+    pub meant : (g : Grammar) (rules : Rules.Rules) (b : Bindings) → Setting given g rules → Held g w frame b → Sure (f g rules b left)
         → (take (frame .top) w′ ≡ take (frame .top) w) × Says (P g) (r .stop) (r .left) (f g rules b left)
 
   -- .. under way: its nodes are not all marked yet
   abbrev pub Fills : ℕ → Frame → ℕ → State → Built → Type 0
   Fills at frame deep left r =
       Fresh frame left r (λ g ws. (length ws ≡ 2 * r .nodes) × UnderWay g (take (2 * r .nodes) (drop (frame .top) w′)) ws)
-      (λ g rules b. M.fill true g rules (calls true g rules deep) (pieces (pairsAt book at)) (b .env) (live b) 0)
+      (λ g rules b. M.fill true g rules (calls true g rules deep) (pieces (pairsAt (given .book) at)) (b .env) (live b) 0)
 
   -- .. a tree of whatever type is asked
   abbrev pub Finishes : ℕ → Frame → ℕ → State → Built → Type 0
   Finishes at frame deep left r =
-      (u : ℕ) → Fresh frame left r (λ g ws. Standing g w′ (frame .top) (r .nodes) u ws) (λ g rules b. M.finish true g rules (calls true g rules deep) u (pieces (pairsAt book at)) b)
+      (u : ℕ) → Fresh frame left r (λ g ws. Standing g w′ (frame .top) (r .nodes) u ws) (λ g rules b. M.finish true g rules (calls true g rules deep) u (pieces (pairsAt (given .book) at)) b)
 
   -- the scope of n nodes at base after a replacement, or as it was
   pub record Replaces (at base n i : ℕ) (frame : Frame) (deep : ℕ) (left : State) (r : Built) : Type 0 where
@@ -291,10 +303,10 @@ module _ (heads rows : Words) (types : ℕ) (book starts w w′ : Words) where
     pub fits : r .stop ≡ 0 → frame .live + r .nodes ≤ mostLive + n
     pub less : r .left .attempts ≤ left .attempts
     pub long : length w′ ≡ length w
-    pub meant : (g : Grammar) (rules : Rules.Rules) (b : Bindings) (t target : ℕ) (scope : Words) → Setting heads rows types book starts g rules → Held g w frame b → Standing g w base n t scope
-        → Sure (M.replace true g rules (calls true g rules deep) target (pieces (pairsAt book at)) scope (record { place = 2 * i; bound = b }) left)
+    pub meant : (g : Grammar) (rules : Rules.Rules) (b : Bindings) (t target : ℕ) (scope : Words) → Setting given g rules → Held g w frame b → Standing g w base n t scope
+        → Sure (M.replace true g rules (calls true g rules deep) target (pieces (pairsAt (given .book) at)) scope (record { place = 2 * i; bound = b }) left)
         → (take base w′ ≡ take base w) × ((r .stop ≡ 0 → ⊥) → take (base + 2 * n) w′ ≡ take (base + 2 * n) w)
-        × Says (Standing g w′ base (r .nodes) t) (r .stop) (r .left) (M.replace true g rules (calls true g rules deep) target (pieces (pairsAt book at)) scope (record { place = 2 * i; bound = b }) left)
+        × Says (Standing g w′ base (r .nodes) t) (r .stop) (r .left) (M.replace true g rules (calls true g rules deep) target (pieces (pairsAt (given .book) at)) scope (record { place = 2 * i; bound = b }) left)
 
   -- what a call leaves of its scope: so many nodes, which stand at base
   abbrev pub Left : Grammar → ℕ → Called → M.Called → Type 0
@@ -306,7 +318,7 @@ module _ (heads rows : Words) (types : ℕ) (book starts w w′ : Words) where
     pub fits : (k : ℕ) → k ≤ besides → k + n ≤ mostLive → k + r .nodes ≤ mostLive
     pub less : r .left .attempts ≤ left .attempts
     pub long : length w′ ≡ length w
-    pub meant : (g : Grammar) (rules : Rules.Rules) (rule : Rule) (next : ℕ) (args : Env) (scope : Words) (others : ℕ) → Setting heads rows types book starts g rules
-        → Layout.rule types book at ≡ value rule next → EnvAt g (take base w) (startsOf vars) args → besides ≡ others + total args → Tree g w base n scope
+    pub meant : (g : Grammar) (rules : Rules.Rules) (rule : Rule) (next : ℕ) (args : Env) (scope : Words) (others : ℕ) → Setting given g rules
+        → Layout.rule (given .types) (given .book) at ≡ value rule next → EnvAt g (take base w) (startsOf vars) args → besides ≡ others + total args → Tree g w base n scope
         → (M.call true g rules (calls true g rules deep) rule args scope others left .ending ≡ cannotGoOn → ⊥)
         → (take base w′ ≡ take base w) × Left g base r (M.call true g rules (calls true g rules deep) rule args scope others left)

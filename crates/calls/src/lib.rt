@@ -27,7 +27,7 @@ ghost use mathlib.Core.Path.{_≡_};
 ghost use Prim.Native.Nat.{_+_, _*_, _<_, _≤_, _^_};
 ghost use lib.ListN.{length};
 ghost use Rattle.rewrite.specs.Vars.{Sound};
-ghost use Rattle.calls.specs.Engine.{turnedBy, Room, Deconstructs, Constructs, Conditions, Steps, Seeks, CallMatches, Succeeds, AnySucceeds, Applies, Chains, FillsChain, Fills, Finishes, Replaces, Calls};
+ghost use Rattle.calls.specs.Engine.{turnedBy, Room, givenOf, Deconstructs, Constructs, Conditions, Steps, Seeks, CallMatches, Succeeds, AnySucceeds, Applies, Chains, FillsChain, Fills, Finishes, Replaces, Calls};
 
 // What a part's step found, what is open then, the state that is left, and where the next part stands.
 pub struct Taken {
@@ -241,7 +241,7 @@ fn construct(
     left: State,
 ) -> Taken
     requires { ⌜ Room (now w) frame × (1 ≤ types) ⌝ }
-    ensures { λ r. ⌜ Constructs (now (heads .entry)) (now (rows .entry)) types (now (book .entry)) (now (starts .entry)) (now (w .entry)) (now (w .exit)) at next frame deep left r ⌝ }
+    ensures { λ r. ⌜ Constructs (givenOf (now (heads .entry)) (now (rows .entry)) types (now (book .entry)) (now (starts .entry))) (now (w .entry)) (now (w .exit)) at next frame deep left r ⌝ }
 {
     let vars = frame.vars;
     let n = vars.n;
@@ -277,7 +277,7 @@ fn condition(
     left: State,
 ) -> Taken
     requires { ⌜ Room (now w) frame × (1 ≤ types) ⌝ }
-    ensures { λ r. ⌜ Conditions (now (heads .entry)) (now (rows .entry)) types (now (book .entry)) (now (starts .entry)) (now (w .entry)) (now (w .exit)) (c .negated) (c .chain) next frame deep left r ⌝ }
+    ensures { λ r. ⌜ Conditions (givenOf (now (heads .entry)) (now (rows .entry)) types (now (book .entry)) (now (starts .entry))) (now (w .entry)) (now (w .exit)) (c .negated) (c .chain) next frame deep left r ⌝ }
 {
     let pairs = rules::pairs_of(book, c.chain);
     let vars = frame.vars;
@@ -319,7 +319,7 @@ fn step(
     left: State,
 ) -> Taken
     requires { ⌜ Room (now w) frame × (1 ≤ types) ⌝ }
-    ensures { λ r. ⌜ Steps (now (heads .entry)) (now (rows .entry)) types (now (book .entry)) (now (starts .entry)) (now (w .entry)) (now (w .exit)) at frame deep left r ⌝ }
+    ensures { λ r. ⌜ Steps (givenOf (now (heads .entry)) (now (rows .entry)) types (now (book .entry)) (now (starts .entry))) (now (w .entry)) (now (w .exit)) at frame deep left r ⌝ }
 {
     let f = rules::part_of(book, at);
     let part = f.part;
@@ -374,7 +374,7 @@ fn seek(
     left: State,
 ) -> Sought
     requires { ⌜ Room (now w) frame × (1 ≤ types) × (plan .count ≤ 8) × (base < 2 ^ 32) × (n ≤ 2048) × (0 < n → base + 2 * n ≤ frame .top) ⌝ }
-    ensures { λ r. ⌜ Seeks (now (heads .entry)) (now (rows .entry)) types (now (book .entry)) (now (starts .entry)) (now (w .entry)) (now (w .exit)) plan base n frame deep left r ⌝ }
+    ensures { λ r. ⌜ Seeks (givenOf (now (heads .entry)) (now (rows .entry)) types (now (book .entry)) (now (starts .entry))) (now (w .entry)) (now (w .exit)) plan base n frame deep left r ⌝ }
 {
     let pairs = rules::pairs_of(book, plan.pattern);
     let strategy = plan.strategy;
@@ -470,7 +470,7 @@ fn matches(
     left: State,
 ) -> Tested
     requires { ⌜ Sound (frame .vars) × (frame .live ≤ 2 ^ 17) × (frame .top ≤ 2 * frame .live) × (frame .top ≤ 12288) × (16384 ≤ length (now w)) × (1 ≤ types) × (start < 2 ^ 32) × (n ≤ 2048) × (0 < n → start + 2 * n ≤ frame .top) ⌝ }
-    ensures { λ r. ⌜ CallMatches (now (heads .entry)) (now (rows .entry)) types (now (book .entry)) (now (starts .entry)) (now (w .entry)) (now (w .exit)) at start n frame deep left r ⌝ }
+    ensures { λ r. ⌜ CallMatches (givenOf (now (heads .entry)) (now (rows .entry)) types (now (book .entry)) (now (starts .entry))) (now (w .entry)) (now (w .exit)) at start n frame deep left r ⌝ }
 {
     let plan = rules::plan_of(types, book, at);
     let live = frame.live + n;
@@ -535,7 +535,7 @@ fn succeeds(
     left: State,
 ) -> Tested
     requires { ⌜ Room (now w) frame × (1 ≤ types) × (at < 2 ^ 36) × (start < 2 ^ 32) × (n ≤ 2048) × (0 < n → start + 2 * n ≤ frame .top) ⌝ }
-    ensures { λ r. ⌜ Succeeds (now (heads .entry)) (now (rows .entry)) types (now (book .entry)) (now (starts .entry)) (now (w .entry)) (now (w .exit)) (now (pairs .entry)) at start n frame deep left r ⌝ }
+    ensures { λ r. ⌜ Succeeds (givenOf (now (heads .entry)) (now (rows .entry)) types (now (book .entry)) (now (starts .entry))) (now (w .entry)) (now (w .exit)) (now (pairs .entry)) at start n frame deep left r ⌝ }
 {
     let a = words::word(pairs, at);
     let vars = frame.vars;
@@ -598,7 +598,7 @@ fn any_succeeds(
     left: State,
 ) -> Tested
     requires { ⌜ Room (now w) frame × (1 ≤ types) × (start < 2 ^ 32) × (n ≤ 2048) × (0 < n → start + 2 * n ≤ frame .top) ⌝ }
-    ensures { λ r. ⌜ AnySucceeds (now (heads .entry)) (now (rows .entry)) types (now (book .entry)) (now (starts .entry)) (now (w .entry)) (now (w .exit)) (now (pairs .entry)) start n frame deep left r ⌝ }
+    ensures { λ r. ⌜ AnySucceeds (givenOf (now (heads .entry)) (now (rows .entry)) types (now (book .entry)) (now (starts .entry))) (now (w .entry)) (now (w .exit)) (now (pairs .entry)) start n frame deep left r ⌝ }
 {
     let mut k = rules::chain_count(pairs, 2);
     let mut at: usize = 4;
@@ -658,7 +658,7 @@ fn apply(
     left: State,
 ) -> Built
     requires { ⌜ Sound vars × (besides + n ≤ 6144) × (base ≤ 2 * besides) × (n ≤ 2048) × (16384 ≤ length (now w)) × (1 ≤ types) × (at < 2 ^ 36) ⌝ }
-    ensures { λ r. ⌜ Applies (now (heads .entry)) (now (rows .entry)) types (now (book .entry)) (now (starts .entry)) (now (w .entry)) (now (w .exit)) (now (pairs .entry)) at base n vars besides deep left r ⌝ }
+    ensures { λ r. ⌜ Applies (givenOf (now (heads .entry)) (now (rows .entry)) types (now (book .entry)) (now (starts .entry))) (now (w .entry)) (now (w .exit)) (now (pairs .entry)) at base n vars besides deep left r ⌝ }
 {
     let a = words::word(pairs, at);
     if a < FIRST_OPERATION {
@@ -709,7 +709,7 @@ fn chain(
     left: State,
 ) -> Chained
     requires { ⌜ Sound vars × (besides + n ≤ 6144) × (base ≤ 2 * besides) × (n ≤ 2048) × (16384 ≤ length (now w)) × (1 ≤ types) × (from ≤ 1024) ⌝ }
-    ensures { λ r. ⌜ Chains (now (heads .entry)) (now (rows .entry)) types (now (book .entry)) (now (starts .entry)) (now (w .entry)) (now (w .exit)) (now (pairs .entry)) from base n vars besides deep left r ⌝ }
+    ensures { λ r. ⌜ Chains (givenOf (now (heads .entry)) (now (rows .entry)) types (now (book .entry)) (now (starts .entry))) (now (w .entry)) (now (w .exit)) (now (pairs .entry)) from base n vars besides deep left r ⌝ }
 {
     let mut k = rules::chain_count(pairs, from);
     let mut at = from + 2;
@@ -760,7 +760,7 @@ fn fill_chain(
     left: State,
 ) -> Chained
     requires { ⌜ Room (now w) frame × (1 ≤ types) × (i ≤ 256) × (frame .live + n ≤ 6144) × (n ≤ 2048) ⌝ }
-    ensures { λ r. ⌜ FillsChain (now (heads .entry)) (now (rows .entry)) types (now (book .entry)) (now (starts .entry)) (now (w .entry)) (now (w .exit)) (now (pairs .entry)) i n frame deep left r ⌝ }
+    ensures { λ r. ⌜ FillsChain (givenOf (now (heads .entry)) (now (rows .entry)) types (now (book .entry)) (now (starts .entry))) (now (w .entry)) (now (w .exit)) (now (pairs .entry)) i n frame deep left r ⌝ }
 {
     let vars = frame.vars;
     let base = frame.top + 2 * n;
@@ -815,7 +815,7 @@ fn fill(
     left: State,
 ) -> Built
     requires { ⌜ Room (now w) frame × (1 ≤ types) ⌝ }
-    ensures { λ r. ⌜ Fills (now (heads .entry)) (now (rows .entry)) types (now (book .entry)) (now (starts .entry)) (now (w .entry)) (now (w .exit)) at frame deep left r ⌝ }
+    ensures { λ r. ⌜ Fills (givenOf (now (heads .entry)) (now (rows .entry)) types (now (book .entry)) (now (starts .entry))) (now (w .entry)) (now (w .exit)) at frame deep left r ⌝ }
 {
     let pairs = rules::pairs_of(book, at);
     let vars = frame.vars;
@@ -886,7 +886,7 @@ fn finish(
     left: State,
 ) -> Built
     requires { ⌜ Room (now w) frame × (1 ≤ types) ⌝ }
-    ensures { λ r. ⌜ Finishes (now (heads .entry)) (now (rows .entry)) types (now (book .entry)) (now (starts .entry)) (now (w .entry)) (now (w .exit)) at frame deep left r ⌝ }
+    ensures { λ r. ⌜ Finishes (givenOf (now (heads .entry)) (now (rows .entry)) types (now (book .entry)) (now (starts .entry))) (now (w .entry)) (now (w .exit)) at frame deep left r ⌝ }
 {
     let b = fill(heads, rows, types, book, starts, w, at, frame, deep, left);
     if b.stop != 0 {
@@ -913,7 +913,7 @@ fn replace(
     left: State,
 ) -> Built
     requires { ⌜ Room (now w) frame × (1 ≤ types) × (i < n) × (n ≤ 2048) × (base + 2 * n ≤ frame .top) ⌝ }
-    ensures { λ r. ⌜ Replaces (now (heads .entry)) (now (rows .entry)) types (now (book .entry)) (now (starts .entry)) (now (w .entry)) (now (w .exit)) at base n i frame deep left r ⌝ }
+    ensures { λ r. ⌜ Replaces (givenOf (now (heads .entry)) (now (rows .entry)) types (now (book .entry)) (now (starts .entry))) (now (w .entry)) (now (w .exit)) at base n i frame deep left r ⌝ }
 {
     let b = finish(heads, rows, types, book, starts, w, at, frame, deep, left);
     if b.stop != 0 {
@@ -941,7 +941,7 @@ pub fn call(
     left: State,
 ) -> Called
     requires { ⌜ Sound vars × (besides ≤ 2 ^ 17) × (base ≤ 2 * besides) × (base ≤ 12288) × (n ≤ 2048) × (16384 ≤ length (now w)) × (1 ≤ types) ⌝ }
-    ensures { λ r. ⌜ Calls (now (heads .entry)) (now (rows .entry)) types (now (book .entry)) (now (starts .entry)) (now (w .entry)) (now (w .exit)) at base n vars besides deep left r ⌝ }
+    ensures { λ r. ⌜ Calls (givenOf (now (heads .entry)) (now (rows .entry)) types (now (book .entry)) (now (starts .entry))) (now (w .entry)) (now (w .exit)) at base n vars besides deep left r ⌝ }
 {
     let plan = rules::plan_of(types, book, at);
     let strategy = plan.strategy;

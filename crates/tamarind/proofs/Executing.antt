@@ -27,7 +27,7 @@ use Rattle.marks.proofs.Marks.{marked-length}
 use Rattle.marks.proofs.Same.{unmark}
 use Rattle.rewrite.specs.Vars.{EnvAt, startsOf}
 use Rattle.rewrite.specs.declared.Vars.{Vars}
-use Rattle.calls.specs.Engine.{Setting, EndedAs, Tree, Left, Calls}
+use Rattle.calls.specs.Engine.{givenOf, Setting, EndedAs, Tree, Left, Calls}
 use Rattle.calls.specs.declared.Called.{Called}
 use Rattle.tamarind.specs.declared.Stop.{Stop}
 use Rattle.tamarind.specs.declared.Outcome as Code
@@ -114,12 +114,12 @@ module _ (x : Inputs) (result work heads rows : Words) (a : Accepted x (length r
           (types-some, l .0, l .1)
 
       module _ {starts : Words} (es : starts ≡ sets (replicate 64 0) 0 (positions types (x .rules) n 1)) {main : ℕ} (em : main ≡ getD starts 0 0) where
-        setting : Setting heads rows types (x .rules) starts g rules
+        setting : Setting (givenOf heads rows types (x .rules) starts) g rules
         setting = record { tables = a .tables; few = omega (arith, types-are .0, a .tables .rows-of .types); placed = read-placed g types (x .rules) rules (all .n) (types-are .0) (all .rules) en es }
 
         -- THE FIRST CALL is the strict run
-        module _ {w w′ : Words} (l : Laid heads rows (x .tree) work w) {vars : Vars} (none : vars .n ≡ 0) (c : Called) (k : Calls heads rows types (x .rules) starts w w′ main 0 (length (x .tree) / 2) vars 0 31 (initial (x .budget)) c) where
-          left : Left heads rows types (x .rules) starts w w′ g 0 c meant
+        module _ {w w′ : Words} (l : Laid heads rows (x .tree) work w) {vars : Vars} (none : vars .n ≡ 0) (c : Called) (k : Calls (givenOf heads rows types (x .rules) starts) w w′ main 0 (length (x .tree) / 2) vars 0 31 (initial (x .budget)) c) where
+          left : Left (givenOf heads rows types (x .rules) starts) w w′ g 0 c meant
           unfolding run runFrom total
           left =
               let typed = read-typed (length result) (length work) x (a .with) all in

@@ -2,6 +2,7 @@
 use Prim.Native.Nat.{ℕ, _<_}
 use native.Mathlib.Omega.{arith}
 use borrow.Author.Needs.{needs}
+use Rattle.calls.specs.Engine.{givenOf}
 use Rattle.calls.proofs.Rounds.{Calling, Searched, Placed, calling-start, calls-over, searched, placed}
 use Rattle.calls.proofs.call.Reads as call
 use Rattle.calls.proofs.replace.Reads as replace
@@ -17,7 +18,7 @@ call-claims t = (plan-of-reads.Asked, plan-of-reads.Learnt, again-reads.Asked, a
 
 abbrev pub call-Inv-loop : call-lts.InvT-loop
 call-Inv-loop heads rows types book starts w₀ at base n vars besides deep plan repeats nodes₀ fuel₀ count₀ w nodes fuel count =
-    Calling heads rows types book starts w₀ at base n vars besides deep fuel₀ w nodes fuel count
+    Calling (givenOf heads rows types book starts) w₀ at base n vars besides deep fuel₀ w nodes fuel count
 
 abbrev pub call-μ-loop : call-lts.MeasureT-loop
 call-μ-loop heads rows types book starts w₀ at base n vars besides deep plan repeats nodes₀ fuel₀ count₀ w nodes fuel count = fuel .attempts
@@ -31,7 +32,7 @@ call-again-requires t c κs = search needs
 pub call-loop-holds : (t : ℕ) → call-lts.Need-loop-holds (call-claims t) (call-at t) call.Post call-Inv-loop call-μ-loop
 call-loop-holds t c =
     let a = c .before .before .before .before .args in
-    calling-start (a .heads .now) (a .rows .now) (a .types) (a .book .now) (a .starts .now) (a .w .now) (a .at) (a .base) (a .n) (a .vars) (a .besides) (a .deep) (a .left) (c .before .before .before .before .pre .1 .4)
+    calling-start (givenOf (a .heads .now) (a .rows .now) (a .types) (a .book .now) (a .starts .now)) (a .w .now) (a .at) (a .base) (a .n) (a .vars) (a .besides) (a .deep) (a .left) (c .before .before .before .before .pre .1 .4)
 
 pub call-add-live : (t : ℕ) → call-lts.Need-add-live (call-claims t) (call-at t) call.Post call-Inv-loop call-μ-loop
 call-add-live t c = search needs
@@ -46,7 +47,7 @@ pub call-returns : (t : ℕ) → call-lts.Need-returns (call-claims t) (call-at 
 call-returns t c =
     let a = c .before .before .before .before .before .before .before .args in
     let i = c .before .before .loop in
-    calls-over (a .heads .now) (a .rows .now) (a .types) (a .book .now) (a .starts .now) (a .w .now) (a .at) (a .base) (a .n) (a .vars) (a .besides) (a .deep) (a .left) (i .w) (i .nodes) (i .fuel) (i .count) (i .inv) (c .calling .result) (c .calling .ensures) (c .before .if1 .taken)
+    calls-over (givenOf (a .heads .now) (a .rows .now) (a .types) (a .book .now) (a .starts .now)) (a .w .now) (a .at) (a .base) (a .n) (a .vars) (a .besides) (a .deep) (a .left) (i .w) (i .nodes) (i .fuel) (i .count) (i .inv) (c .calling .result) (c .calling .ensures) (c .before .if1 .taken)
 
 pub call-mul-t29 : (t : ℕ) → call-lts.Need-mul-t29 (call-claims t) (call-at t) call.Post call-Inv-loop call-μ-loop
 call-mul-t29 t c = search needs
@@ -61,11 +62,11 @@ call-seek-requires t c κs = search needs
 call-searched : (t : ℕ) (c : call-lts.After-seek (call-claims t) (call-at t) call.Post call-Inv-loop call-μ-loop)
     → let a = c .before .before .before .before .before .before .before .before .args in
     let i = c .before .before .before .loop in
-    Searched (a .heads .now) (a .rows .now) (a .types) (a .book .now) (a .starts .now) (a .w .now) (a .at) (a .base) (a .n) (a .vars) (a .besides) (a .deep) (a .left) (i .nodes) (i .count) (c .seek .last .1 .1 .1 .1 .1 .0) (c .seek .result)
+    Searched (givenOf (a .heads .now) (a .rows .now) (a .types) (a .book .now) (a .starts .now)) (a .w .now) (a .at) (a .base) (a .n) (a .vars) (a .besides) (a .deep) (a .left) (i .nodes) (i .count) (c .seek .last .1 .1 .1 .1 .1 .0) (c .seek .result)
 call-searched t c =
     let a = c .before .before .before .before .before .before .before .before .args in
     let i = c .before .before .before .loop in
-    searched (a .heads .now) (a .rows .now) (a .types) (a .book .now) (a .starts .now) (a .w .now) (a .at) (a .base) (a .n) (a .vars) (a .besides) (a .deep) (a .left) (i .w) (i .nodes) (i .fuel) (i .count) (i .inv) (c .before .before .if1 .left) (c .before .before .before .before .before .plan-of .result) (c .before .before .before .before .before .plan-of .ensures .1) (c .seek .last .1 .1 .1 .1 .1 .0) (c .seek .result) (c .seek .ensures)
+    searched (givenOf (a .heads .now) (a .rows .now) (a .types) (a .book .now) (a .starts .now)) (a .w .now) (a .at) (a .base) (a .n) (a .vars) (a .besides) (a .deep) (a .left) (i .w) (i .nodes) (i .fuel) (i .count) (i .inv) (c .before .before .if1 .left) (c .before .before .before .before .before .plan-of .result) (c .before .before .before .before .before .plan-of .ensures .1) (c .seek .last .1 .1 .1 .1 .1 .0) (c .seek .result) (c .seek .ensures)
 
 pub call-enum-told : (t : ℕ) → call-lts.Need-enum-told (call-claims t) (call-at t) call.Post call-Inv-loop call-μ-loop
 call-enum-told t c = search needs
@@ -106,12 +107,12 @@ call-replace-requires t c κs =
 call-placed : (t : ℕ) (c : call-lts.After-replace (call-claims t) (call-at t) call.Post call-Inv-loop call-μ-loop)
     → let a = c .before .before .before .before .before .before .before .before .before .before .before .before .before .before .before .before .args in
     let i = c .before .before .before .before .before .before .before .before .before .before .before .loop in
-    Placed (a .heads .now) (a .rows .now) (a .types) (a .book .now) (a .starts .now) (a .w .now) (a .at) (a .base) (a .n) (a .vars) (a .besides) (a .deep) (a .left) (i .nodes) (i .fuel) (i .count) (c .before .before .before .before .before .before .before .before .before .before .before .before .again .result) (c .replace .last .1 .1 .1 .1 .1 .0) (c .replace .result)
+    Placed (givenOf (a .heads .now) (a .rows .now) (a .types) (a .book .now) (a .starts .now)) (a .w .now) (a .at) (a .base) (a .n) (a .vars) (a .besides) (a .deep) (a .left) (i .nodes) (i .fuel) (i .count) (c .before .before .before .before .before .before .before .before .before .before .before .before .again .result) (c .replace .last .1 .1 .1 .1 .1 .0) (c .replace .result)
 call-placed t c =
     let a = c .before .before .before .before .before .before .before .before .before .before .before .before .before .before .before .before .args in
     let i = c .before .before .before .before .before .before .before .before .before .before .before .loop in
     let s = c .before .before .before .before .before .before .before .before .seek in
-    placed (a .heads .now) (a .rows .now) (a .types) (a .book .now) (a .starts .now) (a .w .now) (a .at) (a .base) (a .n) (a .vars) (a .besides) (a .deep) (a .left) (i .w) (i .nodes) (i .fuel) (i .count) (i .inv) (c .before .before .before .before .before .before .before .before .before .before .if1 .left) (c .before .before .before .before .before .before .before .before .before .before .before .before .before .plan-of .result) (c .before .before .before .before .before .before .before .before .before .before .before .before .before .plan-of .ensures .1) (s .last .1 .1 .1 .1 .1 .0) (s .result) (s .ensures)
+    placed (givenOf (a .heads .now) (a .rows .now) (a .types) (a .book .now) (a .starts .now)) (a .w .now) (a .at) (a .base) (a .n) (a .vars) (a .besides) (a .deep) (a .left) (i .w) (i .nodes) (i .fuel) (i .count) (i .inv) (c .before .before .before .before .before .before .before .before .before .before .if1 .left) (c .before .before .before .before .before .before .before .before .before .before .before .before .before .plan-of .result) (c .before .before .before .before .before .before .before .before .before .before .before .before .before .plan-of .ensures .1) (s .last .1 .1 .1 .1 .1 .0) (s .result) (s .ensures)
     (c .before .before .before .before .found2 .given .0 .0) (c .before .before .before .before .found2 .given .1) (c .replace .last .1 .1 .1 .1 .1 .0) (c .replace .result) (c .replace .ensures) (c .before .before .before .before .before .before .before .before .before .before .before .before .again .result) (c .before .before .before .before .before .before .before .before .before .before .before .before .again .ensures)
 
 pub call-calling-requires-4 : (t : ℕ) → call-lts.Need-calling-requires-4 (call-claims t) (call-at t) call.Post call-Inv-loop call-μ-loop

@@ -1,4 +1,5 @@
 -- The parts of the proof that `calls::condition` meets its contract. Assumes nothing.
+use Rattle.calls.specs.Engine.{givenOf}
 use Rattle.calls.proofs.Testing.{condition-over, condition-tested}
 use Prim.Native.Nat.{ℕ}
 use borrow.Author.Needs.{needs}
@@ -39,7 +40,7 @@ condition-same-length t c = search needs
 
 pub condition-returns : (t : ℕ) → condition-lts.Need-returns (condition-claims t) (condition-at t) condition.Post
 condition-returns t c = let a = c .before .before .before .before .before .before .before .before .before .before .before .args in let s = c .before .before .before .before .before .start-of in
-    condition-over (a .heads .now) (a .rows .now) (a .types) (a .book .now) (a .starts .now) (a .w .now) (a .c .negated) (a .c .chain) (a .next) (a .frame) (a .deep) (a .left) (c .before .before .before .before .before .before .before .before .before .before .before .pre .1 .0)
+    condition-over (givenOf (a .heads .now) (a .rows .now) (a .types) (a .book .now) (a .starts .now)) (a .w .now) (a .c .negated) (a .c .chain) (a .next) (a .frame) (a .deep) (a .left) (c .before .before .before .before .before .before .before .before .before .before .before .pre .1 .0)
     _ (c .before .before .before .before .before .before .word .result) (s .result) (c .before .before .before .nodes-at .result) (c .before .before .before .before .before .before .before .before .pairs-of .ensures .0) (c .before .before .before .before .before .before .word .ensures) (s .ensures .0) (c .before .before .before .nodes-at .ensures) (c .before .if1 .taken) (c .taking .result) (c .taking .ensures)
 
 pub condition-any-succeeds-requires : (t : ℕ) → condition-lts.Need-any-succeeds-requires (condition-claims t) (condition-at t) condition.Post
@@ -56,6 +57,6 @@ condition-same-length-2 t c = search needs
 
 pub condition-returns-2 : (t : ℕ) → condition-lts.Need-returns-2 (condition-claims t) (condition-at t) condition.Post
 condition-returns-2 t c = let a = c .before .before .before .before .before .before .before .before .before .before .before .before .before .before .before .before .args in let s = c .before .before .before .before .before .before .before .before .before .before .start-of in let t = c .before .before .before .before .any-succeeds in
-    condition-tested (a .heads .now) (a .rows .now) (a .types) (a .book .now) (a .starts .now) (a .w .now) (a .c .negated) (a .c .chain) (a .next) (a .frame) (a .deep) (a .left) (c .before .before .before .before .before .before .before .before .before .before .before .before .before .before .before .before .pre .1 .0)
+    condition-tested (givenOf (a .heads .now) (a .rows .now) (a .types) (a .book .now) (a .starts .now)) (a .w .now) (a .c .negated) (a .c .chain) (a .next) (a .frame) (a .deep) (a .left) (c .before .before .before .before .before .before .before .before .before .before .before .before .before .before .before .before .pre .1 .0)
     _ (c .before .before .before .before .before .before .before .before .before .before .before .word .result) (s .result) (c .before .before .before .before .before .before .before .before .nodes-at .result) (c .before .before .before .before .before .before .before .before .before .before .before .before .before .pairs-of .ensures .0) (c .before .before .before .before .before .before .before .before .before .before .before .word .ensures) (s .ensures .0) (c .before .before .before .before .before .before .before .before .nodes-at .ensures) (c .before .before .before .before .before .before .if1 .left)
     (t .last .1 .1 .1 .1 .1 .0) (t .result) (t .ensures) (c .before .turned .result) (c .before .turned .ensures) (c .taking2 .result) (c .taking2 .ensures)

@@ -10,6 +10,7 @@ use Rattle.calls.proofs.slot.Reads as slot-reads
 use Rattle.calls.proofs.counted.Reads as counted-reads
 use Rattle.calls.proofs.taking.Reads as taking-reads
 use Rattle.calls.proofs.+any_succeeds+apply+call+chain+condition+construct+fill+fill_chain+finish+matches+replace+seek+step+succeeds.Proof.Common.{construct-at, finish-below}
+use Rattle.calls.specs.Engine.{givenOf}
 use Rattle.calls.proofs.Finishing.{constructs-stopped, constructs-bound, named-place}
 
 abbrev pub construct-claims : ℕ → construct-lts.Claims
@@ -39,7 +40,7 @@ construct-same-length t c = search needs
 pub construct-returns : (t : ℕ) → construct-lts.Need-returns (construct-claims t) (construct-at t) construct.Post
 construct-returns t c =
     let a = c .before .before .before .before .before .before .before .before .before .before .before .before .args in
-    constructs-stopped (a .heads .now) (a .rows .now) (a .types) (a .book .now) (a .starts .now) (a .w .now) (c .before .before .before .before .finish .last .1 .1 .1 .1 .1 .0) (a .at) (a .next) (a .frame) (a .deep) (a .left) (c .before .before .before .before .before .before .before .before .before .before .before .before .pre .1 .0) (c .before .before .before .before .finish .result) (c .before .before .before .before .finish .ensures) (c .before .if1 .taken) (c .taking .result) (c .taking .ensures)
+    constructs-stopped (givenOf (a .heads .now) (a .rows .now) (a .types) (a .book .now) (a .starts .now)) (a .w .now) (c .before .before .before .before .finish .last .1 .1 .1 .1 .1 .0) (a .at) (a .next) (a .frame) (a .deep) (a .left) (c .before .before .before .before .before .before .before .before .before .before .before .before .pre .1 .0) (c .before .before .before .before .finish .result) (c .before .before .before .before .finish .ensures) (c .before .if1 .taken) (c .taking .result) (c .taking .ensures)
 
 pub construct-counted-requires : (t : ℕ) → construct-lts.Need-counted-requires (construct-claims t) (construct-at t) construct.Post
 construct-counted-requires t c κs = search needs
@@ -55,4 +56,4 @@ construct-same-length-2 t c = search needs
 
 pub construct-returns-2 : (t : ℕ) → construct-lts.Need-returns-2 (construct-claims t) (construct-at t) construct.Post
 construct-returns-2 t c = let a = c .before .before .before .before .before .before .before .before .before .before .before .before .before .before .args in
-    constructs-bound (a .heads .now) (a .rows .now) (a .types) (a .book .now) (a .starts .now) (a .w .now) (c .before .before .before .before .before .before .finish .last .1 .1 .1 .1 .1 .0) (a .at) (a .next) (a .frame) (a .deep) (a .left) (c .before .before .before .before .before .before .before .before .before .before .before .before .before .before .pre .1 .0) (c .before .before .before .before .before .before .finish .result) (c .before .before .before .before .before .before .finish .ensures) (c .before .before .before .if1 .left) _ (named-place (a .frame) (c .before .before .before .before .before .before .before .before .before .before .before .before .before .before .pre .1 .0 .sound) (c .before .before .before .before .before .before .before .before .before .slot .result) (c .before .before .counted .result) (c .before .before .before .before .before .before .before .before .before .slot .ensures) (c .before .before .counted .ensures)) (c .before .constructed .result) (c .before .constructed .ensures) (c .taking2 .result) (c .taking2 .ensures)
+    constructs-bound (givenOf (a .heads .now) (a .rows .now) (a .types) (a .book .now) (a .starts .now)) (a .w .now) (c .before .before .before .before .before .before .finish .last .1 .1 .1 .1 .1 .0) (a .at) (a .next) (a .frame) (a .deep) (a .left) (c .before .before .before .before .before .before .before .before .before .before .before .before .before .before .pre .1 .0) (c .before .before .before .before .before .before .finish .result) (c .before .before .before .before .before .before .finish .ensures) (c .before .before .before .if1 .left) _ (named-place (a .frame) (c .before .before .before .before .before .before .before .before .before .before .before .before .before .before .pre .1 .0 .sound) (c .before .before .before .before .before .before .before .before .before .slot .result) (c .before .before .counted .result) (c .before .before .before .before .before .before .before .before .before .slot .ensures) (c .before .before .counted .ensures)) (c .before .constructed .result) (c .before .constructed .ensures) (c .taking2 .result) (c .taking2 .ensures)

@@ -13,6 +13,7 @@ use Rattle.calls.proofs.building.Reads as building-reads
 use Rattle.rewrite.proofs.start_of.Reads as start-of-reads
 use Rattle.words.proofs.word.Reads as word-reads
 use Rattle.calls.proofs.+any_succeeds+apply+call+chain+condition+construct+fill+fill_chain+finish+matches+replace+seek+step+succeeds.Proof.Common.{fill-chain-at, chain-below}
+use Rattle.calls.specs.Engine.{givenOf}
 use Rattle.calls.proofs.Filling.{fills-over, fills-stopped, fills-added}
 use Rattle.rewrite.specs.Vars.{startAt}
 
@@ -53,7 +54,7 @@ pub fill-chain-returns : (t : ℕ) → fill-chain-lts.Need-returns (fill-chain-c
 fill-chain-returns t c =
     let a = c .before .before .before .before .before .before .before .before .before .before .before .before .args in
     let q = c .before .before .before .before .before .before .before .before .before .before .before .before .pre .1 in
-    fills-over (a .heads .now) (a .rows .now) (a .types) (a .book .now) (a .starts .now) (a .w .now) (a .pairs .now) (a .i) (a .n) (a .frame) (a .deep) (a .left) (q .0) (q .3) (c .before .before .before .before .before .start-of .result) (c .before .before .before .nodes-at .result) (c .before .before .before .before .before .start-of .ensures .0 ∙ ap (startAt (a .frame .vars)) (c .before .before .before .before .before .before .word .ensures)) (c .before .before .before .nodes-at .ensures) (c .before .if1 .taken) (q .2) (c .building .result) (c .building .ensures)
+    fills-over (givenOf (a .heads .now) (a .rows .now) (a .types) (a .book .now) (a .starts .now)) (a .w .now) (a .pairs .now) (a .i) (a .n) (a .frame) (a .deep) (a .left) (q .0) (q .3) (c .before .before .before .before .before .start-of .result) (c .before .before .before .nodes-at .result) (c .before .before .before .before .before .start-of .ensures .0 ∙ ap (startAt (a .frame .vars)) (c .before .before .before .before .before .before .word .ensures)) (c .before .before .before .nodes-at .ensures) (c .before .if1 .taken) (q .2) (c .building .result) (c .building .ensures)
 
 pub fill-chain-push-tree-requires : (t : ℕ) → fill-chain-lts.Need-push-tree-requires (fill-chain-claims t) (fill-chain-at t) fill-chain.Post
 fill-chain-push-tree-requires t c κs = (λ h. omega (arith, c .before .before .before .nodes-at .ensures .inside h), omega (arith, c .before .before .before .before .before .before .before .before .before .before .before .before .pre .1 .0 .low, c .before .before .before .before .before .before .before .before .before .before .before .before .pre .1 .0 .long, c .before .before .before .nodes-at .ensures .small))
@@ -71,7 +72,7 @@ pub fill-chain-returns-2 : (t : ℕ) → fill-chain-lts.Need-returns-2 (fill-cha
 fill-chain-returns-2 t c =
     let a = c .before .before .before .before .before .before .before .before .before .before .before .before .before .before .before .before .before .before .before .before .before .before .args in
     let q = c .before .before .before .before .before .before .before .before .before .before .before .before .before .before .before .before .before .before .before .before .before .before .pre .1 in
-    fills-stopped (a .heads .now) (a .rows .now) (a .types) (a .book .now) (a .starts .now) (a .w .now) (a .pairs .now) (a .i) (a .n) (a .frame) (a .deep) (a .left) (q .0) (q .3) (c .before .before .before .before .before .before .before .before .before .before .before .before .before .before .before .start-of .result) (c .before .before .before .before .before .before .before .before .before .before .before .before .before .nodes-at .result) (c .before .before .before .before .before .before .before .before .before .before .before .before .before .before .before .start-of .ensures .0 ∙ ap (startAt (a .frame .vars)) (c .before .before .before .before .before .before .before .before .before .before .before .before .before .before .before .before .word .ensures)) (c .before .before .before .before .before .before .before .before .before .before .before .before .before .nodes-at .ensures) (c .before .before .before .before .before .before .before .before .before .before .before .if1 .left) (c .before .before .before .before .before .before .before .before .before .push-tree .last .0) (c .before .before .before .before .before .chain .last .1 .1 .1 .1 .1 .0) (c .before .before .before .before .before .before .before .before .before .push-tree .kept .0) (c .before .before .before .before .before .before .before .before .before .push-tree .ensures) (c .before .before .before .before .before .chain .result) (c .before .before .before .before .before .chain .ensures) (c .if2 .taken)
+    fills-stopped (givenOf (a .heads .now) (a .rows .now) (a .types) (a .book .now) (a .starts .now)) (a .w .now) (a .pairs .now) (a .i) (a .n) (a .frame) (a .deep) (a .left) (q .0) (q .3) (c .before .before .before .before .before .before .before .before .before .before .before .before .before .before .before .start-of .result) (c .before .before .before .before .before .before .before .before .before .before .before .before .before .nodes-at .result) (c .before .before .before .before .before .before .before .before .before .before .before .before .before .before .before .start-of .ensures .0 ∙ ap (startAt (a .frame .vars)) (c .before .before .before .before .before .before .before .before .before .before .before .before .before .before .before .before .word .ensures)) (c .before .before .before .before .before .before .before .before .before .before .before .before .before .nodes-at .ensures) (c .before .before .before .before .before .before .before .before .before .before .before .if1 .left) (c .before .before .before .before .before .before .before .before .before .push-tree .last .0) (c .before .before .before .before .before .chain .last .1 .1 .1 .1 .1 .0) (c .before .before .before .before .before .before .before .before .before .push-tree .kept .0) (c .before .before .before .before .before .before .before .before .before .push-tree .ensures) (c .before .before .before .before .before .chain .result) (c .before .before .before .before .before .chain .ensures) (c .if2 .taken)
 
 pub fill-chain-add-nodes : (t : ℕ) → fill-chain-lts.Need-add-nodes (fill-chain-claims t) (fill-chain-at t) fill-chain.Post
 fill-chain-add-nodes t c = search needs
@@ -89,4 +90,4 @@ pub fill-chain-returns-3 : (t : ℕ) → fill-chain-lts.Need-returns-3 (fill-cha
 fill-chain-returns-3 t c =
     let a = c .before .before .before .before .before .before .before .before .before .before .before .before .before .before .before .before .before .before .before .before .before .before .before .before .before .args in
     let q = c .before .before .before .before .before .before .before .before .before .before .before .before .before .before .before .before .before .before .before .before .before .before .before .before .before .pre .1 in
-    fills-added (a .heads .now) (a .rows .now) (a .types) (a .book .now) (a .starts .now) (a .w .now) (a .pairs .now) (a .i) (a .n) (a .frame) (a .deep) (a .left) (q .0) (q .3) (c .before .before .before .before .before .before .before .before .before .before .before .before .before .before .before .before .before .before .start-of .result) (c .before .before .before .before .before .before .before .before .before .before .before .before .before .before .before .before .nodes-at .result) (c .before .before .before .before .before .before .before .before .before .before .before .before .before .before .before .before .before .before .start-of .ensures .0 ∙ ap (startAt (a .frame .vars)) (c .before .before .before .before .before .before .before .before .before .before .before .before .before .before .before .before .before .before .before .word .ensures)) (c .before .before .before .before .before .before .before .before .before .before .before .before .before .before .before .before .nodes-at .ensures) (c .before .before .before .before .before .before .before .before .before .before .before .before .before .before .if1 .left) (c .before .before .before .before .before .before .before .before .before .before .before .before .push-tree .last .0) (c .before .before .before .before .before .before .before .before .chain .last .1 .1 .1 .1 .1 .0) (c .before .before .before .before .before .before .before .before .before .before .before .before .push-tree .kept .0) (c .before .before .before .before .before .before .before .before .before .before .before .before .push-tree .ensures) (c .before .before .before .before .before .before .before .before .chain .result) (c .before .before .before .before .before .before .before .before .chain .ensures) (c .before .before .before .if2 .left) (c .before .over .result) (c .before .over .ensures) (c .building2 .result) (c .building2 .ensures)
+    fills-added (givenOf (a .heads .now) (a .rows .now) (a .types) (a .book .now) (a .starts .now)) (a .w .now) (a .pairs .now) (a .i) (a .n) (a .frame) (a .deep) (a .left) (q .0) (q .3) (c .before .before .before .before .before .before .before .before .before .before .before .before .before .before .before .before .before .before .start-of .result) (c .before .before .before .before .before .before .before .before .before .before .before .before .before .before .before .before .nodes-at .result) (c .before .before .before .before .before .before .before .before .before .before .before .before .before .before .before .before .before .before .start-of .ensures .0 ∙ ap (startAt (a .frame .vars)) (c .before .before .before .before .before .before .before .before .before .before .before .before .before .before .before .before .before .before .before .word .ensures)) (c .before .before .before .before .before .before .before .before .before .before .before .before .before .before .before .before .nodes-at .ensures) (c .before .before .before .before .before .before .before .before .before .before .before .before .before .before .if1 .left) (c .before .before .before .before .before .before .before .before .before .before .before .before .push-tree .last .0) (c .before .before .before .before .before .before .before .before .chain .last .1 .1 .1 .1 .1 .0) (c .before .before .before .before .before .before .before .before .before .before .before .before .push-tree .kept .0) (c .before .before .before .before .before .before .before .before .before .before .before .before .push-tree .ensures) (c .before .before .before .before .before .before .before .before .chain .result) (c .before .before .before .before .before .before .before .before .chain .ensures) (c .before .before .before .if2 .left) (c .before .over .result) (c .before .over .ensures) (c .building2 .result) (c .building2 .ensures)

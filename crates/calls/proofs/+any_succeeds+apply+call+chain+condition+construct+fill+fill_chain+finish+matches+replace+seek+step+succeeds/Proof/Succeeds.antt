@@ -1,4 +1,5 @@
 -- The parts of the proof that `calls::succeeds` meets its contract. Assumes nothing.
+use Rattle.calls.specs.Engine.{givenOf}
 use Rattle.calls.proofs.Testing.{testVerdict, succeeds-deep, succeeds-called, succeeds-holds}
 use Prim.Native.Nat.{ℕ, _+_}
 use lib.ListN.{getD}
@@ -23,7 +24,7 @@ succeeds-word-requires t c κs = search needs
 
 pub succeeds-returns : (t : ℕ) → succeeds-lts.Need-returns (succeeds-claims t) (succeeds-at t) succeeds.Post
 succeeds-returns t c = let a = c .before .before .before .before .before .before .before .args in
-    succeeds-deep (a .heads .now) (a .rows .now) (a .types) (a .book .now) (a .starts .now) (a .w .now) (a .pairs .now) (a .at) (a .start) (a .n) (a .frame) (a .deep) (a .left)
+    succeeds-deep (givenOf (a .heads .now) (a .rows .now) (a .types) (a .book .now) (a .starts .now)) (a .w .now) (a .pairs .now) (a .at) (a .start) (a .n) (a .frame) (a .deep) (a .left)
     (c .before .before .before .word .result) (getD (a .pairs .now) (a .at + 1) 0) (c .before .before .before .word .ensures) refl (c .before .if1 .taken) (c .if2 .taken)
 
 pub succeeds-add-gather : (t : ℕ) → succeeds-lts.Need-add-gather (succeeds-claims t) (succeeds-at t) succeeds.Post
@@ -56,7 +57,7 @@ succeeds-same-length t c = search needs
 
 pub succeeds-returns-2 : (t : ℕ) → succeeds-lts.Need-returns-2 (succeeds-claims t) (succeeds-at t) succeeds.Post
 succeeds-returns-2 t c = let a = c .before .before .before .before .before .before .before .before .before .before .before .before .before .before .before .before .before .before .args in
-    succeeds-called (a .heads .now) (a .rows .now) (a .types) (a .book .now) (a .starts .now) (a .w .now) (a .pairs .now) (a .at) (a .start) (a .n) (a .frame) (a .deep) (a .left)
+    succeeds-called (givenOf (a .heads .now) (a .rows .now) (a .types) (a .book .now) (a .starts .now)) (a .w .now) (a .pairs .now) (a .at) (a .start) (a .n) (a .frame) (a .deep) (a .left)
     (c .before .before .before .before .before .before .before .before .before .before .before .before .before .before .word .result) (c .before .before .before .before .before .before .before .before .before .word2 .result) (c .before .before .before .before .before .before .before .before .before .before .before .before .before .before .word .ensures) (c .before .before .before .before .before .before .before .before .before .word2 .ensures) (c .before .before .before .before .before .before .before .before .before .before .before .before .if1 .taken) (c .before .before .before .before .before .before .before .before .before .before .before .if2 .left) (c .before .before .before .before .before .before .before .before .gather .result) (c .before .before .before .before .before .before .before .before .gather .ensures) (c .before .before .before .before .rule-at .result) (c .before .before .before .before .rule-at .ensures)
     (c .before .before .matches .last .1 .1 .1 .1 .1 .0) (c .before .before .matches .kept .1 .1 .1 .1 .1 .0) (c .before .before .matches .result) (c .before .before .matches .ensures)
 
@@ -80,7 +81,7 @@ succeeds-same-length-2 t c = search needs
 
 pub succeeds-returns-3 : (t : ℕ) → succeeds-lts.Need-returns-3 (succeeds-claims t) (succeeds-at t) succeeds.Post
 succeeds-returns-3 t c = let a = c .before .before .before .before .before .before .before .before .before .before .before .before .args in
-    succeeds-holds (a .heads .now) (a .rows .now) (a .types) (a .book .now) (a .starts .now) (a .w .now) (a .pairs .now) (a .at) (a .start) (a .n) (a .frame) (a .deep) (a .left)
+    succeeds-holds (givenOf (a .heads .now) (a .rows .now) (a .types) (a .book .now) (a .starts .now)) (a .w .now) (a .pairs .now) (a .at) (a .start) (a .n) (a .frame) (a .deep) (a .left)
     (c .before .before .before .before .before .before .before .before .word .result) (getD (a .pairs .now) (a .at + 1) 0) (c .before .before .before .before .before .before .before .before .word .ensures) refl (c .before .before .before .before .before .before .if1 .left) (c .before .before .before .before .before .before .before .before .before .before .before .before .pre .1 .0 .sound) (c .before .before .before .before .value-of .result) (c .before .before .word3 .result) (c .before .before .before .before .value-of .ensures) (c .before .before .word3 .ensures)
     (c .before .holds .result) (c .before .holds .ensures) _ (ap testVerdict (c .if3 .taken))
 
@@ -89,6 +90,6 @@ succeeds-same-length-3 t c = search needs
 
 pub succeeds-returns-4 : (t : ℕ) → succeeds-lts.Need-returns-4 (succeeds-claims t) (succeeds-at t) succeeds.Post
 succeeds-returns-4 t c = let a = c .before .before .before .before .before .before .before .before .before .before .before .before .args in
-    succeeds-holds (a .heads .now) (a .rows .now) (a .types) (a .book .now) (a .starts .now) (a .w .now) (a .pairs .now) (a .at) (a .start) (a .n) (a .frame) (a .deep) (a .left)
+    succeeds-holds (givenOf (a .heads .now) (a .rows .now) (a .types) (a .book .now) (a .starts .now)) (a .w .now) (a .pairs .now) (a .at) (a .start) (a .n) (a .frame) (a .deep) (a .left)
     (c .before .before .before .before .before .before .before .before .word .result) (getD (a .pairs .now) (a .at + 1) 0) (c .before .before .before .before .before .before .before .before .word .ensures) refl (c .before .before .before .before .before .before .if1 .left) (c .before .before .before .before .before .before .before .before .before .before .before .before .pre .1 .0 .sound) (c .before .before .before .before .value-of .result) (c .before .before .word3 .result) (c .before .before .before .before .value-of .ensures) (c .before .before .word3 .ensures)
     (c .before .holds .result) (c .before .holds .ensures) _ (ap testVerdict (c .if3 .left))
