@@ -1,11 +1,11 @@
 -- Laws of one pair: what each path through the code leaves is what the definition's reading of the pair leaves. Assumes nothing.
 use Prim.Native.Nat.{ℕ, _+_, _/_, _%_, _<_, _≤_}
 use mathlib.Core.Path.{_≡_, refl}
-use mathlib.Core.List.{List, [], _∷_}
+use mathlib.Core.List.{List, [], _∷_, map}
 use mathlib.Core.Bool.{Bool, true, false}
 use native.Mathlib.Omega.{arith}
 use native.Mathlib.Nat.{add-zero}
-use lib.ListN.{length, getD, replicate}
+use lib.ListN.{length, getD, replicate, length-map}
 use lib.Dec.{ltb, leb, eqb}
 use borrow.Author.Tests.{eq-eqb, ne-eqb, lt-ltb, le-ltb, le-leb, lt-leb}
 use Rattle.words.specs.Reader.{Words, or, between}
@@ -20,12 +20,13 @@ use Rattle.tree.specs.Reading.{tree}
 use Rattle.rules.specs.Rules.{Rules}
 use Rattle.rules.specs.declared.Strategy.{Strategy}
 use Rattle.rules.specs.declared.Strategy.the-variants.{RootOnly}
-use Rattle.judgement.specs.Typing.{Place, Due, aTree, aChain, applicationCount, application, argument, numberArgument, Context, mayStand, appliesOperation, there, ofType, newVariable, variable, chain, node, meets}
+use Rattle.judgement.specs.Wanted.{Wanted, aNumber, wants}
+use Rattle.judgement.specs.Typing.{Place, aTree, aChain, applicationCount, application, argument, Context, mayStand, appliesOperation, wantedByOperation, there, ofType, newVariable, variable, chain, node, meets}
 use Rattle.dues.specs.declared.Place.{Place as Here}
 use Rattle.dues.specs.declared.Place.the-variants.{Pattern, Replacement, Condition}
 use Rattle.dues.specs.declared.Met.{Met}
 use Rattle.dues.specs.declared.Met.the-variants.{Bad, Top, New}
-use Rattle.dues.specs.Views.{placeAs, searchesAs, appliesMap, dueOf, Pushed, nodeDue, Meets, operationDue, argumentsCounted}
+use Rattle.dues.specs.Views.{placeAs, searchesAs, appliesMap, wantedOf, dueOf, Pushed, nodeDue, Meets, argumentsCounted}
 use Rattle.dues.proofs.Stack.{require-passed, of-type-passed, pushed-none, pushed-as, count-due, number-due, node-few, replicate-length}
 
 -- WORDS THAT MAY STAND THERE
@@ -187,32 +188,35 @@ module _ (g : Grammar) (rules : Rules) (here : Place) (t v at sp : ℕ) (st : Wo
         count-met e k = rw (le-leb 1 t low, le-leb t 4 high, eq-eqb v 0 e)
             (record { says = record { dues = replicate t (application s); next = at + 2; read = refl; pushed = k; most = omega (arith, k .size, replicate-length (application s) t) } })
 
-  pub argument-kind : (d : ℕ) → (t ≡ 65 → ⊥) → Meets (Bad 23 at) Γ st sp st (meets g rules here (argument d) Γ t v at)
-  unfolding meets
-  argument-kind d h = rw (ne-eqb t 65 h, add-zero at) (record { says = refl })
-
-  pub argument-there : (d : ℕ) {m : Met} → t ≡ 65 → Meets m Γ st sp st (variable d Γ v at) → Meets m Γ st sp st (meets g rules here (argument d) Γ t v at)
-  unfolding meets variable
-  argument-there d e k = rw (eq-eqb t 65 e) k
-
-  pub number-kind : (t ≡ 65 → ⊥) → Meets (Bad 23 at) Γ st sp st (meets g rules here numberArgument Γ t v at)
-  unfolding meets
-  number-kind h = rw (ne-eqb t 65 h, add-zero at) (record { says = refl })
-
-  module _ (e : t ≡ 65) (c : Check) (is : c ≡ answer (there Γ v at)) where
-    pub number-refused : {no′ p : ℕ} → c ≡ Refused no′ p → Meets (Bad no′ p) Γ st sp st (meets g rules here numberArgument Γ t v at)
+  module _ (u : Wanted) where
+    pub argument-kind : (t ≡ 65 → ⊥) → Meets (Bad 23 at) Γ st sp st (meets g rules here (argument u) Γ t v at)
     unfolding meets
-    number-refused f = rw (eq-eqb t 65 e, answer-refused (there Γ v at) c is f) (record { says = refl })
+    argument-kind h = rw (ne-eqb t 65 h, add-zero at) (record { says = refl })
 
-    module _ {p s : ℕ} {b : Bool} (f : c ≡ Passed p) (i : s ≡ getD Γ v 0) (eb : b ≡ isNumber g s) where
-      pub number-other : b ≡ false → Meets (Bad 23 (at + 1)) Γ st sp st (meets g rules here numberArgument Γ t v at)
+    module _ (e : t ≡ 65) (c : Check) (is : c ≡ answer (there Γ v at)) where
+      pub argument-refused : {no′ p : ℕ} → c ≡ Refused no′ p → Meets (Bad no′ p) Γ st sp st (meets g rules here (argument u) Γ t v at)
       unfolding meets
-      number-other h = rw (eq-eqb t 65 e, require-passed (ltb v (length Γ)) 22 1 at c is f .0, ← i, ← eb, h) (record { says = refl })
+      argument-refused f = rw (eq-eqb t 65 e, answer-refused (there Γ v at) c is f) (record { says = refl })
 
-      pub number-there : b ≡ true → Meets (Top sp) Γ st sp st (meets g rules here numberArgument Γ t v at)
-      unfolding meets
-      number-there h = rw (eq-eqb t 65 e, require-passed (ltb v (length Γ)) 22 1 at c is f .0, ← i, ← eb, h)
-          (record { says = record { dues = []; next = at + 2; read = refl; pushed = pushed-none st sp; most = omega arith } })
+      module _ {p s : ℕ} {b : Bool} (f : c ≡ Passed p) (i : s ≡ getD Γ v 0) (eb : b ≡ wants g u s) where
+        pub argument-other : b ≡ false → Meets (Bad 23 (at + 1)) Γ st sp st (meets g rules here (argument u) Γ t v at)
+        unfolding meets
+        argument-other h = rw (eq-eqb t 65 e, require-passed (ltb v (length Γ)) 22 1 at c is f .0, ← i, ← eb, h) (record { says = refl })
+
+        pub argument-there : b ≡ true → Meets (Top sp) Γ st sp st (meets g rules here (argument u) Γ t v at)
+        unfolding meets
+        argument-there h = rw (eq-eqb t 65 e, require-passed (ltb v (length Γ)) 22 1 at c is f .0, ← i, ← eb, h)
+            (record { says = record { dues = []; next = at + 2; read = refl; pushed = pushed-none st sp; most = omega arith } })
+
+-- the argument that is due as (a, b)
+module _ (g : Grammar) (a b s : ℕ) where
+  pub wanted-exactly : a ≡ 103 → eqb s b ≡ wants g (wantedOf a b) s
+  unfolding wants wantedOf
+  wanted-exactly h = rw (eq-eqb a 103 h)
+
+  pub wanted-number : {r : Bool} → (a ≡ 103 → ⊥) → r ≡ isNumber g s → r ≡ wants g (wantedOf a b) s
+  unfolding wants wantedOf
+  wanted-number h e = rw (ne-eqb a 103 h) e
 
 -- WHAT IS APPLIED
 
@@ -220,30 +224,30 @@ pub root-only : (strategy : Strategy) (target s : ℕ) → strategy ≡ RootOnly
 root-only strategy target s h = rw h
 
 -- an application's count of arguments
-module _ (ds : List Due) (v at sp : ℕ) (st : Words) (Γ : Context) where
-  pub arguments-other : (v ≡ length ds → ⊥) → Meets (Bad 22 (at + 1)) Γ st sp st (argumentsCounted ds Γ v at)
+module _ (us : List Wanted) (v at sp : ℕ) (st : Words) (Γ : Context) where
+  pub arguments-other : (v ≡ length us → ⊥) → Meets (Bad 22 (at + 1)) Γ st sp st (argumentsCounted us Γ v at)
   unfolding argumentsCounted
-  arguments-other h = rw (ne-eqb v (length ds) h) (record { says = refl })
+  arguments-other h = rw (ne-eqb v (length us) h) (record { says = refl })
 
-  pub arguments-met : {st′ : Words} {top : ℕ} → v ≡ length ds → length ds ≤ 8 → Pushed st sp st′ top ds → Meets (Top top) Γ st sp st′ (argumentsCounted ds Γ v at)
+  pub arguments-met : {st′ : Words} {top : ℕ} → v ≡ length us → length us ≤ 8 → Pushed st sp st′ top (map argument us) → Meets (Top top) Γ st sp st′ (argumentsCounted us Γ v at)
   unfolding argumentsCounted
-  arguments-met e most k = rw (eq-eqb v (length ds) e) (record { says = record { dues = ds; next = at + 2; read = refl; pushed = k; most = omega (arith, k .size) } })
+  arguments-met e most k = rw (eq-eqb v (length us) e) (record { says = record { dues = map argument us; next = at + 2; read = refl; pushed = k; most = omega (arith, k .size, length-map us argument) } })
 
 module _ (t v at sp : ℕ) (st : Words) (Γ : Context) {b : Bool} (eb : b ≡ between 1004 1005 t) where
-  bare : b ≡ true → operationDue t ≡ []
+  bare : b ≡ true → wantedByOperation t ≡ []
   bare h = rw (← eb, h)
 
-  binary : b ≡ false → operationDue t ≡ numberArgument ∷ []
+  binary : b ≡ false → wantedByOperation t ≡ aNumber ∷ []
   binary h = rw (← eb, h)
 
-  pub bare-other : b ≡ true → (v ≡ 0 → ⊥) → Meets (Bad 22 (at + 1)) Γ st sp st (argumentsCounted (operationDue t) Γ v at)
+  pub bare-other : b ≡ true → (v ≡ 0 → ⊥) → Meets (Bad 22 (at + 1)) Γ st sp st (argumentsCounted (wantedByOperation t) Γ v at)
   bare-other h z = rw (bare h) (arguments-other [] v at sp st Γ z)
 
-  pub bare-met : b ≡ true → v ≡ 0 → Meets (Top sp) Γ st sp st (argumentsCounted (operationDue t) Γ v at)
+  pub bare-met : b ≡ true → v ≡ 0 → Meets (Top sp) Γ st sp st (argumentsCounted (wantedByOperation t) Γ v at)
   bare-met h z = rw (bare h) (arguments-met [] v at sp st Γ z (omega arith) (pushed-none st sp))
 
-  pub binary-other : b ≡ false → (v ≡ 1 → ⊥) → Meets (Bad 22 (at + 1)) Γ st sp st (argumentsCounted (operationDue t) Γ v at)
-  binary-other h z = rw (binary h) (arguments-other (numberArgument ∷ []) v at sp st Γ z)
+  pub binary-other : b ≡ false → (v ≡ 1 → ⊥) → Meets (Bad 22 (at + 1)) Γ st sp st (argumentsCounted (wantedByOperation t) Γ v at)
+  binary-other h z = rw (binary h) (arguments-other (aNumber ∷ []) v at sp st Γ z)
 
-  pub binary-met : {st′ : Words} → b ≡ false → v ≡ 1 → Pushed st sp st′ (sp + 1) (dueOf 104 0 ∷ []) → Meets (Top (sp + 1)) Γ st sp st′ (argumentsCounted (operationDue t) Γ v at)
-  binary-met h z k = rw (binary h) (arguments-met (numberArgument ∷ []) v at sp st Γ z (omega arith) (pushed-as k (rw (number-due 0))))
+  pub binary-met : {st′ : Words} → b ≡ false → v ≡ 1 → Pushed st sp st′ (sp + 1) (dueOf 104 0 ∷ []) → Meets (Top (sp + 1)) Γ st sp st′ (argumentsCounted (wantedByOperation t) Γ v at)
+  binary-met h z k = rw (binary h) (arguments-met (aNumber ∷ []) v at sp st Γ z (omega arith) (pushed-as k (rw (number-due 0))))

@@ -6,7 +6,7 @@ use mathlib.Core.Bool.{Bool, true, false}
 use native.Mathlib.Omega.{arith}
 use native.Mathlib.Nat.{add-zero}
 use native.Mathlib.Numerals.{add-one}
-use lib.ListN.{length, getD, take, drop, set, replicate, length-set, length-append, length-take, drop-of-length-le, List·getD-eq-default}
+use lib.ListN.{length, getD, take, drop, set, replicate, length-set, length-append, length-take, length-map, drop-of-length-le, List·getD-eq-default}
 use lib.Seq.{getD-set-same, getD-set-other, getD-take, take-suc-set}
 use lib.Dec.{ltb, eqb}
 use borrow.Author.Tests.{eq-eqb, ne-eqb, lt-ltb, le-ltb, le-leb}
@@ -21,8 +21,9 @@ use Rattle.tables.specs.Tables.{Counted, Tables}
 use Rattle.tree.specs.Tree.{levels}
 use Rattle.tree.specs.Reading.{tree, duesOf}
 use Rattle.tree.proofs.Reading.{children-dues, sequence-some, sequence-none}
-use Rattle.judgement.specs.Typing.{Due, aTree, aChain, applicationCount, application, argument, numberArgument, Context, there, ofType}
-use Rattle.dues.specs.Views.{Known, dueOf, stackOf, Pushed, childrenDue, nodeDue, wordsAt, AreRows}
+use Rattle.judgement.specs.Wanted.{exactly, aNumber}
+use Rattle.judgement.specs.Typing.{Due, aTree, aChain, applicationCount, application, argument, Context, there, ofType}
+use Rattle.dues.specs.Views.{Known, wantedOf, dueOf, stackOf, Pushed, childrenDue, nodeDue, wordsAt, parametersDue, AreRows}
 
 -- A TEST'S ANSWER
 
@@ -123,12 +124,12 @@ pub application-due : (t : ℕ) → dueOf 102 t ≡ application t
 unfolding dueOf
 application-due t = refl
 
-pub argument-due : (t : ℕ) → dueOf 103 t ≡ argument t
-unfolding dueOf
+pub argument-due : (t : ℕ) → dueOf 103 t ≡ argument (exactly t)
+unfolding dueOf wantedOf
 argument-due t = refl
 
-pub number-due : (t : ℕ) → dueOf 104 t ≡ numberArgument
-unfolding dueOf
+pub number-due : (t : ℕ) → dueOf 104 t ≡ argument aNumber
+unfolding dueOf wantedOf
 number-due t = refl
 
 -- PUSHING A ROW, THE LAST FIRST
@@ -172,19 +173,22 @@ pub replicate-length : (d : Due) (k : ℕ) → length (replicate k d) ≡ k
 replicate-length d zero = refl
 replicate-length d (suc k) = ap suc (replicate-length d k)
 
-arguments-at : (ws : Words) (first k i : ℕ) → i < k → drop i (map argument (wordsAt ws first k)) ≡ argument (getD ws (first + i) 0) ∷ drop (suc i) (map argument (wordsAt ws first k))
+arguments-at : (ws : Words) (first k i : ℕ) → i < k → drop i (parametersDue ws first k) ≡ argument (exactly (getD ws (first + i) 0)) ∷ drop (suc i) (parametersDue ws first k)
 unfolding wordsAt
 arguments-at ws first zero i h = absurd (omega arith)
 arguments-at ws first (suc k) zero h = rw (add-zero first)
 arguments-at ws first (suc k) (suc i) h = let z : first + suc i ≡ first + 1 + i = omega arith in rw z (arguments-at ws (first + 1) k i (omega arith))
 
-pub arguments-last : (ws : Words) (first k i : ℕ) {e w : ℕ} → 0 < i → i ≤ k → w ≡ i - 1 → e ≡ getD ws (first + w) 0 → drop (i - 1) (map argument (wordsAt ws first k)) ≡ argument e ∷ drop i (map argument (wordsAt ws first k))
+pub arguments-last : (ws : Words) (first k i : ℕ) {e w : ℕ} → 0 < i → i ≤ k → w ≡ i - 1 → e ≡ getD ws (first + w) 0 → drop (i - 1) (parametersDue ws first k) ≡ argument (exactly e) ∷ drop i (parametersDue ws first k)
 arguments-last ws first k i h m q e = arguments-at ws first k (i - 1) (omega arith) ∙ rw (before-one i h, e, q)
 
-pub arguments-length : (ws : Words) (first k : ℕ) → length (map argument (wordsAt ws first k)) ≡ k
+pub parameters-length : (ws : Words) (first k : ℕ) → length (map exactly (wordsAt ws first k)) ≡ k
 unfolding wordsAt
-arguments-length ws first zero = refl
-arguments-length ws first (suc k) = ap suc (arguments-length ws (first + 1) k)
+parameters-length ws first zero = refl
+parameters-length ws first (suc k) = ap suc (parameters-length ws (first + 1) k)
+
+pub arguments-length : (ws : Words) (first k : ℕ) → length (parametersDue ws first k) ≡ k
+arguments-length ws first k = length-map (map exactly (wordsAt ws first k)) argument ∙ parameters-length ws first k
 
 -- A NODE'S CHILDREN
 

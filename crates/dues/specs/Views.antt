@@ -5,7 +5,7 @@ use mathlib.Core.List.{List, [], _∷_, _++_, map}
 use mathlib.Core.Bool.{Bool, true, false}
 use lib.ListN.{length, getD, take, drop}
 use lib.Dec.{ltb, leb, eqb}
-use Rattle.words.specs.Reader.{Words, pick, and, between, Read, value, refused, Reader, _>>=_, _>>_}
+use Rattle.words.specs.Reader.{Words, pick, and, Read, value, refused, Reader, _>>=_, _>>_}
 use Rattle.grammar.specs.Grammar.{Grammar}
 use Rattle.grammar.specs.Kinds.{children, isSequence}
 use Rattle.tables.specs.Tables.{isToken, Rows}
@@ -18,8 +18,9 @@ use Rattle.rules.specs.Rules.{Rules}
 use Rattle.rules.specs.Layout.{bit}
 use Rattle.rules.specs.declared.Strategy.{Strategy}
 use Rattle.rules.specs.declared.Strategy.the-variants.{RootOnly, FirstMatch, Exhaustive}
+use Rattle.judgement.specs.Wanted.{Wanted, exactly, aNumber}
 use Rattle.judgement.specs.Typing as Typing
-use Rattle.judgement.specs.Typing.{Due, aTree, aChain, applicationCount, application, argument, numberArgument, Context, inPattern, inReplacement, inCondition, mayStand, meets}
+use Rattle.judgement.specs.Typing.{Due, aTree, aChain, applicationCount, application, argument, Context, inPattern, inReplacement, inCondition, mayStand, meets}
 use Rattle.dues.specs.declared.Place.{Place}
 use Rattle.dues.specs.declared.Place.the-variants.{Pattern, Replacement, Condition}
 use Rattle.dues.specs.declared.Ctx.{Ctx}
@@ -42,10 +43,14 @@ Known ts n = (length ts ≡ 16) × (n ≤ 16)
 
 -- THE STACK
 
+-- what is wanted as an argument, by its two words on the stack
+unfoldable pub wantedOf : ℕ → ℕ → Wanted
+wantedOf a b = pick (eqb a 103) (exactly b) aNumber
+
 -- a due, by its two words on the stack
 unfoldable pub dueOf : ℕ → ℕ → Due
 dueOf a b =
-    pick (leb a 65) (aTree (tree a b)) (pick (eqb a 100) aChain (pick (eqb a 101) (applicationCount b) (pick (eqb a 102) (application b) (pick (eqb a 103) (argument b) numberArgument))))
+    pick (leb a 65) (aTree (tree a b)) (pick (eqb a 100) aChain (pick (eqb a 101) (applicationCount b) (pick (eqb a 102) (application b) (argument (wantedOf a b)))))
 
 -- the due at a height of the stack
 abbrev pub dueAt : Words → ℕ → Due
@@ -73,6 +78,10 @@ nodeDue g d v nesting = map aTree (duesOf (levels g d v nesting) (children g d v
 unfoldable pub wordsAt : Words → ℕ → ℕ → Words
 wordsAt ws at zero = []
 wordsAt ws at (suc k) = getD ws at 0 ∷ wordsAt ws (at + 1) k
+
+-- arguments of the k types that stand from the position on
+abbrev pub parametersDue : Words → ℕ → ℕ → List Due
+parametersDue ws at k = map argument (map exactly (wordsAt ws at k))
 
 -- the tables of children are those of a grammar
 abbrev pub AreRows : Words → Type 0
@@ -125,12 +134,8 @@ appliesMap inPattern m = false
 appliesMap inReplacement m = bit 3 m
 appliesMap inCondition m = true
 
--- what is due after an operation
-abbrev pub operationDue : ℕ → List Due
-operationDue a = pick (between 1004 1005 a) [] (numberArgument ∷ [])
-
--- an application's second word, where these arguments are due
-unfoldable pub argumentsCounted : List Due → Context → ℕ → Reader (Next Due Context)
-argumentsCounted ds Γ v = do
-  secondWord (eqb v (length ds)) 22
-  leaves Γ ds
+-- an application's second word, where these arguments are wanted
+unfoldable pub argumentsCounted : List Wanted → Context → ℕ → Reader (Next Due Context)
+argumentsCounted us Γ v = do
+  secondWord (eqb v (length us)) 22
+  leaves Γ (map argument us)

@@ -22,7 +22,7 @@ use tables::HEADS;
 use tables::ROWS;
 use words::Check;
 ghost use mathlib.Core.Path.{_≡_};
-ghost use mathlib.Core.List.{[], _∷_, _++_, map};
+ghost use mathlib.Core.List.{[], _∷_, _++_};
 ghost use Prim.Native.Nat.{ℕ, _+_, _<_, _≤_, _^_};
 ghost use lib.ListN.{length, getD, take, replicate};
 ghost use lib.Dec.{eqb};
@@ -35,8 +35,9 @@ ghost use Rattle.tables.specs.Tables.{InHeads, InRows};
 ghost use Rattle.tree.specs.Reading.{tree};
 ghost use Rattle.tree.specs.Views.{InTables, AreTables};
 ghost use Rattle.rules.specs.Rules.{Rules};
+ghost use Rattle.judgement.specs.Wanted.{wants};
 ghost use Rattle.judgement.specs.Typing as Typing;
-ghost use Rattle.dues.specs.Views.{placeAs, contextOf, Known, dueOf, Pushed, childrenDue, nodeDue, wordsAt, AreRows, Meets, searchesAs, appliesMap, operationDue, argumentsCounted, tokensDue, TokensPassed};
+ghost use Rattle.dues.specs.Views.{placeAs, contextOf, Known, wantedOf, dueOf, Pushed, childrenDue, nodeDue, parametersDue, AreRows, Meets, searchesAs, appliesMap, argumentsCounted, tokensDue, TokensPassed};
 
 pub mod limits;
 
@@ -186,7 +187,7 @@ fn push_applications(k: u32, s: u32, st: &mut [u32], from: usize) -> usize
 // Puts arguments on the stack, of the k types that stand from `first` on.
 pub fn push_arguments(ws: &[u32], first: usize, k: u32, st: &mut [u32], from: usize) -> usize
     requires { ⌜ (k ≤ 4) × (first < 2 ^ 40) × (from < 900) × (length (now st) ≡ 2048) ⌝ }
-    ensures { λ r. ⌜ Pushed (now (st .entry)) from (now (st .exit)) r (map Typing.argument (wordsAt (now (ws .entry)) first k)) ⌝ }
+    ensures { λ r. ⌜ Pushed (now (st .entry)) from (now (st .exit)) r (parametersDue (now (ws .entry)) first k) ⌝ }
 {
     let mut left = k;
     let mut sp = from;
@@ -446,28 +447,21 @@ pub fn meet_count(s: u32, t: u32, v: u32, at: usize, st: &mut [u32], sp: usize) 
     Met::Top(top)
 }
 
-// An argument of type d.
-pub fn meet_argument(
-    d: u32,
-    t: u32,
-    v: u32,
-    known: &[u32; MOST_VARIABLES],
-    n: usize,
-    at: usize,
-    sp: usize,
-) -> Met
-    requires { ⌜ Known (now known) n × (at < 2 ^ 40) ⌝ }
-    ensures { λ r. ⌜ ((g : Grammar) (rules : Rules) (here : Typing.Place) (st : Words) → Meets r (take n (now (known .entry))) st sp st (Typing.meets g rules here (Typing.argument d) (take n (now (known .entry))) t v at)) ⌝ }
+// May a variable of type s be the argument that is due as (a, b)?
+fn wanted(heads: &[u32; HEADS], a: u32, b: u32, s: u32) -> bool
+    ensures { λ r. ⌜ InHeads (now (heads .entry)) (λ g. r ≡ wants g (wantedOf a b) s) ⌝ }
 {
-    if t != MARK_VARIABLE {
-        return Met::Bad(23, at);
+    if a == DUE_ARGUMENT {
+        return s == b;
     }
-    meet_variable(d, v, known, n, at, sp)
+    tables::is_number(heads, s)
 }
 
-// An argument that is a number token.
-pub fn meet_number(
+// An argument, due as (a, b).
+pub fn meet_argument(
     heads: &[u32; HEADS],
+    a: u32,
+    b: u32,
     t: u32,
     v: u32,
     known: &[u32; MOST_VARIABLES],
@@ -476,7 +470,7 @@ pub fn meet_number(
     sp: usize,
 ) -> Met
     requires { ⌜ Known (now known) n × (at < 2 ^ 40) ⌝ }
-    ensures { λ r. ⌜ InHeads (now (heads .entry)) (λ g. (rules : Rules) (here : Typing.Place) (st : Words) → Meets r (take n (now (known .entry))) st sp st (Typing.meets g rules here Typing.numberArgument (take n (now (known .entry))) t v at)) ⌝ }
+    ensures { λ r. ⌜ InHeads (now (heads .entry)) (λ g. (rules : Rules) (here : Typing.Place) (st : Words) → Meets r (take n (now (known .entry))) st sp st (Typing.meets g rules here (Typing.argument (wantedOf a b)) (take n (now (known .entry))) t v at)) ⌝ }
 {
     if t != MARK_VARIABLE {
         return Met::Bad(23, at);
@@ -486,7 +480,7 @@ pub fn meet_number(
         Check::Refused(no, p) => Met::Bad(no, p),
         Check::Passed(p) => {
             let s = type_of(known, n, v);
-            let ok = tables::is_number(heads, s);
+            let ok = wanted(heads, a, b, s);
             if !ok {
                 return Met::Bad(23, at + 1);
             }
@@ -543,7 +537,7 @@ pub fn fits_scope(strategy: Strategy, target: u32, s: u32) -> bool
 // The pair of an operation that is usable.
 pub fn meet_operation(t: u32, v: u32, at: usize, st: &mut [u32], sp: usize) -> Met
     requires { ⌜ (sp < 890) × (at < 2 ^ 40) × (length (now st) ≡ 2048) ⌝ }
-    ensures { λ r. ⌜ ((Γ : Typing.Context) → Meets r Γ (now (st .entry)) sp (now (st .exit)) (argumentsCounted (operationDue t) Γ v at)) ⌝ }
+    ensures { λ r. ⌜ ((Γ : Typing.Context) → Meets r Γ (now (st .entry)) sp (now (st .exit)) (argumentsCounted (Typing.wantedByOperation t) Γ v at)) ⌝ }
 {
     let bare = between(FIRST_BARE, LAST_OPERATION, t);
     if bare {

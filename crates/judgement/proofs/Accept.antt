@@ -11,7 +11,7 @@ use borrow.Author.Tests.{ltb-true, ltb-false, lt-ltb, le-ltb, eq-eqb, ne-eqb}
 use Rattle.words.specs.Reader.{Words, pick, and, between, Reader, andThen, _>>_, require}
 use Rattle.grammar.specs.Limits.{mostTypes}
 use Rattle.grammar.specs.Grammar.{Grammar}
-use Rattle.grammar.specs.Kinds.{allowed, children, isNumber}
+use Rattle.grammar.specs.Kinds.{allowed, children}
 use Rattle.tree.specs.Limits.{mostNesting}
 use Rattle.tree.specs.Tree.{levels}
 use Rattle.tree.specs.Dues.{Next, firstWord, secondWord, leaves, whole}
@@ -21,7 +21,8 @@ use Rattle.tree.proofs.Dues.{plain, placed, done, bind, Steady, leaves-steady, 
 use Rattle.tree.proofs.Accepted.{duesOf-append}
 use Rattle.rules.specs.Limits.{mostVariables, mostApplications, markNew, markVariable, markChain}
 use Rattle.rules.specs.Rules.{Rules}
-use Rattle.judgement.specs.Typing.{Place, Due, aTree, aChain, applicationCount, application, argument, numberArgument, Context, mayStand, usable, argumentsDue, ofType, newVariable, variable, chain, node, meets}
+use Rattle.judgement.specs.Wanted.{wants}
+use Rattle.judgement.specs.Typing.{Place, Due, aTree, aChain, applicationCount, application, argument, Context, mayStand, usable, wantedBy, ofType, newVariable, variable, chain, node, meets}
 use Rattle.judgement.specs.WellTyped.{Types}
 use Rattle.judgement.specs.Tested.{hasType}
 
@@ -61,10 +62,9 @@ module _ (g : Grammar) (rules : Rules) (here : Place) where
   meets-steady aChain Γ t v = require-steady (eqb t markChain) 23 0 _ (require-steady (ltb v (length Γ)) 22 1 _ (leaves-steady Γ (applicationCount (getD Γ v 0) ∷ [])))
   meets-steady (applicationCount s) Γ t v = require-steady (between 1 mostApplications t) 23 0 _ (require-steady (eqb v 0) 23 1 _ (leaves-steady Γ (replicate t (application s))))
   meets-steady (application s) Γ t v =
-      require-steady (usable g rules here s t) 22 0 _ (require-steady (eqb v (length (argumentsDue rules t))) 22 1 _ (leaves-steady Γ (argumentsDue rules t)))
-  meets-steady (argument d) Γ t v = require-steady (eqb t markVariable) 23 0 _ (of-type-steady Γ v d _ (leaves-steady Γ []))
-  meets-steady numberArgument Γ t v =
-      require-steady (eqb t markVariable) 23 0 _ (require-steady (ltb v (length Γ)) 22 1 _ (require-steady (isNumber g (getD Γ v 0)) 23 1 _ (leaves-steady Γ [])))
+      require-steady (usable g rules here s t) 22 0 _ (require-steady (eqb v (length (wantedBy rules t))) 22 1 _ (leaves-steady Γ (map argument (wantedBy rules t))))
+  meets-steady (argument w) Γ t v =
+      require-steady (eqb t markVariable) 23 0 _ (require-steady (ltb v (length Γ)) 22 1 _ (require-steady (wants g w (getD Γ v 0)) 23 1 _ (leaves-steady Γ [])))
 
   -- one pair against what is due
   unfoldable pub meet : Due → Context → ℕ → ℕ → Option (Next Due Context)

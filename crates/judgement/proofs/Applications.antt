@@ -1,22 +1,23 @@
 -- What may be applied: the check asks an application's first word, the test what the word decodes to. Assumes nothing.
 use Prim.Native.Nat.{ℕ, zero, suc, _+_, _-_, _≤_, _<_}
 use mathlib.Core.Path.{_≡_, refl, sym, ap, _∙_}
-use mathlib.Core.List.{List, [], _∷_}
+use mathlib.Core.List.{List, [], _∷_, map}
 use mathlib.Core.Bool.{Bool, true, false, _&&_, _||_}
 use mathlib.Core.Option.{Option, none, some}
 use native.Mathlib.Omega.{arith}
 use lib.ListN.{length, getD, getElem?}
 use lib.Dec.{ltb, eqb}
 use borrow.Author.Tests.{lt-ltb, ltb-true, ltb-false, le-leb, lt-leb, eqb-true, eqb-false, eq-eqb, ne-eqb}
-use Rattle.words.specs.Reader.{pick, and, between}
+use Rattle.words.specs.Reader.{pick, and}
 use Rattle.words.proofs.Laws.{there-some, past-none}
 use Rattle.grammar.specs.Grammar.{Grammar}
 use Rattle.grammar.specs.Kinds.{isNumber}
 use Rattle.rules.specs.Limits.{mostRules}
 use Rattle.rules.specs.Rules.{Applied, rule, operation, nothing, searches, Rule, Rules, operations, applied}
-use Rattle.judgement.specs.Typing.{isSome as present, Place, inPattern, inReplacement, inCondition, appliesRule, appliesOperation, fitsScope, noRule, usable}
+use Rattle.judgement.specs.Wanted.{Wanted, exactly}
+use Rattle.judgement.specs.Typing.{isSome as present, Place, inPattern, inReplacement, inCondition, appliesRule, appliesOperation, fitsScope, noRule, usable, wantedByOperation, wantedBy}
 use Rattle.judgement.specs.WellTyped.{Types, Role, replacing, testing}
-use Rattle.judgement.specs.Tested.{someIs, argumentsOf, operatesOf, usableOf, numbersOf, fitsOf, appliesOf}
+use Rattle.judgement.specs.Tested.{someIs, argumentsOf, operatesOf, usableOf, fitsOf, appliesOf}
 
 -- the role that applications have at a place
 abbrev pub Plays : Place → Role → Type 0
@@ -53,14 +54,9 @@ scope-same r s = rw (eqb-sym (r .target) s)
 
 -- OPERATIONS
 
-abbrev operates : Role → Applied → ℕ → Bool
-operates role (rule n) k = false
-operates role (operation o) k = operatesOf role o k
-operates role nothing k = false
-
--- how many arguments the check wants
-abbrev pub counts : ℕ → ℕ
-counts a = pick (between 1004 1005 a) 0 1
+-- the arguments that the operation of the number a wants, if the check lets it stand here
+abbrev operatesAt : Place → ℕ → Option (List Wanted)
+operatesAt here a = pick (appliesOperation here a) (some (wantedByOperation a)) none
 
 far : (here : Place) (a : ℕ) → 1009 < a → appliesOperation here a ≡ false
 unfolding appliesOperation
@@ -75,19 +71,19 @@ near inReplacement a h = rw (lt-leb 1000 a (omega arith))
 near inCondition a h = rw (lt-leb 1008 a (omega arith))
 
 -- the check and the test say the same of each of these, the first of which has the number k; behind them there is no operation
-abbrev Agree : Place → Role → ℕ → List Applied → ℕ → Type 0
-Agree here role n [] k = 1009 < k
-Agree here role n (rule m ∷ more) k = ⊥
-Agree here role n (operation o ∷ more) k = (operatesOf role o n ≡ and (appliesOperation here k) (eqb n (counts k))) × Agree here role n more (k + 1)
-Agree here role n (nothing ∷ more) k = (false ≡ and (appliesOperation here k) (eqb n (counts k))) × Agree here role n more (k + 1)
+abbrev Agree : Place → Role → List Applied → ℕ → Type 0
+Agree here role [] k = 1009 < k
+Agree here role (rule m ∷ more) k = ⊥
+Agree here role (operation o ∷ more) k = (operatesOf role o ≡ operatesAt here k) × Agree here role more (k + 1)
+Agree here role (nothing ∷ more) k = (none ≡ operatesAt here k) × Agree here role more (k + 1)
 
-operations-agree : (here : Place) (role : Role) → Plays here role → (n : ℕ) → Agree here role n operations 1000
+operations-agree : (here : Place) (role : Role) → Plays here role → Agree here role operations 1000
 unfolding appliesOperation operatesOf operations
-operations-agree inReplacement replacing p n = (refl, (refl, (refl, (refl, (refl, (refl, (refl, (refl, (refl, (refl, omega arith))))))))))
-operations-agree inCondition testing p n = (refl, (refl, (refl, (refl, (refl, (refl, (refl, (refl, (refl, (refl, omega arith))))))))))
-operations-agree inPattern role p n = absurd p
-operations-agree inReplacement testing p n = absurd p
-operations-agree inCondition replacing p n = absurd p
+operations-agree inReplacement replacing p = (refl, (refl, (refl, (refl, (refl, (refl, (refl, (refl, (refl, (refl, omega arith))))))))))
+operations-agree inCondition testing p = (refl, (refl, (refl, (refl, (refl, (refl, (refl, (refl, (refl, (refl, omega arith))))))))))
+operations-agree inPattern role p = absurd p
+operations-agree inReplacement testing p = absurd p
+operations-agree inCondition replacing p = absurd p
 
 applied-rule : (a : ℕ) → a < 1000 → applied a ≡ rule a
 unfolding applied
@@ -98,41 +94,48 @@ absent : (g : Grammar) (rules : Rules) (Γ : Types) (role : Role) (s : ℕ) (xs 
 unfolding appliesOf someIs
 absent g rules Γ role s xs a q = rw q
 
--- do the arguments xs fit what is applied?
-abbrev pub argumentsFit : Grammar → Rules → Types → List ℕ → ℕ → Bool
-argumentsFit g rules Γ xs a = pick (ltb a (length rules)) (argumentsOf Γ xs (getD rules a noRule .parameters)) (and (eqb (length xs) (counts a)) (numbersOf g Γ xs))
-
 module _ (g : Grammar) (rules : Rules) (here : Place) (role : Role) (Γ : Types) (s : ℕ) (xs : List ℕ) where
   abbrev operationFits : ℕ → Bool
-  operationFits a = and (and (appliesOperation here a) (isNumber g s)) (and (eqb (length xs) (counts a)) (numbersOf g Γ xs))
+  operationFits a = and (and (appliesOperation here a) (isNumber g s)) (argumentsOf g Γ xs (wantedByOperation a))
 
-  swapped : (a b c d : Bool) → and (and a b) (and c d) ≡ and (and a c) (and b d)
-  swapped true true c d = refl
-  swapped true false true d = refl
-  swapped true false false d = refl
-  swapped false b c d = refl
+  -- the test of what the check lets stand here
+  tested-at : (a : ℕ) → isNumber g s && someIs (operatesAt here a) (argumentsOf g Γ xs) ≡ operationFits a
+  unfolding someIs
+  tested-at a = go (appliesOperation here a) (isNumber g s)
+    where
+      go : (b n : Bool) → n && someIs (pick b (some (wantedByOperation a)) none) (argumentsOf g Γ xs) ≡ and (and b n) (argumentsOf g Γ xs (wantedByOperation a))
+      go true true = refl
+      go true false = refl
+      go false true = refl
+      go false false = refl
 
-  agree-at : (l : List Applied) (k i : ℕ) → Agree here role (length xs) l k → appliesOf g rules Γ role s xs (getD l i nothing) ≡ operationFits (k + i)
+  nowhere : (n : Bool) → false ≡ (n && someIs none (argumentsOf g Γ xs))
+  unfolding someIs
+  nowhere true = refl
+  nowhere false = refl
+
+  agree-at : (l : List Applied) (k i : ℕ) → Agree here role l k → appliesOf g rules Γ role s xs (getD l i nothing) ≡ operationFits (k + i)
   unfolding appliesOf
   agree-at [] k i h = rw (far here (k + i) (omega arith))
   agree-at (rule m ∷ more) k i h = absurd h
   agree-at (operation o ∷ more) k zero h =
       let z : k + 0 ≡ k = omega arith in
-      rw (z, h .0) (swapped (appliesOperation here k) (eqb (length xs) (counts k)) (isNumber g s) (numbersOf g Γ xs))
+      rw (z, h .0) (tested-at k)
   agree-at (operation o ∷ more) k (suc i) h = let z : k + suc i ≡ k + 1 + i = omega arith in rw z (agree-at more (k + 1) i (h .1))
   agree-at (nothing ∷ more) k zero h =
       let z : k + 0 ≡ k = omega arith in
-      rw z (ap (λ b. and b (and (isNumber g s) (numbersOf g Γ xs))) (h .0) ∙ swapped (appliesOperation here k) (eqb (length xs) (counts k)) (isNumber g s) (numbersOf g Γ xs))
+      rw z (nowhere (isNumber g s) ∙ ap (λ o. isNumber g s && someIs o (argumentsOf g Γ xs)) (h .0) ∙ tested-at k)
   agree-at (nothing ∷ more) k (suc i) h = let z : k + suc i ≡ k + 1 + i = omega arith in rw z (agree-at more (k + 1) i (h .1))
 
   module _ (plays : Plays here role) (few : length rules ≤ mostRules) (a : ℕ) where
     -- the number of a rule that is there
     applies-rule : a < length rules
-        → appliesOf g rules Γ role s xs (applied a) ≡ and (and (appliesRule here (getD rules a noRule)) (fitsScope (getD rules a noRule) s)) (argumentsOf Γ xs (getD rules a noRule .parameters))
+        → appliesOf g rules Γ role s xs (applied a)
+        ≡ and (and (appliesRule here (getD rules a noRule)) (fitsScope (getD rules a noRule) s)) (argumentsOf g Γ xs (map exactly (getD rules a noRule .parameters)))
     unfolding appliesOf someIs fitsOf
     applies-rule h =
         rw (applied-rule a (omega arith), there-some rules a noRule h, usable-same here role plays r, scope-same r s)
-        (go (usableOf role r) (argumentsOf Γ xs (r .parameters)) (searches (r .strategy) || eqb s (r .target)))
+        (go (usableOf role r) (argumentsOf g Γ xs (map exactly (r .parameters))) (searches (r .strategy) || eqb s (r .target)))
       where
         r : Rule
         r = getD rules a noRule
@@ -154,14 +157,14 @@ module _ (g : Grammar) (rules : Rules) (here : Place) (role : Role) (Γ : Types)
         go false e =
             let z = ltb-false a 1000 e in
             let y : 1000 + (a - 1000) ≡ a = omega arith in
-            agree-at operations 1000 (a - 1000) (operations-agree here role plays (length xs)) ∙ ap operationFits y
+            agree-at operations 1000 (a - 1000) (operations-agree here role plays) ∙ ap operationFits y
 
-    pub applies-same : appliesOf g rules Γ role s xs (applied a) ≡ and (usable g rules here s a) (argumentsFit g rules Γ xs a)
-    unfolding usable
+    pub applies-same : appliesOf g rules Γ role s xs (applied a) ≡ and (usable g rules here s a) (argumentsOf g Γ xs (wantedBy rules a))
+    unfolding usable wantedBy
     applies-same = go (ltb a (length rules)) refl
       where
         go : (b : Bool) → ltb a (length rules) ≡ b → appliesOf g rules Γ role s xs (applied a)
             ≡ and (pick b (and (appliesRule here (getD rules a noRule)) (fitsScope (getD rules a noRule) s)) (and (appliesOperation here a) (isNumber g s)))
-            (pick b (argumentsOf Γ xs (getD rules a noRule .parameters)) (and (eqb (length xs) (counts a)) (numbersOf g Γ xs)))
+            (argumentsOf g Γ xs (pick b (map exactly (getD rules a noRule .parameters)) (wantedByOperation a)))
         go true e = applies-rule (ltb-true a (length rules) e)
         go false e = applies-other (ltb-false a (length rules) e)

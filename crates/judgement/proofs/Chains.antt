@@ -5,23 +5,23 @@ use mathlib.Core.List.{List, [], _∷_, _++_, map}
 use mathlib.Core.Bool.{Bool, true, false, _&&_, and-false}
 use mathlib.Core.Option.{Option, none}
 use native.Mathlib.Omega.{arith}
-use lib.ListN.{length, getD, getElem?, drop, replicate, length-map}
+use lib.ListN.{length, getD, getElem?, drop, replicate}
 use lib.Seq.{drop-drop}
 use lib.Dec.{ltb, eqb}
-use borrow.Author.Tests.{ltb-true, ltb-false, eqb-true, eqb-false, ne-eqb}
-use Rattle.words.specs.Reader.{Words, pick, and, between, andThen, _>>_}
+use borrow.Author.Tests.{ltb-true, ltb-false, eqb-true, eqb-false}
+use Rattle.words.specs.Reader.{Words, and, between, andThen, _>>_}
 use Rattle.words.proofs.Laws.{there-some, past-none}
 use Rattle.grammar.specs.Grammar.{Grammar}
-use Rattle.grammar.specs.Kinds.{isNumber}
 use Rattle.tree.specs.Dues.{Next, firstWord, secondWord, leaves}
 use Rattle.tree.proofs.Dues.{done, bind, when, bind-when, when-never, exact}
 use Rattle.rules.specs.Limits.{mostRules, mostApplications, markVariable}
 use Rattle.rules.specs.Rules.{Application, Rules, applied, arguments, applications, pairsIn, argumentsWritten, applicationsWritten, chainWritten, unreadable, chainOf}
-use Rattle.judgement.specs.Typing.{Place, Due, applicationCount, application, argument, numberArgument, Context, noRule, usable, argumentsDue, meets}
+use Rattle.judgement.specs.Wanted.{Wanted, wants}
+use Rattle.judgement.specs.Typing.{Place, Due, applicationCount, application, argument, Context, usable, wantedBy, meets}
 use Rattle.judgement.specs.WellTyped.{Types, Role}
-use Rattle.judgement.specs.Tested.{someIs, hasType, argumentsOf, numbersOf, appliesOf, allApplyOf}
-use Rattle.judgement.proofs.Accept.{meet, read, leaving, hasType-eq}
-use Rattle.judgement.proofs.Applications.{Plays, argumentsFit, applies-same}
+use Rattle.judgement.specs.Tested.{someIs, argumentsOf, appliesOf, allApplyOf}
+use Rattle.judgement.proofs.Accept.{meet, read, leaving}
+use Rattle.judgement.proofs.Applications.{Plays, applies-same}
 
 both-and : (a b c d : Bool) (o : Option Context) → when (and a b) (when (and c d) o) ≡ when (and (and a c) (b && d)) o
 both-and true true c d o = refl
@@ -31,11 +31,11 @@ both-and false b c d o = refl
 
 -- ARGUMENTS
 
-isNumber-eq : (g : Grammar) (Γ : Types) (v : ℕ) → someIs (getElem? Γ v) (isNumber g) ≡ and (ltb v (length Γ)) (isNumber g (getD Γ v 0))
+is-there : (f : ℕ → Bool) (Γ : Types) (v : ℕ) → someIs (getElem? Γ v) f ≡ and (ltb v (length Γ)) (f (getD Γ v 0))
 unfolding someIs
-isNumber-eq g Γ v = go (ltb v (length Γ)) refl
+is-there f Γ v = go (ltb v (length Γ)) refl
   where
-    go : (b : Bool) → ltb v (length Γ) ≡ b → someIs (getElem? Γ v) (isNumber g) ≡ and b (isNumber g (getD Γ v 0))
+    go : (b : Bool) → ltb v (length Γ) ≡ b → someIs (getElem? Γ v) f ≡ and b (f (getD Γ v 0))
     go true e = rw (there-some Γ v 0 (ltb-true v (length Γ) e))
     go false e = rw (past-none Γ v (ltb-false v (length Γ) e))
 
@@ -44,12 +44,12 @@ unfolding arguments
 arguments-length zero ws = refl
 arguments-length (suc k) ws = ap suc (arguments-length k (drop 2 ws))
 
-argumentsOf-length : (Γ : Types) (xs : List ℕ) (ts : Types) → (length xs ≡ length ts → ⊥) → argumentsOf Γ xs ts ≡ false
+argumentsOf-length : (g : Grammar) (Γ : Types) (xs : List ℕ) (us : List Wanted) → (length xs ≡ length us → ⊥) → argumentsOf g Γ xs us ≡ false
 unfolding argumentsOf
-argumentsOf-length Γ [] [] h = absurd (h refl)
-argumentsOf-length Γ [] (t ∷ ts) h = refl
-argumentsOf-length Γ (x ∷ xs) [] h = refl
-argumentsOf-length Γ (x ∷ xs) (t ∷ ts) h = rw (argumentsOf-length Γ xs ts (λ e. h (ap suc e))) (and-false (hasType Γ x t))
+argumentsOf-length g Γ [] [] h = absurd (h refl)
+argumentsOf-length g Γ [] (u ∷ us) h = refl
+argumentsOf-length g Γ (x ∷ xs) [] h = refl
+argumentsOf-length g Γ (x ∷ xs) (u ∷ us) h = rw (argumentsOf-length g Γ xs us (λ e. h (ap suc e))) (and-false (someIs (getElem? Γ x) (wants g u)))
 
 module _ (g : Grammar) (rules : Rules) (here : Place) where
   abbrev run : Words → List Due → Context → Option Context
@@ -59,19 +59,9 @@ module _ (g : Grammar) (rules : Rules) (here : Place) where
   abbrev others : Words → List Due → Next Due Context → Option Context
   others ws ds s = run ws (s .dues ++ ds) (s .known)
 
-  argument-meet : (d : ℕ) (Γ : Context) (t v : ℕ) → meet g rules here (argument d) Γ t v ≡ when (and (eqb t markVariable) (hasType Γ v d)) (leaving Γ [])
+  argument-meet : (u : Wanted) (Γ : Context) (t v : ℕ) → meet g rules here (argument u) Γ t v ≡ when (and (eqb t markVariable) (someIs (getElem? Γ v) (wants g u))) (leaving Γ [])
   unfolding meet meets
-  argument-meet d Γ t v = rw (hasType-eq Γ v d) (go (eqb t markVariable) (ltb v (length Γ)) (eqb (getD Γ v 0) d))
-    where
-      go : (c a b : Bool) → done (andThen (firstWord c 23 0) (λ u. _>>_ (_>>_ (secondWord a 22) (secondWord b 23)) (leaves Γ []))) ≡ when (and c (and a b)) (leaving Γ [])
-      go true true true = refl
-      go true true false = refl
-      go true false b = refl
-      go false a b = refl
-
-  number-meet : (Γ : Context) (t v : ℕ) → meet g rules here numberArgument Γ t v ≡ when (and (eqb t markVariable) (someIs (getElem? Γ v) (isNumber g))) (leaving Γ [])
-  unfolding meet meets
-  number-meet Γ t v = rw (isNumber-eq g Γ v) (go (eqb t markVariable) (ltb v (length Γ)) (isNumber g (getD Γ v 0)))
+  argument-meet u Γ t v = rw (is-there (wants g u) Γ v) (go (eqb t markVariable) (ltb v (length Γ)) (wants g u (getD Γ v 0)))
     where
       go : (c a b : Bool) → done (andThen (firstWord c 23 0) (λ u. _>>_ (secondWord a 22) (_>>_ (secondWord b 23) (leaves Γ [])))) ≡ when (and c (and a b)) (leaving Γ [])
       go true true true = refl
@@ -80,14 +70,14 @@ module _ (g : Grammar) (rules : Rules) (here : Place) where
       go false a b = refl
 
   application-meet : (s : ℕ) (Γ : Context) (t v : ℕ)
-      → meet g rules here (application s) Γ t v ≡ when (usable g rules here s t) (when (eqb v (length (argumentsDue rules t))) (leaving Γ (argumentsDue rules t)))
+      → meet g rules here (application s) Γ t v ≡ when (usable g rules here s t) (when (eqb v (length (wantedBy rules t))) (leaving Γ (map argument (wantedBy rules t))))
   unfolding meet meets
-  application-meet s Γ t v = go (usable g rules here s t) (eqb v (length (argumentsDue rules t)))
+  application-meet s Γ t v = go (usable g rules here s t) (eqb v (length (wantedBy rules t))) (map argument (wantedBy rules t))
     where
-      go : (a b : Bool) → done (andThen (firstWord a 22 0) (λ u. _>>_ (secondWord b 22) (leaves Γ (argumentsDue rules t)))) ≡ when a (when b (leaving Γ (argumentsDue rules t)))
-      go true true = refl
-      go true false = refl
-      go false b = refl
+      go : (a b : Bool) (ds : List Due) → done (andThen (firstWord a 22 0) (λ u. _>>_ (secondWord b 22) (leaves Γ ds))) ≡ when a (when b (leaving Γ ds))
+      go true true ds = refl
+      go true false ds = refl
+      go false b ds = refl
 
   count-meet : (s : ℕ) (Γ : Context) (t v : ℕ) → meet g rules here (applicationCount s) Γ t v ≡ when (and (between 1 mostApplications t) (eqb v 0)) (leaving Γ (replicate t (application s)))
   unfolding meet meets
@@ -98,58 +88,17 @@ module _ (g : Grammar) (rules : Rules) (here : Place) where
       go true false = refl
       go false b = refl
 
-  arguments-exact : (ts : Types) (ws : Words) (ds : List Due) (Γ : Context)
-      → run ws (map argument ts ++ ds) Γ ≡ when (and (argumentsWritten (length ts) ws) (argumentsOf Γ (arguments (length ts) ws) ts)) (run (drop (2 * length ts) ws) ds Γ)
+  arguments-exact : (us : List Wanted) (ws : Words) (ds : List Due) (Γ : Context)
+      → run ws (map argument us ++ ds) Γ ≡ when (and (argumentsWritten (length us) ws) (argumentsOf g Γ (arguments (length us) ws) us)) (run (drop (2 * length us) ws) ds Γ)
   unfolding exact meet argumentsWritten argumentsOf arguments
   arguments-exact [] ws ds Γ = refl
-  arguments-exact (t ∷ ts) [] ds Γ = refl
-  arguments-exact (t ∷ ts) (w ∷ []) ds Γ = refl
-  arguments-exact (t ∷ ts) (w ∷ v ∷ ws) ds Γ =
-      let z : 2 * suc (length ts) ≡ suc (suc (2 * length ts)) = omega arith in
-      rw (argument-meet t Γ w v, z) (bind-when (and (eqb w markVariable) (hasType Γ v t)) (leaving Γ []) (others ws (map argument ts ++ ds))
-      ∙ ap (when (and (eqb w markVariable) (hasType Γ v t))) (arguments-exact ts ws ds Γ)
-      ∙ both-and (eqb w markVariable) (hasType Γ v t) (argumentsWritten (length ts) ws) (argumentsOf Γ (arguments (length ts) ws) ts) (run (drop (2 * length ts) ws) ds Γ))
-
-  number-exact : (ws : Words) (ds : List Due) (Γ : Context)
-      → run ws (numberArgument ∷ ds) Γ ≡ when (and (argumentsWritten 1 ws) (numbersOf g Γ (arguments 1 ws))) (run (drop 2 ws) ds Γ)
-  unfolding exact meet argumentsWritten numbersOf arguments
-  number-exact [] ds Γ = refl
-  number-exact (w ∷ []) ds Γ = refl
-  number-exact (w ∷ v ∷ ws) ds Γ = rw (number-meet Γ w v) (go (eqb w markVariable) (someIs (getElem? Γ v) (isNumber g)))
-    where
-      go : (a b : Bool) → bind (when (and a b) (leaving Γ [])) (others ws ds) ≡ when (and (and a true) (b && true)) (run ws ds Γ)
-      go true true = refl
-      go true false = refl
-      go false b = refl
-
-  -- n arguments, as many as are due
-  due-exact : (a n : ℕ) (ws : Words) (ds : List Due) (Γ : Context) → n ≡ length (argumentsDue rules a)
-      → run ws (argumentsDue rules a ++ ds) Γ ≡ when (and (argumentsWritten n ws) (argumentsFit g rules Γ (arguments n ws) a)) (run (drop (2 * n) ws) ds Γ)
-  unfolding argumentsDue argumentsWritten arguments numbersOf
-  due-exact a n ws ds Γ = go (ltb a (length rules)) (between 1004 1005 a)
-    where
-      ps : Types
-      ps = getD rules a noRule .parameters
-
-      go : (b c : Bool) → n ≡ length (pick b (map argument ps) (pick c [] (numberArgument ∷ []))) → run ws (pick b (map argument ps) (pick c [] (numberArgument ∷ [])) ++ ds) Γ
-          ≡ when (and (argumentsWritten n ws) (pick b (argumentsOf Γ (arguments n ws) ps) (and (eqb (length (arguments n ws)) (pick c 0 1)) (numbersOf g Γ (arguments n ws))))) (run (drop (2 * n) ws) ds Γ)
-      go true c e = rw (e ∙ length-map ps argument) (arguments-exact ps ws ds Γ)
-      go false true e = rw e
-      go false false e = rw e (number-exact ws ds Γ)
-
-  -- .. or not as many
-  due-fails : (a n : ℕ) (ws : Words) (Γ : Context) → (n ≡ length (argumentsDue rules a) → ⊥) → argumentsFit g rules Γ (arguments n ws) a ≡ false
-  unfolding argumentsDue
-  due-fails a n ws Γ = go (ltb a (length rules)) (between 1004 1005 a)
-    where
-      ps : Types
-      ps = getD rules a noRule .parameters
-
-      go : (b c : Bool) → (n ≡ length (pick b (map argument ps) (pick c [] (numberArgument ∷ []))) → ⊥)
-          → pick b (argumentsOf Γ (arguments n ws) ps) (and (eqb (length (arguments n ws)) (pick c 0 1)) (numbersOf g Γ (arguments n ws))) ≡ false
-      go true c h = argumentsOf-length Γ (arguments n ws) ps (λ q. h (sym (arguments-length n ws) ∙ q ∙ sym (length-map ps argument)))
-      go false true h = rw (arguments-length n ws, ne-eqb n 0 h)
-      go false false h = rw (arguments-length n ws, ne-eqb n 1 h)
+  arguments-exact (u ∷ us) [] ds Γ = refl
+  arguments-exact (u ∷ us) (w ∷ []) ds Γ = refl
+  arguments-exact (u ∷ us) (w ∷ v ∷ ws) ds Γ =
+      let z : 2 * suc (length us) ≡ suc (suc (2 * length us)) = omega arith in
+      rw (argument-meet u Γ w v, z) (bind-when (and (eqb w markVariable) (someIs (getElem? Γ v) (wants g u))) (leaving Γ []) (others ws (map argument us ++ ds))
+      ∙ ap (when (and (eqb w markVariable) (someIs (getElem? Γ v) (wants g u)))) (arguments-exact us ws ds Γ)
+      ∙ both-and (eqb w markVariable) (someIs (getElem? Γ v) (wants g u)) (argumentsWritten (length us) ws) (argumentsOf g Γ (arguments (length us) ws) us) (run (drop (2 * length us) ws) ds Γ))
 
 -- APPLICATIONS
 
@@ -159,12 +108,17 @@ module _ (g : Grammar) (rules : Rules) (here : Place) (role : Role) (plays : Pla
       ≡ when (and (argumentsWritten n ws) (appliesOf g rules Γ role s (arguments n ws) (applied a))) (run g rules here (drop (2 * n) ws) ds Γ)
   unfolding exact meet
   application-exact s a n ws ds Γ =
-      rw (application-meet g rules here s Γ a n, applies-same g rules here role Γ s (arguments n ws) plays few a) (go (usable g rules here s a) (eqb n (length (argumentsDue rules a))) refl)
+      rw (application-meet g rules here s Γ a n, applies-same g rules here role Γ s (arguments n ws) plays few a) (go (usable g rules here s a) (eqb n (length us)) refl)
     where
-      go : (u b : Bool) → eqb n (length (argumentsDue rules a)) ≡ b → bind (when u (when b (leaving Γ (argumentsDue rules a)))) (others g rules here ws ds)
-          ≡ when (and (argumentsWritten n ws) (and u (argumentsFit g rules Γ (arguments n ws) a))) (run g rules here (drop (2 * n) ws) ds Γ)
-      go true true e = due-exact g rules here a n ws ds Γ (eqb-true n (length (argumentsDue rules a)) e)
-      go true false e = rw (due-fails g rules here a n ws Γ (eqb-false n (length (argumentsDue rules a)) e)) (when-never (argumentsWritten n ws) (run g rules here (drop (2 * n) ws) ds Γ))
+      us : List Wanted
+      us = wantedBy rules a
+
+      go : (u b : Bool) → eqb n (length us) ≡ b → bind (when u (when b (leaving Γ (map argument us)))) (others g rules here ws ds)
+          ≡ when (and (argumentsWritten n ws) (and u (argumentsOf g Γ (arguments n ws) us))) (run g rules here (drop (2 * n) ws) ds Γ)
+      go true true e = rw (eqb-true n (length us) e) (arguments-exact g rules here us ws ds Γ)
+      go true false e =
+          let other : length (arguments n ws) ≡ length us → ⊥ = λ q. eqb-false n (length us) e (sym (arguments-length n ws) ∙ q) in
+          rw (argumentsOf-length g Γ (arguments n ws) us other) (when-never (argumentsWritten n ws) (run g rules here (drop (2 * n) ws) ds Γ))
       go false b e = when-never (argumentsWritten n ws) (run g rules here (drop (2 * n) ws) ds Γ)
 
   none-run : (s : ℕ) (ds : List Due) (Γ : Context) → run g rules here [] (application s ∷ ds) Γ ≡ none

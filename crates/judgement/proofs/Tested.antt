@@ -1,9 +1,9 @@
 -- THE TEST OF Tested.antt ACCEPTS EXACTLY THE WELL-TYPED RULES. Assumes nothing.
 use Prim.Native.Nat.{ℕ, zero, suc}
 use mathlib.Core.Path.{_≡_, refl, sym, ap}
-use mathlib.Core.List.{List, [], _∷_, _++_}
+use mathlib.Core.List.{List, [], _∷_, _++_, map}
 use mathlib.Core.Bool.{Bool, true, false, cond, _&&_, _||_}
-use mathlib.Core.Option.{Option, none, some}
+use mathlib.Core.Option.{Option, none, some, Option·some-injective}
 use native.Mathlib.Omega.{arith}
 use lib.ListN.{length, getElem?}
 use lib.Dec.{eqb, leb}
@@ -16,8 +16,9 @@ use Rattle.tree.proofs.Trees.{and-intro}
 use Rattle.rules.specs.Limits.{mostVariables}
 use Rattle.rules.specs.Rules.{Operation, add, subtract, quotient, remainder, round, truncate, equal, greater, Applied, rule, operation, nothing, Shape, node, new, same, Application, Piece, write, copy, chain, Part, deconstruct, search, construct, condition, searches, Rule, Rules}
 use Rattle.rules.proofs.Laid.{no-true}
-use Rattle.judgement.specs.WellTyped.{Types, Has, Pattern, patternEnd, aNode, aNew, aSame, patternNesting, PatternOf, Role, replacing, testing, Operates, adds, subtracts, divides, remains, rounds, truncates, equals, exceeds, Usable, Arguments, noArgument, anArgument, Numbers, noNumber, aNumber, Fits, Applies, aRule, anOperation, AllApply, allNone, allMore, Replacement, piecesEnd, aWritten, aCopy, aChain, pieceNesting, ReplacementOf, PartFits, deconstructs, searchesFor, constructs, tests, PartsFit, noPart, aPart, RuleFits, Main, WellTyped}
-use Rattle.judgement.specs.Tested.{onSome, someIs, hasType, argumentsOf, patternOf, operatesOf, usableOf, numbersOf, fitsOf, appliesOf, allApplyOf, piecesOf, onePattern, oneReplacement, partOf, partsOf, replacementOf, ruleOf, rulesOf, isNil, mainOf, wellTyped}
+use Rattle.judgement.specs.Wanted.{Wanted, exactly, wants}
+use Rattle.judgement.specs.WellTyped.{Types, Has, Pattern, patternEnd, aNode, aNew, aSame, patternNesting, PatternOf, Role, replacing, testing, Operates, adds, subtracts, divides, remains, rounds, truncates, equals, exceeds, Usable, Arguments, noArgument, anArgument, Fits, Applies, aRule, anOperation, AllApply, allNone, allMore, Replacement, piecesEnd, aWritten, aCopy, aChain, pieceNesting, ReplacementOf, PartFits, deconstructs, searchesFor, constructs, tests, PartsFit, noPart, aPart, RuleFits, Main, WellTyped}
+use Rattle.judgement.specs.Tested.{onSome, someIs, hasType, argumentsOf, patternOf, operatesOf, usableOf, fitsOf, appliesOf, allApplyOf, piecesOf, onePattern, oneReplacement, partOf, partsOf, replacementOf, ruleOf, rulesOf, isNil, mainOf, wellTyped}
 
 pub no-some : {A B : Type 0} {b : B} → none ≡ some b → A
 no-some {B = B} {b} e = let z : _≡_ {A = ℕ} 0 1 = cc in absurd (omega arith)
@@ -42,12 +43,15 @@ hasType-has [] x t e = no-true e
 hasType-has (u ∷ Γ) zero t e = ap some (eqb-true u t e)
 hasType-has (u ∷ Γ) (suc x) t e = hasType-has Γ x t e
 
-arguments-of : (Γ : Types) (xs : List ℕ) (ts : Types) → argumentsOf Γ xs ts ≡ true → Arguments Γ xs ts
+arguments-of : (g : Grammar) (Γ : Types) (xs : List ℕ) (ws : List Wanted) → argumentsOf g Γ xs ws ≡ true → Arguments g Γ xs ws
 unfolding argumentsOf
-arguments-of Γ [] [] e = noArgument
-arguments-of Γ [] (t ∷ ts) e = no-true e
-arguments-of Γ (x ∷ xs) [] e = no-true e
-arguments-of Γ (x ∷ xs) (t ∷ ts) e = let p = and-both (hasType Γ x t) (argumentsOf Γ xs ts) e in anArgument (hasType-has Γ x t (p .0)) (arguments-of Γ xs ts (p .1))
+arguments-of g Γ [] [] e = noArgument
+arguments-of g Γ [] (w ∷ ws) e = no-true e
+arguments-of g Γ (x ∷ xs) [] e = no-true e
+arguments-of g Γ (x ∷ xs) (w ∷ ws) e =
+    let p = and-both (someIs (getElem? Γ x) (wants g w)) (argumentsOf g Γ xs ws) e in
+    let q = someIs-true (getElem? Γ x) (wants g w) (p .0) in
+    anArgument (q .1) (q .2) (arguments-of g Γ xs ws (p .1))
 
 pub pattern-of : {g : Grammar} {Γ′ : Types} (ps : List Shape) (Γ due : Types) → patternOf g Γ ps due ≡ some Γ′ → Pattern g Γ due ps Γ′
 unfolding patternOf
@@ -71,47 +75,39 @@ onePattern-of g Γ Γ′ ps t e =
     let p = cond-some (leb (patternNesting g ps (1 ∷ [])) mostNesting) (patternOf g Γ ps (t ∷ [])) e in
     record { typed = pattern-of ps Γ (t ∷ []) (p .1); nested = leb-true _ _ (p .0) }
 
-operates-of : (role : Role) (o : Operation) (n : ℕ) → operatesOf role o n ≡ true → Operates role o n
+operates-of : (role : Role) (o : Operation) (ws : List Wanted) → operatesOf role o ≡ some ws → Operates role o ws
 unfolding operatesOf
-operates-of replacing add n e = rw (eqb-true n 1 e) adds
-operates-of replacing subtract n e = rw (eqb-true n 1 e) subtracts
-operates-of replacing quotient n e = rw (eqb-true n 1 e) divides
-operates-of replacing remainder n e = rw (eqb-true n 1 e) remains
-operates-of replacing round n e = rw (eqb-true n 0 e) rounds
-operates-of replacing truncate n e = rw (eqb-true n 0 e) truncates
-operates-of replacing equal n e = no-true e
-operates-of replacing greater n e = no-true e
-operates-of testing add n e = no-true e
-operates-of testing subtract n e = no-true e
-operates-of testing quotient n e = no-true e
-operates-of testing remainder n e = no-true e
-operates-of testing round n e = no-true e
-operates-of testing truncate n e = no-true e
-operates-of testing equal n e = rw (eqb-true n 1 e) equals
-operates-of testing greater n e = rw (eqb-true n 1 e) exceeds
+operates-of replacing add ws e = rw (← Option·some-injective _ ws e) adds
+operates-of replacing subtract ws e = rw (← Option·some-injective _ ws e) subtracts
+operates-of replacing quotient ws e = rw (← Option·some-injective _ ws e) divides
+operates-of replacing remainder ws e = rw (← Option·some-injective _ ws e) remains
+operates-of replacing round ws e = rw (← Option·some-injective _ ws e) rounds
+operates-of replacing truncate ws e = rw (← Option·some-injective _ ws e) truncates
+operates-of replacing equal ws e = no-some e
+operates-of replacing greater ws e = no-some e
+operates-of testing add ws e = no-some e
+operates-of testing subtract ws e = no-some e
+operates-of testing quotient ws e = no-some e
+operates-of testing remainder ws e = no-some e
+operates-of testing round ws e = no-some e
+operates-of testing truncate ws e = no-some e
+operates-of testing equal ws e = rw (← Option·some-injective _ ws e) equals
+operates-of testing greater ws e = rw (← Option·some-injective _ ws e) exceeds
 
 usable-of : (role : Role) (r : Rule) → usableOf role r ≡ true → Usable role r
 unfolding usableOf
 usable-of replacing r e = let p = someIs-true (r .replacement) (λ ps. true) e in (p .0, p .1)
 usable-of testing r e = tt
 
-numbers-of : (g : Grammar) (Γ : Types) (xs : List ℕ) → numbersOf g Γ xs ≡ true → Numbers g Γ xs (length xs)
-unfolding numbersOf
-numbers-of g Γ [] e = noNumber
-numbers-of g Γ (x ∷ xs) e =
-    let p = and-both (someIs (getElem? Γ x) (isNumber g)) (numbersOf g Γ xs) e in
-    let q = someIs-true (getElem? Γ x) (isNumber g) (p .0) in
-    aNumber (q .1) (q .2) (numbers-of g Γ xs (p .1))
-
 scope-of : (b : Bool) (t target : ℕ) → b || eqb t target ≡ true → b ≡ false → t ≡ target
 scope-of true t target e z = no-true (sym z)
 scope-of false t target e z = eqb-true t target e
 
-fits-of : (Γ : Types) (t : ℕ) (xs : List ℕ) (r : Rule) → fitsOf Γ t xs r ≡ true → Fits Γ t xs r
+fits-of : (g : Grammar) (Γ : Types) (t : ℕ) (xs : List ℕ) (r : Rule) → fitsOf g Γ t xs r ≡ true → Fits g Γ t xs r
 unfolding fitsOf
-fits-of Γ t xs r e =
-    let p = and-both (argumentsOf Γ xs (r .parameters)) (searches (r .strategy) || eqb t (r .target)) e in
-    record { arguments = arguments-of Γ xs (r .parameters) (p .0); scope = scope-of (searches (r .strategy)) t (r .target) (p .1) }
+fits-of g Γ t xs r e =
+    let p = and-both (argumentsOf g Γ xs (map exactly (r .parameters))) (searches (r .strategy) || eqb t (r .target)) e in
+    record { arguments = arguments-of g Γ xs (map exactly (r .parameters)) (p .0); scope = scope-of (searches (r .strategy)) t (r .target) (p .1) }
 
 nil-of : (ts : Types) → isNil ts ≡ true → ts ≡ []
 unfolding isNil
@@ -129,13 +125,13 @@ module _ (g : Grammar) (rules : Rules) (Γ : Types) (role : Role) (t : ℕ) wher
   applies-of : (xs : List ℕ) (p : Applied) → appliesOf g rules Γ role t xs p ≡ true → Applies g rules Γ role t xs p
   unfolding appliesOf
   applies-of xs (rule n) e =
-      let p = someIs-true (getElem? rules n) (λ r. usableOf role r && fitsOf Γ t xs r) e in
-      let q = and-both (usableOf role (p .0)) (fitsOf Γ t xs (p .0)) (p .2) in
-      aRule (p .1) (usable-of role (p .0) (q .0)) (fits-of Γ t xs (p .0) (q .1))
+      let p = someIs-true (getElem? rules n) (λ r. usableOf role r && fitsOf g Γ t xs r) e in
+      let q = and-both (usableOf role (p .0)) (fitsOf g Γ t xs (p .0)) (p .2) in
+      aRule (p .1) (usable-of role (p .0) (q .0)) (fits-of g Γ t xs (p .0) (q .1))
   applies-of xs (operation o) e =
-      let p = and-both (operatesOf role o (length xs)) (isNumber g t && numbersOf g Γ xs) e in
-      let q = and-both (isNumber g t) (numbersOf g Γ xs) (p .1) in
-      anOperation (operates-of role o (length xs) (p .0)) (q .0) (numbers-of g Γ xs (q .1))
+      let p = and-both (isNumber g t) (someIs (operatesOf role o) (argumentsOf g Γ xs)) e in
+      let q = someIs-true (operatesOf role o) (argumentsOf g Γ xs) (p .1) in
+      anOperation (operates-of role o (q .0) (q .1)) (p .0) (arguments-of g Γ xs (q .0) (q .2))
   applies-of xs nothing e = no-true e
 
   allApply-of : (apps : List Application) → allApplyOf g rules Γ role t apps ≡ true → AllApply g rules Γ role t apps
@@ -251,10 +247,10 @@ onSome-of f e h = rw e h
 cond-of : {A : Type 0} {b : Bool} {x z : Option A} → b ≡ true → x ≡ z → cond b x none ≡ z
 cond-of e h = rw e h
 
-arguments-test : {Γ : Types} {xs : List ℕ} {ts : Types} → Arguments Γ xs ts → argumentsOf Γ xs ts ≡ true
+arguments-test : {g : Grammar} {Γ : Types} {xs : List ℕ} {ws : List Wanted} → Arguments g Γ xs ws → argumentsOf g Γ xs ws ≡ true
 unfolding argumentsOf
 arguments-test noArgument = refl
-arguments-test {Γ} (anArgument {x} {t} h r) = and-intro (has-test Γ x t h) (arguments-test r)
+arguments-test {g} (anArgument {w = w} h e r) = and-intro (someIs-of (wants g w) h e) (arguments-test r)
 
 pattern-test : {g : Grammar} {Γ due Γ′ : Types} {ps : List Shape} → Pattern g Γ due ps Γ′ → patternOf g Γ ps due ≡ some Γ′
 unfolding patternOf
@@ -267,7 +263,7 @@ onePattern-test : {g : Grammar} {Γ Γ′ : Types} {t : ℕ} {ps : List Shape} �
 unfolding onePattern
 onePattern-test p = cond-of (le-leb _ _ (p .nested)) (pattern-test (p .typed))
 
-operates-test : {role : Role} {o : Operation} {n : ℕ} → Operates role o n → operatesOf role o n ≡ true
+operates-test : {role : Role} {o : Operation} {ws : List Wanted} → Operates role o ws → operatesOf role o ≡ some ws
 unfolding operatesOf
 operates-test adds = refl
 operates-test subtracts = refl
@@ -283,27 +279,19 @@ unfolding usableOf
 usable-test replacing r u = someIs-of (λ ps. true) (u .1) refl
 usable-test testing r u = refl
 
-numbers-test : {g : Grammar} {Γ : Types} {xs : List ℕ} {n : ℕ} → Numbers g Γ xs n → (numbersOf g Γ xs ≡ true) × (length xs ≡ n)
-unfolding numbersOf
-numbers-test noNumber = (refl, refl)
-numbers-test {g} (aNumber h e r) = let q = numbers-test r in (and-intro (someIs-of (isNumber g) h e) (q .0), ap suc (q .1))
-
 scope-test : (b : Bool) (t target : ℕ) → (b ≡ false → t ≡ target) → b || eqb t target ≡ true
 scope-test true t target h = refl
 scope-test false t target h = eq-eqb t target (h refl)
 
-fits-test : {Γ : Types} {t : ℕ} {xs : List ℕ} {r : Rule} → Fits Γ t xs r → fitsOf Γ t xs r ≡ true
+fits-test : {g : Grammar} {Γ : Types} {t : ℕ} {xs : List ℕ} {r : Rule} → Fits g Γ t xs r → fitsOf g Γ t xs r ≡ true
 unfolding fitsOf
 fits-test {t = t} {r = r} f = and-intro (arguments-test (f .arguments)) (scope-test (searches (r .strategy)) t (r .target) (f .scope))
 
 module _ {g : Grammar} {rules : Rules} {Γ : Types} {role : Role} {t : ℕ} where
   applies-test : {xs : List ℕ} {p : Applied} → Applies g rules Γ role t xs p → appliesOf g rules Γ role t xs p ≡ true
   unfolding appliesOf
-  applies-test {xs} (aRule {r = s} there usable f) = someIs-of (λ r. usableOf role r && fitsOf Γ t xs r) there (and-intro (usable-test role s usable) (fits-test f))
-  applies-test {xs} (anOperation {o} operates number ns) =
-      let q = numbers-test ns in
-      let c : operatesOf role o (length xs) ≡ true = rw (q .1) (operates-test operates) in
-      and-intro c (and-intro number (q .0))
+  applies-test {xs} (aRule {r = s} there usable f) = someIs-of (λ r. usableOf role r && fitsOf g Γ t xs r) there (and-intro (usable-test role s usable) (fits-test f))
+  applies-test {xs} (anOperation operates number args) = and-intro number (someIs-of (argumentsOf g Γ xs) (operates-test operates) (arguments-test args))
 
   allApply-test : {apps : List Application} → AllApply g rules Γ role t apps → allApplyOf g rules Γ role t apps ≡ true
   unfolding allApplyOf

@@ -12,11 +12,12 @@ use Rattle.tree.specs.Dues.{pairs as pairsDue, whole}
 use Rattle.tree.specs.Reading.{duesOf}
 use Rattle.rules.specs.Rules.{Rules, operations, applied, shapes, arguments, applications, pairsIn, argumentsWritten, applicationsWritten, chainWritten, unreadable, chainOf, conditionOf, piecesAfter, pieces}
 use Rattle.rules.specs.Layout.{strategyOf, stretch, field, pairs, variableAt, deconstructFields, conditionFields, partOf, reach, replacement, mainFits, mainBits, typeField, searchFields, constructFields, partAt, part, parameters, headFields, head, parts, rule, layout, readLayout}
+use Rattle.judgement.specs.Wanted.{wants}
 use Rattle.judgement.specs.Typing as Typing
-use Rattle.judgement.specs.Typing.{mayStand, appliesRule, appliesOperation, fitsScope, usable, argumentsDue, newVariable, variable, chain, node, meets, typed, variableThere, partTyped, partsTyped, ruleTyped, mainTarget, rulesTyped}
+use Rattle.judgement.specs.Typing.{mayStand, appliesRule, appliesOperation, fitsScope, usable, wantedBy, newVariable, variable, chain, node, meets, typed, variableThere, partTyped, partsTyped, ruleTyped, mainTarget, rulesTyped}
 use Rattle.judgement.specs.WellTyped.{patternNesting, pieceNesting}
 use Rattle.judgement.specs.Tested as Tested
-use Rattle.judgement.specs.Tested.{onSome, someIs, hasType, argumentsOf, patternOf, operatesOf, usableOf, numbersOf, fitsOf, appliesOf, allApplyOf, piecesOf, onePattern, oneReplacement, partsOf, replacementOf, ruleOf, rulesOf, isNil, mainOf, wellTyped}
+use Rattle.judgement.specs.Tested.{onSome, someIs, hasType, argumentsOf, patternOf, operatesOf, usableOf, fitsOf, appliesOf, allApplyOf, piecesOf, onePattern, oneReplacement, partsOf, replacementOf, ruleOf, rulesOf, isNil, mainOf, wellTyped}
 
 -- program of repeat number
 numbers : Grammar
@@ -65,5 +66,5 @@ found [] = []
 found (case ws a ∷ cs) = answersOf ws (readLayout 3 ws) ∷ found cs
 
 right : found table ≡ given table
-unfolding word wordIn many end kindOf allows allowed childrenOf children isNumberKind isNumber levelsOf levels pairsDue whole duesOf operations applied shapes arguments applications pairsIn argumentsWritten applicationsWritten chainWritten unreadable chainOf conditionOf piecesAfter pieces strategyOf stretch field pairs variableAt deconstructFields conditionFields partOf reach replacement mainFits mainBits typeField searchFields constructFields partAt part parameters headFields head parts rule layout readLayout mayStand Typing.isSome appliesRule appliesOperation fitsScope usable argumentsDue newVariable variable chain node meets typed variableThere partTyped partsTyped ruleTyped mainTarget rulesTyped patternNesting pieceNesting onSome someIs hasType argumentsOf patternOf operatesOf usableOf numbersOf fitsOf appliesOf allApplyOf piecesOf onePattern oneReplacement Tested.partOf partsOf replacementOf ruleOf rulesOf isNil mainOf wellTyped numbers table given found
+unfolding word wordIn many end kindOf allows allowed childrenOf children isNumberKind isNumber levelsOf levels pairsDue whole duesOf operations applied shapes arguments applications pairsIn argumentsWritten applicationsWritten chainWritten unreadable chainOf conditionOf piecesAfter pieces strategyOf stretch field pairs variableAt deconstructFields conditionFields partOf reach replacement mainFits mainBits typeField searchFields constructFields partAt part parameters headFields head parts rule layout readLayout mayStand Typing.isSome appliesRule appliesOperation fitsScope wants usable wantedBy newVariable variable chain node meets typed variableThere partTyped partsTyped ruleTyped mainTarget rulesTyped patternNesting pieceNesting onSome someIs hasType argumentsOf patternOf operatesOf usableOf fitsOf appliesOf allApplyOf piecesOf onePattern oneReplacement Tested.partOf partsOf replacementOf ruleOf rulesOf isNil mainOf wellTyped numbers table given found
 right = refl

@@ -1,6 +1,6 @@
 -- The typing of decoded rules as a test: WellTyped.antt, computed. Assumes nothing: these are definitions.
 use Prim.Native.Nat.{ℕ, zero, suc}
-use mathlib.Core.List.{List, [], _∷_, _++_}
+use mathlib.Core.List.{List, [], _∷_, _++_, map}
 use mathlib.Core.Bool.{Bool, true, false, cond, _&&_, _||_}
 use mathlib.Core.Option.{Option, none, some}
 use lib.ListN.{length, getElem?}
@@ -10,6 +10,7 @@ use Rattle.grammar.specs.Kinds.{allowed, children, isNumber}
 use Rattle.tree.specs.Limits.{mostNesting}
 use Rattle.rules.specs.Limits.{mostVariables}
 use Rattle.rules.specs.Rules.{Operation, add, subtract, quotient, remainder, round, truncate, equal, greater, Applied, rule, operation, nothing, Shape, node, new, same, Application, Piece, write, copy, chain, Part, deconstruct, search, construct, condition, searches, Rule, Rules}
+use Rattle.judgement.specs.Wanted.{Wanted, exactly, aNumber, wants}
 use Rattle.judgement.specs.WellTyped.{Types, Role, replacing, testing, patternNesting, pieceNesting}
 
 -- goes on with what there is
@@ -28,12 +29,12 @@ hasType [] x t = false
 hasType (u ∷ Γ) zero t = eqb u t
 hasType (u ∷ Γ) (suc x) t = hasType Γ x t
 
--- are the variables there, and of the types, one for one?
-unfoldable pub argumentsOf : Types → List ℕ → Types → Bool
-argumentsOf Γ [] [] = true
-argumentsOf Γ [] (t ∷ ts) = false
-argumentsOf Γ (x ∷ xs) [] = false
-argumentsOf Γ (x ∷ xs) (t ∷ ts) = hasType Γ x t && argumentsOf Γ xs ts
+-- are the variables there, and what is wanted, one for one?
+unfoldable pub argumentsOf : Grammar → Types → List ℕ → List Wanted → Bool
+argumentsOf g Γ [] [] = true
+argumentsOf g Γ [] (w ∷ ws) = false
+argumentsOf g Γ (x ∷ xs) [] = false
+argumentsOf g Γ (x ∷ xs) (w ∷ ws) = someIs (getElem? Γ x) (wants g w) && argumentsOf g Γ xs ws
 
 -- the variables after the pattern, if it stands for trees of the types due
 unfoldable pub patternOf : Grammar → Types → List Shape → Types → Option Types
@@ -44,44 +45,39 @@ patternOf g Γ (node t v ∷ ps) (d ∷ due) = cond (eqb t d && allowed g t v) (
 patternOf g Γ (new t ∷ ps) (d ∷ due) = cond (eqb t d) (patternOf g (Γ ++ t ∷ []) ps due) none
 patternOf g Γ (same x ∷ ps) (d ∷ due) = cond (hasType Γ x d) (patternOf g Γ ps due) none
 
--- may the operation stand here, with so many arguments?
-unfoldable pub operatesOf : Role → Operation → ℕ → Bool
-operatesOf replacing add n = eqb n 1
-operatesOf replacing subtract n = eqb n 1
-operatesOf replacing quotient n = eqb n 1
-operatesOf replacing remainder n = eqb n 1
-operatesOf replacing round n = eqb n 0
-operatesOf replacing truncate n = eqb n 0
-operatesOf replacing equal n = false
-operatesOf replacing greater n = false
-operatesOf testing add n = false
-operatesOf testing subtract n = false
-operatesOf testing quotient n = false
-operatesOf testing remainder n = false
-operatesOf testing round n = false
-operatesOf testing truncate n = false
-operatesOf testing equal n = eqb n 1
-operatesOf testing greater n = eqb n 1
+-- the arguments that the operation wants, if it may stand here
+unfoldable pub operatesOf : Role → Operation → Option (List Wanted)
+operatesOf replacing add = some (aNumber ∷ [])
+operatesOf replacing subtract = some (aNumber ∷ [])
+operatesOf replacing quotient = some (aNumber ∷ [])
+operatesOf replacing remainder = some (aNumber ∷ [])
+operatesOf replacing round = some []
+operatesOf replacing truncate = some []
+operatesOf replacing equal = none
+operatesOf replacing greater = none
+operatesOf testing add = none
+operatesOf testing subtract = none
+operatesOf testing quotient = none
+operatesOf testing remainder = none
+operatesOf testing round = none
+operatesOf testing truncate = none
+operatesOf testing equal = some (aNumber ∷ [])
+operatesOf testing greater = some (aNumber ∷ [])
 
 -- may the rule stand here? A replacement wants one that replaces
 unfoldable pub usableOf : Role → Rule → Bool
 usableOf replacing r = someIs (r .replacement) (λ ps. true)
 usableOf testing r = true
 
--- are the variables there, and number tokens?
-unfoldable pub numbersOf : Grammar → Types → List ℕ → Bool
-numbersOf g Γ [] = true
-numbersOf g Γ (x ∷ xs) = someIs (getElem? Γ x) (isNumber g) && numbersOf g Γ xs
-
 -- do the arguments and the scope fit the rule?
-unfoldable pub fitsOf : Types → ℕ → List ℕ → Rule → Bool
-fitsOf Γ t xs r = argumentsOf Γ xs (r .parameters) && (searches (r .strategy) || eqb t (r .target))
+unfoldable pub fitsOf : Grammar → Types → ℕ → List ℕ → Rule → Bool
+fitsOf g Γ t xs r = argumentsOf g Γ xs (map exactly (r .parameters)) && (searches (r .strategy) || eqb t (r .target))
 
 module _ (g : Grammar) (rules : Rules) (Γ : Types) (role : Role) (t : ℕ) where
   -- does the application fit?
   unfoldable pub appliesOf : List ℕ → Applied → Bool
-  appliesOf xs (rule n) = someIs (getElem? rules n) (λ r. usableOf role r && fitsOf Γ t xs r)
-  appliesOf xs (operation o) = operatesOf role o (length xs) && (isNumber g t && numbersOf g Γ xs)
+  appliesOf xs (rule n) = someIs (getElem? rules n) (λ r. usableOf role r && fitsOf g Γ t xs r)
+  appliesOf xs (operation o) = isNumber g t && someIs (operatesOf role o) (argumentsOf g Γ xs)
   appliesOf xs nothing = false
 
   -- do all?

@@ -17,6 +17,7 @@ use Rattle.tree.specs.Reading.{tree, duesOf}
 use Rattle.rules.specs.Limits.{mostParts, mostVariables, mostApplications, markNew, markVariable, markChain}
 use Rattle.rules.specs.Rules.{Rule, Rules, rootOnly, searches}
 use Rattle.rules.specs.Layout.{PartAt, deconstructAt, constructAt, conditionAt, bit, onlyIf, stretch, field, partAt, head, readLayout, rulesFit}
+use Rattle.judgement.specs.Wanted.{Wanted, exactly, aNumber, wants}
 
 -- where pairs stand
 pub data Place : Type 0 where
@@ -32,10 +33,8 @@ pub data Due : Type 0 where
   applicationCount : ℕ → Due
   -- an application to a scope of the type
   application : ℕ → Due
-  -- an argument of the type
-  argument : ℕ → Due
-  -- an argument that is a number token
-  numberArgument : Due
+  -- an argument that is what is wanted
+  argument : Wanted → Due
 
 -- the types of the variables that are there, by number
 abbrev pub Context : Type 0
@@ -80,11 +79,13 @@ usable g rules here s a = pick (ltb a (length rules))
     (and (appliesRule here (getD rules a noRule)) (fitsScope (getD rules a noRule) s))
     (and (appliesOperation here a) (isNumber g s))
 
--- "Arguments fit parameters in number and type." "Operations have number tokens as scope and argument"; 1,004 and 1,005: "these two without argument"
-unfoldable pub argumentsDue : Rules → ℕ → List Due
-argumentsDue rules a = pick (ltb a (length rules))
-    (map argument (getD rules a noRule .parameters))
-    (pick (between 1004 1005 a) [] (numberArgument ∷ []))
+-- "Operations have number tokens as scope and argument"; 1,004 and 1,005: "these two without argument"
+abbrev pub wantedByOperation : ℕ → List Wanted
+wantedByOperation a = pick (between 1004 1005 a) [] (aNumber ∷ [])
+
+-- the arguments that the rule or operation a wants: "Arguments fit parameters in number and type"
+unfoldable pub wantedBy : Rules → ℕ → List Wanted
+wantedBy rules a = pick (ltb a (length rules)) (map exactly (getD rules a noRule .parameters)) (wantedByOperation a)
 
 -- ONE PAIR, (t, v), AT ITS POSITION
 
@@ -143,17 +144,13 @@ module _ (g : Grammar) (rules : Rules) (here : Place) where
   -- 22: "rule or operation not there or not usable here or on its scope, argument count"
   meets (application s) Γ t v = do
     firstWord (usable g rules here s t) 22
-    secondWord (eqb v (length (argumentsDue rules t))) 22
-    leaves Γ (argumentsDue rules t)
+    secondWord (eqb v (length (wantedBy rules t))) 22
+    leaves Γ (map argument (wantedBy rules t))
   -- "a pair (65, variable) for each argument"
-  meets (argument d) Γ t v = do
-    firstWord (eqb t markVariable) 23
-    ofType Γ v d
-    leaves Γ []
-  meets numberArgument Γ t v = do
+  meets (argument w) Γ t v = do
     firstWord (eqb t markVariable) 23
     there Γ v
-    secondWord (isNumber g (getD Γ v 0)) 23
+    secondWord (wants g w (getD Γ v 0)) 23
     leaves Γ []
 
 -- THE RULES

@@ -1,8 +1,8 @@
 -- When rules are well typed against a grammar: the paper's Typing on decoded rules, with no positions and no refusals. Γ has the types of a rule's variables,
 -- by number. proofs/ shows that the check accepts exactly these. Assumes nothing: these are definitions.
-use Prim.Native.Nat.{ℕ, suc, _≤_, max}
+use Prim.Native.Nat.{ℕ, _≤_, max}
 use mathlib.Core.Path.{_≡_}
-use mathlib.Core.List.{List, [], _∷_, _++_}
+use mathlib.Core.List.{List, [], _∷_, _++_, map}
 use mathlib.Core.Bool.{Bool, true, false}
 use mathlib.Core.Option.{some}
 use lib.ListN.{length, getElem?}
@@ -12,6 +12,7 @@ use Rattle.tree.specs.Limits.{mostNesting}
 use Rattle.tree.specs.Tree.{levels}
 use Rattle.rules.specs.Limits.{mostVariables}
 use Rattle.rules.specs.Rules.{Operation, add, subtract, quotient, remainder, round, truncate, equal, greater, Applied, rule, operation, Shape, node, new, same, Application, Piece, write, copy, chain, Part, deconstruct, search, construct, condition, searches, Rule, Rules}
+use Rattle.judgement.specs.Wanted.{Wanted, exactly, aNumber, wants}
 
 -- the types of variables, or of trees that are due
 abbrev pub Types : Type 0
@@ -46,43 +47,39 @@ pub record PatternOf (g : Grammar) (Γ : Types) (t : ℕ) (ps : List Shape) (Γ�
 pub data Role : Type 0 where
   replacing testing : Role
 
--- the operations that may stand there, with the count of their arguments: "Replacements apply .. operations 1,000 to 1,005; tests .. 1,008 and 1,009"; round
--- and truncate: "these two without argument"
-pub data Operates : Role → Operation → ℕ → Type 0 where
-  adds : Operates replacing add 1
-  subtracts : Operates replacing subtract 1
-  divides : Operates replacing quotient 1
-  remains : Operates replacing remainder 1
-  rounds : Operates replacing round 0
-  truncates : Operates replacing truncate 0
-  equals : Operates testing equal 1
-  exceeds : Operates testing greater 1
+-- the operations that may stand there, with the arguments that they want: "Replacements apply .. operations 1,000 to 1,005; tests .. 1,008 and 1,009";
+-- "Operations have number tokens as scope and argument"; round and truncate: "these two without argument"
+pub data Operates : Role → Operation → List Wanted → Type 0 where
+  adds : Operates replacing add (aNumber ∷ [])
+  subtracts : Operates replacing subtract (aNumber ∷ [])
+  divides : Operates replacing quotient (aNumber ∷ [])
+  remains : Operates replacing remainder (aNumber ∷ [])
+  rounds : Operates replacing round []
+  truncates : Operates replacing truncate []
+  equals : Operates testing equal (aNumber ∷ [])
+  exceeds : Operates testing greater (aNumber ∷ [])
 
 -- the rules that may: "Replacements apply rules with bit 3 ..; tests apply any rule"
 abbrev pub Usable : Role → Rule → Type 0
 Usable replacing r = (ps : List Piece) × (r .replacement ≡ some ps)
 Usable testing r = Unit {0}
 
--- the variables xs have the types, one for each: "Arguments fit parameters in number and type"
-pub data Arguments (Γ : Types) : List ℕ → Types → Type 0 where
-  noArgument : Arguments Γ [] []
-  anArgument : {x t : ℕ} {xs : List ℕ} {ts : Types} → Has Γ x t → Arguments Γ xs ts → Arguments Γ (x ∷ xs) (t ∷ ts)
+-- the variables xs are what is wanted, one for each
+pub data Arguments (g : Grammar) (Γ : Types) : List ℕ → List Wanted → Type 0 where
+  noArgument : Arguments g Γ [] []
+  anArgument : {x t : ℕ} {xs : List ℕ} {w : Wanted} {ws : List Wanted} → Has Γ x t → wants g w t ≡ true → Arguments g Γ xs ws → Arguments g Γ (x ∷ xs) (w ∷ ws)
 
--- the variables xs are so many, each of a type of number tokens: "Types of number tokens may differ"
-pub data Numbers (g : Grammar) (Γ : Types) : List ℕ → ℕ → Type 0 where
-  noNumber : Numbers g Γ [] 0
-  aNumber : {x t n : ℕ} {xs : List ℕ} → Has Γ x t → isNumber g t ≡ true → Numbers g Γ xs n → Numbers g Γ (x ∷ xs) (suc n)
-
--- the rule takes these arguments, and may be applied to a tree of type t: "A rule without reach applies only to its target type"
-pub record Fits (Γ : Types) (t : ℕ) (xs : List ℕ) (r : Rule) : Type 0 where
-  pub arguments : Arguments Γ xs (r .parameters)
+-- the rule takes these arguments, "Arguments fit parameters in number and type", and may be applied to a tree of type t: "A rule without reach applies only
+-- to its target type"
+pub record Fits (g : Grammar) (Γ : Types) (t : ℕ) (xs : List ℕ) (r : Rule) : Type 0 where
+  pub arguments : Arguments g Γ xs (map exactly (r .parameters))
   pub scope : searches (r .strategy) ≡ false → t ≡ r .target
 
 -- on a tree of type t
 module _ (g : Grammar) (rules : Rules) (Γ : Types) (role : Role) (t : ℕ) where
   pub data Applies (xs : List ℕ) : Applied → Type 0 where
-    aRule : {n : ℕ} {r : Rule} → getElem? rules n ≡ some r → Usable role r → Fits Γ t xs r → Applies xs (rule n)
-    anOperation : {o : Operation} {k : ℕ} → Operates role o k → isNumber g t ≡ true → Numbers g Γ xs k → Applies xs (operation o)
+    aRule : {n : ℕ} {r : Rule} → getElem? rules n ≡ some r → Usable role r → Fits g Γ t xs r → Applies xs (rule n)
+    anOperation : {o : Operation} {ws : List Wanted} → Operates role o ws → isNumber g t ≡ true → Arguments g Γ xs ws → Applies xs (operation o)
 
   pub data AllApply : List Application → Type 0 where
     allNone : AllApply []

@@ -1,6 +1,6 @@
 -- One level of calls is sound if the calls one level deeper are. Assumes nothing.
 use Prim.Native.Nat.{ℕ, zero, suc, _+_, _-_, _*_, _/_, _≤_, _<_}
-use mathlib.Core.Path.{_≡_, refl, sym, ap, _∙_}
+use mathlib.Core.Path.{_≡_, refl, sym, _∙_}
 use mathlib.Core.List.{List, [], _∷_, _++_, append-assoc}
 use mathlib.Core.Bool.{Bool, true, false, not}
 use mathlib.Core.Option.{Option, none, some}
@@ -20,6 +20,7 @@ use Rattle.tree.specs.Tree.{Trees, Tree, size, nestingFrom, nesting, areTrees, 
 use Rattle.tree.proofs.Trees.{tells, trees-append, trees-even, size-append, and-intro, trees-pass, tree-passes, tree-type}
 use Rattle.rules.specs.Limits.{mostVariables}
 use Rattle.rules.specs.Rules.{Operation, Applied, rule, operation, Application, Piece, Part, Strategy, rootOnly, firstMatch, exhaustive, searches, Rule, Rules}
+use Rattle.judgement.specs.Wanted.{Wanted, wants}
 use Rattle.judgement.specs.WellTyped.{Types, Role, replacing, testing, Operates, adds, subtracts, divides, remains, rounds, truncates, equals, exceeds, Usable, Applies, aRule, anOperation, AllApply, allNone, allMore, Replacement, piecesEnd, aWritten, aCopy, aChain, PartFits, deconstructs, searchesFor, constructs, tests, PartsFit, noPart, aPart, RuleFits}
 use Rattle.meaning.specs.declared.State.{State}
 use Rattle.meaning.specs.Computation.{Result, thenOf, stopUnless}
@@ -30,7 +31,7 @@ use Rattle.meaning.specs.Sound.{WellEnded, Sound}
 use Rattle.tree.specs.Rest.{Rest}
 use Rattle.tree.proofs.Rest.{tree-rest, rest-node, onward}
 use Rattle.meaning.proofs.Safe.{Safe, goes, stops, returns, safe-map, andThen, Any, stopUnless-safe, surely-safe, check-safe, present-safe, choose-safe, Maybe, whether-safe, spend-safe}
-use Rattle.meaning.proofs.Matching.{OfTypes, ofTypes-length, areTreesOf-true, live-safe, nodes-safe, nesting-safe, variable-safe, variables-safe, numbers-safe, isNumberToken-true, Binds, bind-safe, match-safe, matchFirst-safe}
+use Rattle.meaning.proofs.Matching.{OfTypes, ofTypes-length, OfWanted, wantedNone, wantedMore, ofTypes-exactly, areTreesOf-true, live-safe, nodes-safe, nesting-safe, variable-safe, variables-safe, isNumberToken-true, Binds, bind-safe, match-safe, matchFirst-safe}
 use Rattle.judgement.proofs.Parts.{parts-grow}
 
 -- NUMBERS
@@ -47,38 +48,33 @@ inRange-safe m n =
 guarded-safe : (b : Bool) (m : ℕ) (n : State) → Safe InRange n (thenOf (stopUnless 45 b n) (λ u. inRange m)) (thenOf (stopUnless 45 b n) (λ u. inRange m))
 guarded-safe b m n = andThen (stopUnless-safe 45 b n (omega arith) (omega arith)) λ u l _ e. inRange-safe m l
 
-compute-safe : {o : Operation} {k : ℕ} → Operates replacing o k → (a : ℕ) (bs : List ℕ) → length bs ≡ k → (n : State) → Safe InRange n (compute o a bs n) (compute o a bs n)
-unfolding compute withOne withNone divisor
-compute-safe adds a [] h n = absurd (omega arith)
-compute-safe adds a (b ∷ []) h n = inRange-safe (a + b) n
-compute-safe adds a (b ∷ c ∷ bs) h n = absurd (omega arith)
-compute-safe subtracts a [] h n = absurd (omega arith)
-compute-safe subtracts a (b ∷ []) h n = guarded-safe (leb b a) (a - b) n
-compute-safe subtracts a (b ∷ c ∷ bs) h n = absurd (omega arith)
-compute-safe divides a [] h n = absurd (omega arith)
-compute-safe divides a (b ∷ []) h n = guarded-safe (not (eqb b 0)) (a / b * 100) n
-compute-safe divides a (b ∷ c ∷ bs) h n = absurd (omega arith)
-compute-safe remains a [] h n = absurd (omega arith)
-compute-safe remains a (b ∷ []) h n = guarded-safe (not (eqb b 0)) (a - b * (a / b)) n
-compute-safe remains a (b ∷ c ∷ bs) h n = absurd (omega arith)
-compute-safe rounds a [] h n = inRange-safe (rounded a) n
-compute-safe rounds a (b ∷ bs) h n = absurd (omega arith)
-compute-safe truncates a [] h n = inRange-safe (truncated a) n
-compute-safe truncates a (b ∷ bs) h n = absurd (omega arith)
+-- the arguments that an operation wants are number tokens
+numbers-true : {g : Grammar} {role : Role} {o : Operation} {us : List Wanted} {args : List Words} → Operates role o us → OfWanted g us args → areNumberTokens g args ≡ true
+unfolding areNumberTokens wants
+numbers-true adds (wantedMore {ws = b} e x wantedNone) = and-intro (isNumberToken-true b e x) refl
+numbers-true subtracts (wantedMore {ws = b} e x wantedNone) = and-intro (isNumberToken-true b e x) refl
+numbers-true divides (wantedMore {ws = b} e x wantedNone) = and-intro (isNumberToken-true b e x) refl
+numbers-true remains (wantedMore {ws = b} e x wantedNone) = and-intro (isNumberToken-true b e x) refl
+numbers-true rounds wantedNone = refl
+numbers-true truncates wantedNone = refl
+numbers-true equals (wantedMore {ws = b} e x wantedNone) = and-intro (isNumberToken-true b e x) refl
+numbers-true exceeds (wantedMore {ws = b} e x wantedNone) = and-intro (isNumberToken-true b e x) refl
 
-compare-safe : {o : Operation} {k : ℕ} → Operates testing o k → (a : ℕ) (bs : List ℕ) → length bs ≡ k → (n : State) → Safe Any n (compare o a bs n) (compare o a bs n)
-unfolding compare withOne
-compare-safe equals a [] h n = absurd (omega arith)
-compare-safe equals a (b ∷ []) h n = returns tt
-compare-safe equals a (b ∷ c ∷ bs) h n = absurd (omega arith)
-compare-safe exceeds a [] h n = absurd (omega arith)
-compare-safe exceeds a (b ∷ []) h n = returns tt
-compare-safe exceeds a (b ∷ c ∷ bs) h n = absurd (omega arith)
+compute-safe : {g : Grammar} {o : Operation} {us : List Wanted} {args : List Words} → Operates replacing o us → OfWanted g us args → (a : ℕ) (n : State)
+    → Safe InRange n (compute o a (valuesOf args) n) (compute o a (valuesOf args) n)
+unfolding compute withOne withNone divisor valuesOf
+compute-safe adds (wantedMore {ws = b} e x wantedNone) a n = inRange-safe (a + valueOf b) n
+compute-safe subtracts (wantedMore {ws = b} e x wantedNone) a n = guarded-safe (leb (valueOf b) a) (a - valueOf b) n
+compute-safe divides (wantedMore {ws = b} e x wantedNone) a n = guarded-safe (not (eqb (valueOf b) 0)) (a / valueOf b * 100) n
+compute-safe remains (wantedMore {ws = b} e x wantedNone) a n = guarded-safe (not (eqb (valueOf b) 0)) (a - valueOf b * (a / valueOf b)) n
+compute-safe rounds wantedNone a n = inRange-safe (rounded a) n
+compute-safe truncates wantedNone a n = inRange-safe (truncated a) n
 
-pub values-length : (ts : List Words) → length (valuesOf ts) ≡ length ts
-unfolding valuesOf
-values-length [] = refl
-values-length (t ∷ ts) = ap suc (values-length ts)
+compare-safe : {g : Grammar} {o : Operation} {us : List Wanted} {args : List Words} → Operates testing o us → OfWanted g us args → (a : ℕ) (n : State)
+    → Safe Any n (compare o a (valuesOf args) n) (compare o a (valuesOf args) n)
+unfolding compare withOne valuesOf
+compare-safe equals (wantedMore e x wantedNone) a n = returns tt
+compare-safe exceeds (wantedMore e x wantedNone) a n = returns tt
 
 false-not : {A : Type 0} → false ≡ true → A
 false-not e = let z : _≡_ {A = ℕ} 0 1 = cc in absurd (omega arith)
@@ -106,12 +102,12 @@ withValue-tree {g} {t} scope m number x h = rw (tree-type scope (x .typed)) (num
 -- arguments that suit what is applied to a tree of type t
 data Suits (g : Grammar) (rules : Rules) (role : Role) (t : ℕ) : Applied → List Words → Type 0 where
   suitsRule : {n : ℕ} {r : Rule} {args : List Words} → getElem? rules n ≡ some r → Usable role r → OfTypes g (r .parameters) args → (searches (r .strategy) ≡ false → t ≡ r .target) → Suits g rules role t (rule n) args
-  suitsOperation : {o : Operation} {k : ℕ} {args : List Words} → Operates role o k → isNumber g t ≡ true → areNumberTokens g args ≡ true → length args ≡ k → Suits g rules role t (operation o) args
+  suitsOperation : {o : Operation} {us : List Wanted} {args : List Words} → Operates role o us → isNumber g t ≡ true → OfWanted g us args → Suits g rules role t (operation o) args
 
 suits-safe : {g : Grammar} {rules : Rules} {Γ : Types} {env : Env} {role : Role} {t : ℕ} {xs : List ℕ} {p : Applied} → OfTypes g Γ env → Applies g rules Γ role t xs p → (n : State)
     → Safe (λ args l. Suits g rules role t p args) n (variables env xs n) (variables env xs n)
-suits-safe typed (aRule there usable f) n = safe-map (λ args l _ q. suitsRule there usable q (f .scope)) (variables-safe typed (f .arguments) n)
-suits-safe typed (anOperation o number xs) n = safe-map (λ args l _ q. suitsOperation o number (q .0) (q .1)) (numbers-safe typed xs n)
+suits-safe typed (aRule {r = r} there usable f) n = safe-map (λ args l _ q. suitsRule there usable (ofTypes-exactly (r .parameters) q) (f .scope)) (variables-safe typed (f .arguments) n)
+suits-safe typed (anOperation o number xs) n = safe-map (λ args l _ q. suitsOperation o number q) (variables-safe typed xs n)
 
 -- a call that fits: arguments of the parameters' types, and a scope of a type t that the rule may be applied to
 pub record Fitting (g : Grammar) (rules : Rules) (t : ℕ) (r : Rule) (args : Env) (scope : Words) : Type 0 where
@@ -211,9 +207,9 @@ module _ (g : Grammar) (rules : Rules) (each : (n : ℕ) (r : Rule) → getElem?
   apply-safe (suitsRule {n = k} {r} there usable typed fit) x besides n =
       andThen (present-safe n there) λ q l _ e.
       rw e (below .rewriting (record { rule = each k r there; arguments = typed; tree = x; reach = fit }) (usable .1) besides l)
-  apply-safe {t} {args = args} {scope} (suitsOperation {o} change number all count) x besides n =
-      andThen (check-safe (and (isNumberToken g scope) (areNumberTokens g args)) n (and-intro (isNumberToken-true scope number x) all)) λ u l _ _.
-      andThen (compute-safe change (valueOf scope) (valuesOf args) (values-length args ∙ count) l) λ m l _ h.
+  apply-safe {t} {args = args} {scope} (suitsOperation change number wanted) x besides n =
+      andThen (check-safe (and (isNumberToken g scope) (areNumberTokens g args)) n (and-intro (isNumberToken-true scope number x) (numbers-true change wanted))) λ u l _ _.
+      andThen (compute-safe change wanted (valueOf scope) l) λ m l _ h.
       returns (withValue-tree scope m number x h)
 
   applyChain-safe : {Γ : Types} {env : Env} {t : ℕ} {apps : List Application} → OfTypes g Γ env → AllApply g rules Γ replacing t apps → (scope : Words) → Tree g t scope → (besides : ℕ) (n : State)
@@ -263,9 +259,9 @@ module _ (g : Grammar) (rules : Rules) (each : (n : ℕ) (r : Rule) → getElem?
   succeeds-safe (suitsRule {n = k} {r} there usable typed fit) x besides n =
       andThen (present-safe n there) λ q l _ e.
       rw e (below .matching (record { rule = each k r there; arguments = typed; tree = x; reach = fit }) besides l)
-  succeeds-safe {args = args} {scope} (suitsOperation compares number all count) x besides n =
-      andThen (check-safe (and (isNumberToken g scope) (areNumberTokens g args)) n (and-intro (isNumberToken-true scope number x) all)) λ u l _ _.
-      compare-safe compares (valueOf scope) (valuesOf args) (values-length args ∙ count) l
+  succeeds-safe {args = args} {scope} (suitsOperation compares number wanted) x besides n =
+      andThen (check-safe (and (isNumberToken g scope) (areNumberTokens g args)) n (and-intro (isNumberToken-true scope number x) (numbers-true compares wanted))) λ u l _ _.
+      compare-safe compares wanted (valueOf scope) l
 
   anySucceeds-safe : {Γ : Types} {env : Env} {t : ℕ} {apps : List Application} {scope : Words} → OfTypes g Γ env → AllApply g rules Γ testing t apps → Tree g t scope → (besides : ℕ) (n : State)
       → Safe Any n (anySucceeds true g rules deeper apps env scope besides n) (anySucceeds false g rules deeper′ apps env scope besides n)

@@ -1,7 +1,7 @@
 -- Variables and patterns are sound. Assumes nothing.
 use Prim.Native.Nat.{ℕ, zero, suc, _+_, _≤_, _<_}
 use mathlib.Core.Path.{_≡_, refl, sym, ap, _∙_}
-use mathlib.Core.List.{List, [], _∷_, _++_, append-assoc}
+use mathlib.Core.List.{List, [], _∷_, _++_, map, append-assoc}
 use mathlib.Core.Bool.{true, false}
 use mathlib.Core.Option.{Option, some}
 use native.Mathlib.Omega.{arith}
@@ -17,10 +17,11 @@ use Rattle.tree.specs.Tree.{Tree, size, nesting, isTree, after, firstTree}
 use Rattle.tree.proofs.Trees.{tells, tree-type, and-intro, tree-passes}
 use Rattle.rules.specs.Limits.{mostVariables}
 use Rattle.rules.specs.Rules.{Shape}
-use Rattle.judgement.specs.WellTyped.{Types, Has, Arguments, noArgument, anArgument, Pattern, patternEnd, aNode, aNew, aSame, Numbers, noNumber, aNumber}
+use Rattle.judgement.specs.Wanted.{Wanted, exactly, wants}
+use Rattle.judgement.specs.WellTyped.{Types, Has, Arguments, noArgument, anArgument, Pattern, patternEnd, aNode, aNew, aSame}
 use Rattle.meaning.specs.Limits.{mostLive}
 use Rattle.meaning.specs.declared.State.{State}
-use Rattle.meaning.specs.Meaning.{Env, Bindings, live, nodesWithin, nestingWithin, liveWithin, variable, variables, sameTree, bind, match, matchFirst, isNumberToken, areNumberTokens, areTreesOf}
+use Rattle.meaning.specs.Meaning.{Env, Bindings, live, nodesWithin, nestingWithin, liveWithin, variable, variables, sameTree, bind, match, matchFirst, isNumberToken, areTreesOf}
 use Rattle.tree.specs.Rest.{Rest}
 use Rattle.tree.proofs.Rest.{rest-node, onward}
 use Rattle.meaning.proofs.Safe.{Safe, returns, andThen, Any, stopUnless-safe, surely-safe, check-safe, present-safe, choose-safe, Maybe, whether-safe, safe-map}
@@ -38,6 +39,17 @@ ofTypes-snoc (ofMore y r) x = ofMore y (ofTypes-snoc r x)
 pub ofTypes-length : {g : Grammar} {Γ : Types} {env : Env} → OfTypes g Γ env → length env ≡ length Γ
 ofTypes-length ofNone = refl
 ofTypes-length (ofMore x r) = ap suc (ofTypes-length r)
+
+-- a tree for each that is wanted, in order
+pub data OfWanted (g : Grammar) : List Wanted → Env → Type 0 where
+  wantedNone : OfWanted g [] []
+  wantedMore : {w : Wanted} {more : List Wanted} {t : ℕ} {ws : Words} {env : Env} → wants g w t ≡ true → Tree g t ws → OfWanted g more env → OfWanted g (w ∷ more) (ws ∷ env)
+
+-- .. of these very types
+pub ofTypes-exactly : {g : Grammar} (ts : Types) {env : Env} → OfWanted g (map exactly ts) env → OfTypes g ts env
+unfolding wants
+ofTypes-exactly [] wantedNone = ofNone
+ofTypes-exactly {g} (t ∷ ts) (wantedMore {t = u} e x r) = ofMore (rw (eqb-true u t e) at x) (ofTypes-exactly ts r)
 
 pub areTreesOf-true : {g : Grammar} {ts : Types} {env : Env} → OfTypes g ts env → areTreesOf g ts env ≡ true
 unfolding areTreesOf
@@ -76,21 +88,13 @@ module _ {g : Grammar} {Γ : Types} {env : Env} (typed : OfTypes g Γ env) where
       let f = lookup typed x h in
       safe-map (λ w l _ e. rw e (f .2)) (present-safe n (f .1))
 
-  pub variables-safe : {xs : List ℕ} {ts : Types} → Arguments Γ xs ts → (n : State) → Safe (λ ws l. OfTypes g ts ws) n (variables env xs n) (variables env xs n)
+  pub variables-safe : {xs : List ℕ} {us : List Wanted} → Arguments g Γ xs us → (n : State) → Safe (λ ws l. OfWanted g us ws) n (variables env xs n) (variables env xs n)
   unfolding variables
-  variables-safe noArgument n = returns ofNone
-  variables-safe (anArgument {x} h r) n =
+  variables-safe noArgument n = returns wantedNone
+  variables-safe (anArgument {x} h e r) n =
       andThen (variable-safe x h n) λ w l _ tree.
       andThen (variables-safe r l) λ ws l _ q.
-      returns (ofMore tree q)
-
-  pub numbers-safe : {xs : List ℕ} {k : ℕ} → Numbers g Γ xs k → (n : State) → Safe (λ ws l. (areNumberTokens g ws ≡ true) × (length ws ≡ k)) n (variables env xs n) (variables env xs n)
-  unfolding variables areNumberTokens
-  numbers-safe noNumber n = returns (refl, refl)
-  numbers-safe (aNumber {x} h e r) n =
-      andThen (variable-safe x h n) λ w l _ tree.
-      andThen (numbers-safe r l) λ ws l _ q.
-      returns (and-intro (isNumberToken-true w e tree) (q .0), ap suc (q .1))
+      returns (wantedMore e tree q)
 
 -- what a match leaves: its variables, if it is one
 abbrev pub Binds : Grammar → Types → Option Bindings → State → Type 0

@@ -22,11 +22,12 @@ use Rattle.rules.proofs.Laws.{head-refused, head-found}
 use Rattle.rules.specs.declared.Head.{Head as HeadFound}
 use Rattle.rules.specs.declared.HeadRead.{HeadRead}
 use Rattle.rules.specs.declared.HeadRead.the-variants.{Header, NoHead}
-use Rattle.judgement.specs.Typing.{Place, inPattern, inReplacement, inCondition, aTree, aChain, applicationCount, application, argument, numberArgument, Context, meets, appliesRule, appliesOperation, fitsScope, usable, argumentsDue, noRule}
+use Rattle.judgement.specs.Wanted.{exactly}
+use Rattle.judgement.specs.Typing.{Place, inPattern, inReplacement, inCondition, aTree, aChain, applicationCount, application, argument, Context, meets, appliesRule, appliesOperation, fitsScope, usable, wantedByOperation, wantedBy, noRule}
 use Rattle.dues.specs.declared.Met.{Met}
 use Rattle.dues.specs.declared.Met.the-variants.{Bad, Top}
-use Rattle.dues.specs.Views.{dueOf, Pushed, Meets, wordsAt, searchesAs, appliesMap, operationDue, argumentsCounted}
-use Rattle.dues.proofs.Stack.{arguments-length, tree-due, chain-due, count-due, application-due, argument-due}
+use Rattle.dues.specs.Views.{wantedOf, dueOf, Pushed, Meets, wordsAt, parametersDue, searchesAs, appliesMap, argumentsCounted}
+use Rattle.dues.proofs.Stack.{parameters-length, tree-due, chain-due, count-due, application-due}
 use Rattle.dues.proofs.Pairs.{arguments-other, arguments-met}
 use Rattle.pairs.specs.Views.{Headed, Book, ruleUsable}
 
@@ -153,18 +154,18 @@ module _ (types : ℕ) (ws : Words) (at : ℕ) (r : HeadRead) (e : r ≡ headRea
         pub usable-fits : a ≡ true → {q : Bool} → q ≡ or (searchesAs (f .strategy)) (eqb (f .target) s) → q ≡ ruleUsable here rule s
         usable-fits h k = fits-is s k ∙ rw (applies-is here, ← ea, h)
 
-      due-is : map argument (rule .parameters) ≡ map argument (wordsAt ws (f .parameters) (f .count))
-      due-is = ap (map argument) (H .parameters ∙ head-words b (H .head) (H .next) (H .read))
+      wanted-is : map exactly (rule .parameters) ≡ map exactly (wordsAt ws (f .parameters) (f .count))
+      wanted-is = ap (map exactly) (H .parameters ∙ head-words b (H .head) (H .next) (H .read))
 
       module _ (v place sp : ℕ) (st : Words) (Γ : Context) where
-        pub counted-other : (v ≡ f .count → ⊥) → Meets (Bad 22 (place + 1)) Γ st sp st (argumentsCounted (map argument (rule .parameters)) Γ v place)
-        counted-other h = rw due-is (arguments-other (map argument (wordsAt ws (f .parameters) (f .count))) v place sp st Γ (λ z. h (z ∙ arguments-length ws (f .parameters) (f .count))))
+        pub counted-other : (v ≡ f .count → ⊥) → Meets (Bad 22 (place + 1)) Γ st sp st (argumentsCounted (map exactly (rule .parameters)) Γ v place)
+        counted-other h = rw wanted-is (arguments-other (map exactly (wordsAt ws (f .parameters) (f .count))) v place sp st Γ (λ z. h (z ∙ parameters-length ws (f .parameters) (f .count))))
 
-        pub counted-met : {st′ : Words} {top : ℕ} → v ≡ f .count → Pushed st sp st′ top (map argument (wordsAt ws (f .parameters) (f .count)))
-            → Meets (Top top) Γ st sp st′ (argumentsCounted (map argument (rule .parameters)) Γ v place)
+        pub counted-met : {st′ : Words} {top : ℕ} → v ≡ f .count → Pushed st sp st′ top (parametersDue ws (f .parameters) (f .count))
+            → Meets (Top top) Γ st sp st′ (argumentsCounted (map exactly (rule .parameters)) Γ v place)
         counted-met h k =
-            let n = arguments-length ws (f .parameters) (f .count) in
-            rw due-is (arguments-met (map argument (wordsAt ws (f .parameters) (f .count))) v place sp st Γ (h ∙ sym n) (omega (arith, head-few b .0)) k)
+            let n = parameters-length ws (f .parameters) (f .count) in
+            rw wanted-is (arguments-met (map exactly (wordsAt ws (f .parameters) (f .count))) v place sp st Γ (h ∙ sym n) (omega (arith, head-few b .0)) k)
 
 -- WHAT MAY BE APPLIED
 
@@ -199,12 +200,12 @@ module _ (g : Grammar) (rules : Rules) (here : Place) (s t v at sp : ℕ) (st : 
   application-unusable h = rw (← eb, h, add-zero at) (record { says = refl })
 
   module _ (h : b ≡ true) {m : Met} {st′ : Words} where
-    pub application-rule : t < length rules → Meets m Γ st sp st′ (argumentsCounted (map argument (getD rules t noRule .parameters)) Γ v at) → Meets m Γ st sp st′ (meets g rules here (application s) Γ t v at)
-    unfolding meets argumentsDue argumentsCounted
+    pub application-rule : t < length rules → Meets m Γ st sp st′ (argumentsCounted (map exactly (getD rules t noRule .parameters)) Γ v at) → Meets m Γ st sp st′ (meets g rules here (application s) Γ t v at)
+    unfolding meets wantedBy argumentsCounted
     application-rule l k = rw (← eb, h, lt-ltb t (length rules) l) k
 
-    pub application-operation : length rules ≤ t → Meets m Γ st sp st′ (argumentsCounted (operationDue t) Γ v at) → Meets m Γ st sp st′ (meets g rules here (application s) Γ t v at)
-    unfolding meets argumentsDue argumentsCounted
+    pub application-operation : length rules ≤ t → Meets m Γ st sp st′ (argumentsCounted (wantedByOperation t) Γ v at) → Meets m Γ st sp st′ (meets g rules here (application s) Γ t v at)
+    unfolding meets wantedBy argumentsCounted
     application-operation l k = rw (← eb, h, le-ltb t (length rules) l) k
 
 -- WHERE RULES STAND
@@ -228,9 +229,7 @@ module _ (g : Grammar) (rules : Rules) (here : Place) (a b t v at sp : ℕ) (st 
     pub due-application : a ≡ 102 → Meets m Γ st sp st′ (meets g rules here (application b) Γ t v at) → Meets m Γ st sp st′ (meets g rules here (dueOf a b) Γ t v at)
     due-application h k = rw (h, application-due b) k
 
-  pub due-argument : a ≡ 103 → Meets m Γ st sp st (meets g rules here (argument b) Γ t v at) → Meets m Γ st sp st (meets g rules here (dueOf a b) Γ t v at)
-  due-argument h k = rw (h, argument-due b) k
-
-  pub due-number : 65 < a → (a ≡ 100 → ⊥) → (a ≡ 101 → ⊥) → (a ≡ 102 → ⊥) → (a ≡ 103 → ⊥) → Meets m Γ st sp st (meets g rules here numberArgument Γ t v at) → Meets m Γ st sp st (meets g rules here (dueOf a b) Γ t v at)
+  pub due-argument : 65 < a → (a ≡ 100 → ⊥) → (a ≡ 101 → ⊥) → (a ≡ 102 → ⊥) → Meets m Γ st sp st (meets g rules here (argument (wantedOf a b)) Γ t v at)
+      → Meets m Γ st sp st (meets g rules here (dueOf a b) Γ t v at)
   unfolding dueOf
-  due-number h h₀ h₁ h₂ h₃ k = rw (lt-leb a 65 h, ne-eqb a 100 h₀, ne-eqb a 101 h₁, ne-eqb a 102 h₂, ne-eqb a 103 h₃) k
+  due-argument h h₀ h₁ h₂ k = rw (lt-leb a 65 h, ne-eqb a 100 h₀, ne-eqb a 101 h₁, ne-eqb a 102 h₂) k

@@ -5,7 +5,6 @@ use dues::Ctx;
 use dues::Met;
 use dues::Place;
 use dues::limits::DUE_APPLICATION;
-use dues::limits::DUE_ARGUMENT;
 use dues::limits::DUE_CHAIN;
 use dues::limits::DUE_COUNT;
 use dues::limits::LAST_TREE;
@@ -26,6 +25,7 @@ ghost use Rattle.tree.specs.Dues.{whole};
 ghost use Rattle.tree.specs.Views.{InTables, AreTables};
 ghost use Rattle.rules.specs.Layout as Layout;
 ghost use Rattle.rules.specs.Rules.{Rule, Rules};
+ghost use Rattle.judgement.specs.Wanted.{exactly};
 ghost use Rattle.judgement.specs.Typing as Typing;
 ghost use Rattle.dues.specs.Views.{placeAs, contextOf, Known, dueOf, dueAt, Meets, argumentsCounted};
 ghost use Rattle.pairs.specs.Views.{TypedAs, Headed, Book, Given, ruleUsable};
@@ -101,7 +101,7 @@ fn meet_rule(
     sp: usize,
 ) -> Met
     requires { ⌜ (1 ≤ types) × (t < 64) × (length (now ws) < 2 ^ 32) × (sp < 890) × (at < 2 ^ 40) × (length (now st) ≡ 2048) ⌝ }
-    ensures { λ r. ⌜ ((rule : Rule) → Headed types (now (ws .entry)) (getD (now (starts .entry)) t 0) rule → (Γ : Typing.Context) → Meets r Γ (now (st .entry)) sp (now (st .exit)) (argumentsCounted (map Typing.argument (rule .parameters)) Γ v at)) ⌝ }
+    ensures { λ r. ⌜ ((rule : Rule) → Headed types (now (ws .entry)) (getD (now (starts .entry)) t 0) rule → (Γ : Typing.Context) → Meets r Γ (now (st .entry)) sp (now (st .exit)) (argumentsCounted (map exactly (rule .parameters)) Γ v at)) ⌝ }
 {
     let start = rules::rule_at(starts, t);
     let h = rules::read_head(types, ws, start);
@@ -176,10 +176,7 @@ fn meet_link(
     if a == DUE_APPLICATION {
         return meet_application(here, heads, types, ws, starts, b, t, v, at, st, sp);
     }
-    if a == DUE_ARGUMENT {
-        return dues::meet_argument(b, t, v, known, n, at, sp);
-    }
-    dues::meet_number(heads, t, v, known, n, at, sp)
+    dues::meet_argument(heads, a, b, t, v, known, n, at, sp)
 }
 
 // A pair (t, v) where the due at the height sp of the stack is to be met.

@@ -13,7 +13,8 @@ use Rattle.tree.specs.Dues.{pairs as pairsRead, whole}
 use Rattle.tree.specs.Reading.{duesOf}
 use Rattle.rules.specs.Rules.{operations, applied, shapes, arguments, applications, pairsIn, argumentsWritten, applicationsWritten, chainWritten, unreadable, chainOf, conditionOf, piecesAfter, pieces}
 use Rattle.rules.specs.Layout.{strategyOf, stretch, field, pairs, variableAt, deconstructFields, conditionFields, partOf, reach, replacement, mainFits, mainBits, typeField, searchFields, constructFields, partAt, part, parameters, headFields, head, parts, rule, layout, readLayout, rulesFit}
-use Rattle.judgement.specs.Typing.{mayStand, isSome, appliesRule, appliesOperation, fitsScope, usable, argumentsDue, newVariable, variable, chain, node, meets, typed, variableThere, partTyped, partsTyped, ruleTyped, mainTarget, rulesTyped, readRules, checkRules}
+use Rattle.judgement.specs.Wanted.{wants}
+use Rattle.judgement.specs.Typing.{mayStand, isSome, appliesRule, appliesOperation, fitsScope, usable, wantedBy, newVariable, variable, chain, node, meets, typed, variableThere, partTyped, partsTyped, ruleTyped, mainTarget, rulesTyped, readRules, checkRules}
 
 -- program of repeat number: the root, the sequence, the number
 numbers : Words
@@ -182,5 +183,5 @@ found [] = []
 found (case gs ws c ∷ cs) = answer (checkRules gs ws) ∷ found cs
 
 right : found table ≡ given table
-unfolding numbers nests twos sums leaves times deep withLeaf sixteen fifteen table given found word wordIn many end typesOf grammarField element form kind grammar all any finishes round rounds finite finiteRecords readGrammar grammarFits kindOf allows allowed childrenOf children isNumberKind isNumber levelsOf levels pairsRead whole duesOf operations applied shapes arguments applications pairsIn argumentsWritten applicationsWritten chainWritten unreadable chainOf conditionOf piecesAfter pieces strategyOf stretch field pairs variableAt deconstructFields conditionFields partOf reach replacement mainFits mainBits typeField searchFields constructFields partAt part parameters headFields head parts rule layout readLayout rulesFit mayStand isSome appliesRule appliesOperation fitsScope usable argumentsDue newVariable variable chain node meets typed variableThere partTyped partsTyped ruleTyped mainTarget rulesTyped readRules checkRules
+unfolding numbers nests twos sums leaves times deep withLeaf sixteen fifteen table given found word wordIn many end typesOf grammarField element form kind grammar all any finishes round rounds finite finiteRecords readGrammar grammarFits kindOf allows allowed childrenOf children isNumberKind isNumber levelsOf levels pairsRead whole duesOf operations applied shapes arguments applications pairsIn argumentsWritten applicationsWritten chainWritten unreadable chainOf conditionOf piecesAfter pieces strategyOf stretch field pairs variableAt deconstructFields conditionFields partOf reach replacement mainFits mainBits typeField searchFields constructFields partAt part parameters headFields head parts rule layout readLayout rulesFit mayStand isSome appliesRule appliesOperation fitsScope wants usable wantedBy newVariable variable chain node meets typed variableThere partTyped partsTyped ruleTyped mainTarget rulesTyped readRules checkRules
 right = refl

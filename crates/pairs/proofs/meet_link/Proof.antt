@@ -1,7 +1,7 @@
 -- `pairs::meet_link` meets its contract. Assumes nothing.
 use borrow.Author.Needs.{needs}
 use lib.ListN.{take}
-use Rattle.pairs.proofs.Book.{due-chain, due-count, due-application, due-argument, due-number}
+use Rattle.pairs.proofs.Book.{due-chain, due-count, due-application, due-argument}
 use Rattle.dues.specs.Views.{placeAs}
 use Rattle.pairs.proofs.meet_link.Statement.{statement}
 use Rattle.pairs.proofs.meet_link.Tie as tie
@@ -37,13 +37,7 @@ meet-argument-requires : tie.Need-meet-argument-requires
 meet-argument-requires c κs = search needs
 
 returns-4 : tie.Need-returns-4
-returns-4 c = λ g h rules b. due-argument g rules (placeAs (c .before .before .before .before .before .before .before .args .here)) (c .before .before .before .before .before .before .before .args .a) (c .before .before .before .before .before .before .before .args .b) (c .before .before .before .before .before .before .before .args .t) (c .before .before .before .before .before .before .before .args .v) (c .before .before .before .before .before .before .before .args .at) (c .before .before .before .before .before .before .before .args .sp) (c .before .before .before .before .before .before .before .args .st .now) (take (c .before .before .before .before .before .before .before .args .n) (c .before .before .before .before .before .before .before .args .known .now)) (c .before .if4 .taken) (c .meet-argument .ensures g rules (placeAs (c .before .before .before .before .before .before .before .args .here)) (c .before .before .before .before .before .before .before .args .st .now))
-
-meet-number-requires : tie.Need-meet-number-requires
-meet-number-requires c κs = search needs
-
-returns-5 : tie.Need-returns-5
-returns-5 c = λ g h rules b. due-number g rules (placeAs (c .before .before .before .before .before .before .before .args .here)) (c .before .before .before .before .before .before .before .args .a) (c .before .before .before .before .before .before .before .args .b) (c .before .before .before .before .before .before .before .args .t) (c .before .before .before .before .before .before .before .args .v) (c .before .before .before .before .before .before .before .args .at) (c .before .before .before .before .before .before .before .args .sp) (c .before .before .before .before .before .before .before .args .st .now) (take (c .before .before .before .before .before .before .before .args .n) (c .before .before .before .before .before .before .before .args .known .now)) (c .before .before .before .before .before .before .before .pre .3) (c .before .before .before .before .if1 .left) (c .before .before .before .if2 .left) (c .before .before .if3 .left) (c .before .if4 .left) (c .meet-number .ensures g h rules (placeAs (c .before .before .before .before .before .before .before .args .here)) (c .before .before .before .before .before .before .before .args .st .now))
+returns-4 c = λ g h rules b. due-argument g rules (placeAs (c .before .before .before .before .before .before .args .here)) (c .before .before .before .before .before .before .args .a) (c .before .before .before .before .before .before .args .b) (c .before .before .before .before .before .before .args .t) (c .before .before .before .before .before .before .args .v) (c .before .before .before .before .before .before .args .at) (c .before .before .before .before .before .before .args .sp) (c .before .before .before .before .before .before .args .st .now) (take (c .before .before .before .before .before .before .args .n) (c .before .before .before .before .before .before .args .known .now)) (c .before .before .before .before .before .before .pre .3) (c .before .before .before .if1 .left) (c .before .before .if2 .left) (c .before .if3 .left) (c .meet-argument .ensures g h rules (placeAs (c .before .before .before .before .before .before .args .here)) (c .before .before .before .before .before .before .args .st .now))
 
 pub meet-link-spec : {M : Type 1} → statement M
 meet-link-spec =
@@ -59,6 +53,4 @@ meet-link-spec =
     same-length-3
     returns-3
     meet-argument-requires
-    returns-4
-    meet-number-requires
-    returns-5)
+    returns-4)
