@@ -8,7 +8,7 @@ use native.Mathlib.Nat.{add-zero}
 use lib.ListN.{length, getD, replicate, length-map}
 use lib.Dec.{ltb, leb, eqb}
 use borrow.Author.Tests.{eq-eqb, ne-eqb, lt-ltb, le-ltb, le-leb, lt-leb}
-use Rattle.words.specs.Reader.{Words, or, between}
+use Rattle.words.specs.Reader.{Words, or, between, Reader, andThen}
 use Rattle.words.specs.Views.{answer}
 use Rattle.words.specs.declared.Check.{Check}
 use Rattle.words.specs.declared.Check.the-variants.{Passed, Refused}
@@ -16,12 +16,13 @@ use Rattle.words.proofs.Laws.{answer-refused}
 use Rattle.grammar.specs.Grammar.{Grammar}
 use Rattle.grammar.specs.Kinds.{allowed, isNumber}
 use Rattle.tables.specs.Tables.{Tables}
+use Rattle.tree.specs.Dues.{Next, secondWord, leaves}
 use Rattle.tree.specs.Reading.{tree}
 use Rattle.rules.specs.Rules.{Rules}
 use Rattle.rules.specs.declared.Strategy.{Strategy}
 use Rattle.rules.specs.declared.Strategy.the-variants.{RootOnly}
 use Rattle.judgement.specs.Wanted.{Wanted, aNumber, wants}
-use Rattle.judgement.specs.Typing.{Place, aTree, aChain, applicationCount, application, argument, Context, mayStand, appliesOperation, wantedByOperation, there, ofType, newVariable, variable, chain, node, meets}
+use Rattle.judgement.specs.Typing.{Place, Due, aTree, aChain, applicationCount, application, argument, Context, mayStand, appliesOperation, wantedByOperation, there, ofType, newVariable, variable, chain, node, meets}
 use Rattle.dues.specs.declared.Place.{Place as Here}
 use Rattle.dues.specs.declared.Place.the-variants.{Pattern, Replacement, Condition}
 use Rattle.dues.specs.declared.Met.{Met}
@@ -104,14 +105,6 @@ module _ (d v at sp : ℕ) (st : Words) (Γ : Context) where
     new-there h = rw (eq-eqb v d e, lt-ltb (length Γ) 16 (omega (arith, len))) (record { says = (omega (arith, len), record { dues = []; next = at + 2; read = refl; pushed = pushed-none st sp; most = omega arith }) })
 
   module _ (c : Check) (is : c ≡ answer (ofType Γ v d at)) where
-    pub variable-refused : {no′ p : ℕ} → c ≡ Refused no′ p → Meets (Bad no′ p) Γ st sp st (variable d Γ v at)
-    unfolding variable
-    variable-refused e = rw (answer-refused (ofType Γ v d at) c is e) (record { says = refl })
-
-    pub variable-there : {p : ℕ} → c ≡ Passed p → Meets (Top sp) Γ st sp st (variable d Γ v at)
-    unfolding variable
-    variable-there e = rw (of-type-passed Γ v d at c is e) (record { says = record { dues = []; next = at + 2; read = refl; pushed = pushed-none st sp; most = omega arith } })
-
     pub chain-refused : {no′ p : ℕ} → c ≡ Refused no′ p → Meets (Bad no′ p) Γ st sp st (chain d Γ v at)
     unfolding chain
     chain-refused e = rw (answer-refused (ofType Γ v d at) c is e) (record { says = refl })
@@ -120,6 +113,15 @@ module _ (d v at sp : ℕ) (st : Words) (Γ : Context) where
         → Meets (Top (sp + 1)) Γ st sp st′ (chain d Γ v at)
     unfolding chain
     chain-met e k = rw (of-type-passed Γ v d at c is e) (record { says = record { dues = applicationCount d ∷ []; next = at + 2; read = refl; pushed = pushed-as k (rw (count-due d)); most = omega arith } })
+
+-- a variable where a tree is due is met as an argument of its type
+variable-argument : (g : Grammar) (rules : Rules) (here : Place) (d t v at : ℕ) (Γ : Context) → t ≡ 65 → meets g rules here (argument (wantedOf 103 d)) Γ t v at ≡ variable d Γ v at
+unfolding meets variable wants wantedOf
+variable-argument g rules here d t v at Γ e = rw (eq-eqb t 65 e) (go (ltb v (length Γ)) (eqb (getD Γ v 0) d) (leaves Γ []))
+  where
+    go : (a b : Bool) (r : Reader (Next Due Context)) → andThen (secondWord a 22 at) (λ u next. andThen (secondWord b 23 next) (λ w. r)) ≡ andThen (andThen (secondWord a 22 at) (λ u. secondWord b 23)) (λ u. r)
+    go true b r = refl
+    go false b r = refl
 
 module _ (g : Grammar) (rules : Rules) (here : Place) (n d t v at sp : ℕ) (st : Words) (Γ : Context) {b : Bool} (eb : b ≡ mayStand here d t) where
   pub tree-kind : b ≡ false → Meets (Bad 23 at) Γ st sp st (meets g rules here (aTree (tree n d)) Γ t v at)
@@ -141,9 +143,9 @@ module _ (g : Grammar) (rules : Rules) (here : Place) (n d t v at sp : ℕ) (st 
         unfolding meets
         tree-new e k = rw (← eb, stands, le-leb n 64 low, ne-eqb t d other, eq-eqb t 64 e) k
 
-        pub tree-variable : (t ≡ 64 → ⊥) → t ≡ 65 → Meets m Γ st sp st (variable d Γ v at) → Meets m Γ st sp st (meets g rules here (aTree (tree n d)) Γ t v at)
+        pub tree-variable : (t ≡ 64 → ⊥) → t ≡ 65 → Meets m Γ st sp st (meets g rules here (argument (wantedOf 103 d)) Γ t v at) → Meets m Γ st sp st (meets g rules here (aTree (tree n d)) Γ t v at)
         unfolding meets
-        tree-variable h e k = rw (← eb, stands, le-leb n 64 low, ne-eqb t d other, ne-eqb t 64 h, eq-eqb t 65 e) k
+        tree-variable h e k = rw (← eb, stands, le-leb n 64 low, ne-eqb t d other, ne-eqb t 64 h, eq-eqb t 65 e) (rw (variable-argument g rules here d t v at Γ e) at k)
 
         pub tree-chain : {st′ : Words} → (t ≡ 64 → ⊥) → (t ≡ 65 → ⊥) → Meets m Γ st sp st′ (chain d Γ v at) → Meets m Γ st sp st′ (meets g rules here (aTree (tree n d)) Γ t v at)
         unfolding meets

@@ -262,25 +262,6 @@ fn meet_new(d: u32, v: u32, n: usize, at: usize) -> Met
     Met::New(d)
 }
 
-// A variable (65, v).
-fn meet_variable(
-    d: u32,
-    v: u32,
-    known: &[u32; MOST_VARIABLES],
-    n: usize,
-    at: usize,
-    sp: usize,
-) -> Met
-    requires { ⌜ Known (now known) n × (at < 2 ^ 40) ⌝ }
-    ensures { λ r. ⌜ ((st : Words) → Meets r (take n (now (known .entry))) st sp st (Typing.variable d (take n (now (known .entry))) v at)) ⌝ }
-{
-    let c = of_type(known, n, v, d, at);
-    match c {
-        Check::Refused(no, p) => Met::Bad(no, p),
-        Check::Passed(p) => Met::Top(sp),
-    }
-}
-
 // A chain (66, v) in a replacement.
 fn meet_chain(
     d: u32,
@@ -336,7 +317,7 @@ pub fn meet_tree(
         return meet_new(d, v, n, at);
     }
     if t == MARK_VARIABLE {
-        return meet_variable(d, v, known, n, at, sp);
+        return meet_argument(heads, DUE_ARGUMENT, d, t, v, known, n, at, sp);
     }
     meet_chain(d, v, known, n, at, st, sp)
 }

@@ -32,11 +32,11 @@ meet-new-requires c κs = search needs
 returns-4 : tie.Need-returns-4
 returns-4 c = λ g h rules. tree-new g rules (placeAs (c .before .before .before .before .before .before .before .args .here)) (c .before .before .before .before .before .before .before .args .nesting) (c .before .before .before .before .before .before .before .args .d) (c .before .before .before .before .before .before .before .args .t) (c .before .before .before .before .before .before .before .args .v) (c .before .before .before .before .before .before .before .args .at) (c .before .before .before .before .before .before .before .args .sp) (c .before .before .before .before .before .before .before .args .st .now) (take (c .before .before .before .before .before .before .before .args .n) (c .before .before .before .before .before .before .before .args .known .now)) (c .before .before .before .before .before .may-stand .ensures) (not-false _ (c .before .before .before .before .if1 .left)) (c .before .before .before .if2 .left) (c .before .before .if3 .left) (c .before .if4 .taken) (c .meet-new .ensures (take (c .before .before .before .before .before .before .before .args .n) (c .before .before .before .before .before .before .before .args .known .now)) (context-length (c .before .before .before .before .before .before .before .args .known .now) (c .before .before .before .before .before .before .before .args .n) (c .before .before .before .before .before .before .before .pre .1)) (c .before .before .before .before .before .before .before .args .st .now) (c .before .before .before .before .before .before .before .args .sp))
 
-meet-variable-requires : tie.Need-meet-variable-requires
-meet-variable-requires c κs = search needs
+meet-argument-requires : tie.Need-meet-argument-requires
+meet-argument-requires c κs = search needs
 
 returns-5 : tie.Need-returns-5
-returns-5 c = λ g h rules. tree-variable g rules (placeAs (c .before .before .before .before .before .before .before .before .args .here)) (c .before .before .before .before .before .before .before .before .args .nesting) (c .before .before .before .before .before .before .before .before .args .d) (c .before .before .before .before .before .before .before .before .args .t) (c .before .before .before .before .before .before .before .before .args .v) (c .before .before .before .before .before .before .before .before .args .at) (c .before .before .before .before .before .before .before .before .args .sp) (c .before .before .before .before .before .before .before .before .args .st .now) (take (c .before .before .before .before .before .before .before .before .args .n) (c .before .before .before .before .before .before .before .before .args .known .now)) (c .before .before .before .before .before .before .may-stand .ensures) (not-false _ (c .before .before .before .before .before .if1 .left)) (c .before .before .before .before .if2 .left) (c .before .before .before .if3 .left) (c .before .before .if4 .left) (c .before .if5 .taken) (c .meet-variable .ensures (c .before .before .before .before .before .before .before .before .args .st .now))
+returns-5 c = λ g h rules. tree-variable g rules (placeAs (c .before .before .before .before .before .before .before .before .args .here)) (c .before .before .before .before .before .before .before .before .args .nesting) (c .before .before .before .before .before .before .before .before .args .d) (c .before .before .before .before .before .before .before .before .args .t) (c .before .before .before .before .before .before .before .before .args .v) (c .before .before .before .before .before .before .before .before .args .at) (c .before .before .before .before .before .before .before .before .args .sp) (c .before .before .before .before .before .before .before .before .args .st .now) (take (c .before .before .before .before .before .before .before .before .args .n) (c .before .before .before .before .before .before .before .before .args .known .now)) (c .before .before .before .before .before .before .may-stand .ensures) (not-false _ (c .before .before .before .before .before .if1 .left)) (c .before .before .before .before .if2 .left) (c .before .before .before .if3 .left) (c .before .before .if4 .left) (c .before .if5 .taken) (c .meet-argument .ensures g (h .heads-of) rules (placeAs (c .before .before .before .before .before .before .before .before .args .here)) (c .before .before .before .before .before .before .before .before .args .st .now))
 
 meet-chain-requires : tie.Need-meet-chain-requires
 meet-chain-requires c κs = search needs
@@ -59,7 +59,7 @@ meet-tree-spec =
     returns-3
     meet-new-requires
     returns-4
-    meet-variable-requires
+    meet-argument-requires
     returns-5
     meet-chain-requires
     same-length-2
