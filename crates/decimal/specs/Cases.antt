@@ -59,7 +59,7 @@ read =
     ∷ []
 
 texts-read : map (numbers 4) texts ≡ read
-unfolding numbers bytes byteAt outside grown added lastAt read texts
+unfolding grown outside added byteAt bytes lastAt numbers texts read
 texts-read = refl
 
 -- THE PARTS OF AN INPUT
@@ -99,12 +99,12 @@ parts =
     ∷ []
 
 rows-parted : map input rows ≡ parts
-unfolding input counted whole parts rows
+unfolding counted whole input rows parts
 rows-parted = refl
 
 -- "3 1 8 1 9 0" and "3 1 8 1 9"
 whole-text : map inputFrom ((51 ∷ 32 ∷ 49 ∷ 32 ∷ 56 ∷ 32 ∷ 49 ∷ 32 ∷ 57 ∷ 32 ∷ 48 ∷ []) ∷ (51 ∷ 32 ∷ 49 ∷ 32 ∷ 56 ∷ 32 ∷ 49 ∷ 32 ∷ 57 ∷ []) ∷ []) ≡ one 3 (8 ∷ []) (9 ∷ []) [] ∷ none ∷ []
-unfolding inputFrom inputAt numbers bytes byteAt outside grown added lastAt input counted whole
+unfolding grown outside added byteAt bytes lastAt numbers counted whole input inputAt inputFrom
 whole-text = refl
 
 -- WHAT IS PRINTED
@@ -127,5 +127,5 @@ outcomes-printed : map printed (refused 31 2 ∷ ended done 3 1 (0 ∷ 0 ∷ 1 �
     ∷ (100 ∷ 111 ∷ 110 ∷ 101 ∷ 32 ∷ 51 ∷ 32 ∷ 49 ∷ 32 ∷ 52 ∷ 10 ∷ 48 ∷ 32 ∷ 48 ∷ 32 ∷ 49 ∷ 32 ∷ 49 ∷ 10 ∷ [])
     ∷ (115 ∷ 116 ∷ 111 ∷ 112 ∷ 112 ∷ 101 ∷ 100 ∷ 32 ∷ 52 ∷ 48 ∷ 32 ∷ 50 ∷ 32 ∷ 48 ∷ 32 ∷ 50 ∷ 10 ∷ 48 ∷ 32 ∷ 49 ∷ 48 ∷ 10 ∷ [])
     ∷ []
-unfolding printed counts line allSpaced digits
+unfolding digits allSpaced line counts printed
 outcomes-printed = refl

@@ -99,5 +99,5 @@ outputs =
     ∷ []
 
 right : map run inputs ≡ outputs
-unfolding run inputs outputs word wordIn many end typesOf field element form kind grammar all any finishes round rounds finite finiteRecords readGrammar grammarFits checkGrammar
+unfolding word wordIn many end typesOf field element form kind grammar all any finishes round rounds finite finiteRecords readGrammar grammarFits checkGrammar run inputs outputs
 right = refl

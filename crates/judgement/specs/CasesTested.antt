@@ -4,20 +4,23 @@
 use mathlib.Core.Path.{_≡_, refl}
 use mathlib.Core.List.{List, [], _∷_}
 use mathlib.Core.Bool.{Bool, true, false}
-use Rattle.words.specs.Reader.{Words, Read, value, refused, word, wordIn, many, end, accepted}
+use Rattle.words.specs.Reader.{Words, Read, value, refused, accepted}
 use Rattle.grammar.specs.Grammar.{Grammar, token, sequence, forms}
-use Rattle.grammar.specs.Kinds.{kindOf, allows, allowed, childrenOf, children, isNumberKind, isNumber}
-use Rattle.tree.specs.Tree.{levelsOf, levels}
-use Rattle.tree.specs.Dues.{pairs as pairsDue, whole}
-use Rattle.tree.specs.Reading.{duesOf}
-use Rattle.rules.specs.Rules.{Rules, operations, applied, shapes, arguments, applications, pairsIn, argumentsWritten, applicationsWritten, chainWritten, unreadable, chainOf, conditionOf, piecesAfter, pieces}
-use Rattle.rules.specs.Layout.{strategyOf, stretch, field, pairs, variableAt, deconstructFields, conditionFields, partOf, reach, replacement, mainFits, mainBits, typeField, searchFields, constructFields, partAt, part, parameters, headFields, head, parts, rule, layout, readLayout}
-use Rattle.judgement.specs.Wanted.{wants}
+use Rattle.rules.specs.Rules.{Rules}
+use Rattle.rules.specs.Layout.{readLayout}
+use Rattle.judgement.specs.Typing.{rulesTyped}
+use Rattle.judgement.specs.Tested.{wellTyped}
+use Rattle.words.specs.Reader as Reader
+use Rattle.grammar.specs.Kinds as Kinds
+use Rattle.tree.specs.Tree as Tree
+use Rattle.tree.specs.Dues as Dues
+use Rattle.tree.specs.Reading as Reading
+use Rattle.rules.specs.Rules as Rules
+use Rattle.rules.specs.Layout as Layout
+use Rattle.judgement.specs.Wanted as Wanted
 use Rattle.judgement.specs.Typing as Typing
-use Rattle.judgement.specs.Typing.{mayStand, appliesRule, appliesOperation, fitsScope, usable, wantedBy, newVariable, variable, chain, node, meets, typed, variableThere, partTyped, partsTyped, ruleTyped, mainTarget, rulesTyped}
-use Rattle.judgement.specs.WellTyped.{patternNesting, pieceNesting}
+use Rattle.judgement.specs.WellTyped as WellTyped
 use Rattle.judgement.specs.Tested as Tested
-use Rattle.judgement.specs.Tested.{onSome, someIs, hasType, argumentsOf, patternOf, operatesOf, usableOf, fitsOf, appliesOf, allApplyOf, piecesOf, onePattern, oneReplacement, partsOf, replacementOf, ruleOf, rulesOf, isNil, mainOf, wellTyped}
 
 -- program of repeat number
 numbers : Grammar
@@ -66,5 +69,5 @@ found [] = []
 found (case ws a ∷ cs) = answersOf ws (readLayout 3 ws) ∷ found cs
 
 right : found table ≡ given table
-unfolding word wordIn many end kindOf allows allowed childrenOf children isNumberKind isNumber levelsOf levels pairsDue whole duesOf operations applied shapes arguments applications pairsIn argumentsWritten applicationsWritten chainWritten unreadable chainOf conditionOf piecesAfter pieces strategyOf stretch field pairs variableAt deconstructFields conditionFields partOf reach replacement mainFits mainBits typeField searchFields constructFields partAt part parameters headFields head parts rule layout readLayout mayStand Typing.isSome appliesRule appliesOperation fitsScope wants usable wantedBy newVariable variable chain node meets typed variableThere partTyped partsTyped ruleTyped mainTarget rulesTyped patternNesting pieceNesting onSome someIs hasType argumentsOf patternOf operatesOf usableOf fitsOf appliesOf allApplyOf piecesOf onePattern oneReplacement Tested.partOf partsOf replacementOf ruleOf rulesOf isNil mainOf wellTyped numbers table given found
+unfolding Reader.word Reader.wordIn Reader.many Reader.end Kinds.kindOf Kinds.allows Kinds.allowed Kinds.childrenOf Kinds.children Kinds.isNumberKind Kinds.isNumber Tree.levelsOf Tree.levels Dues.pairs Dues.whole Reading.duesOf Rules.operations Rules.applied Rules.shapes Rules.arguments Rules.applications Rules.pairsIn Rules.argumentsWritten Rules.applicationsWritten Rules.chainWritten Rules.unreadable Rules.chainOf Rules.conditionOf Rules.piecesAfter Rules.pieces Layout.strategyOf Layout.stretch Layout.field Layout.pairs Layout.variableAt Layout.deconstructFields Layout.conditionFields Layout.partOf Layout.reach Layout.replacement Layout.mainFits Layout.mainBits Layout.typeField Layout.searchFields Layout.constructFields Layout.partAt Layout.part Layout.parameters Layout.headFields Layout.head Layout.parts Layout.rule Layout.layout Layout.readLayout Wanted.wants Typing.mayStand Typing.isSome Typing.appliesRule Typing.appliesOperation Typing.fitsScope Typing.usable Typing.wantedBy Typing.newVariable Typing.variable Typing.chain Typing.node Typing.meets Typing.typed Typing.variableThere Typing.partTyped Typing.partsTyped Typing.ruleTyped Typing.mainTarget Typing.rulesTyped WellTyped.patternNesting WellTyped.pieceNesting Tested.onSome Tested.someIs Tested.hasType Tested.argumentsOf Tested.patternOf Tested.operatesOf Tested.usableOf Tested.fitsOf Tested.appliesOf Tested.allApplyOf Tested.piecesOf Tested.onePattern Tested.oneReplacement Tested.partOf Tested.partsOf Tested.replacementOf Tested.ruleOf Tested.rulesOf Tested.isNil Tested.mainOf Tested.wellTyped numbers table given found
 right = refl

@@ -131,5 +131,5 @@ outputs =
     ∷ []
 
 right : map run inputs ≡ outputs
-unfolding numbers nests itself pair twelve times deep run inputs outputs word wordIn many end typesOf field element form kind grammar all any finishes round rounds finite finiteRecords readGrammar grammarFits checkGrammar kindOf allows allowed childrenOf children levelsOf levels pairs whole duesOf meetsNode readTreeOf checkTree
+unfolding word wordIn many end typesOf field element form kind grammar all any finishes round rounds finite finiteRecords readGrammar grammarFits checkGrammar kindOf allows allowed childrenOf children levelsOf levels pairs whole duesOf meetsNode readTreeOf checkTree numbers nests itself pair twelve times deep run inputs outputs
 right = refl

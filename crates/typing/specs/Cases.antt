@@ -2,19 +2,21 @@
 use Prim.Native.Nat.{ℕ, zero, suc}
 use mathlib.Core.Path.{_≡_, refl}
 use mathlib.Core.List.{List, [], _∷_, _++_}
-use Rattle.words.specs.Reader.{Words, word, wordIn, many, end}
+use Rattle.words.specs.Reader.{Words}
 use Rattle.words.specs.Views.{answer}
 use Rattle.words.specs.declared.Check.{Check}
 use Rattle.words.specs.declared.Check.the-variants.{Passed, Refused}
-use Rattle.grammar.specs.Grammar.{typesOf, field as grammarField, element, form, kind, grammar, all, any, finishes, round, rounds, finite, finiteRecords, readGrammar, grammarFits}
-use Rattle.grammar.specs.Kinds.{kindOf, allows, allowed, childrenOf, children, isNumberKind, isNumber}
-use Rattle.tree.specs.Tree.{levelsOf, levels}
-use Rattle.tree.specs.Dues.{pairs as pairsRead, whole}
-use Rattle.tree.specs.Reading.{duesOf}
-use Rattle.rules.specs.Rules.{operations, applied, shapes, arguments, applications, pairsIn, argumentsWritten, applicationsWritten, chainWritten, unreadable, chainOf, conditionOf, piecesAfter, pieces}
-use Rattle.rules.specs.Layout.{strategyOf, stretch, field, pairs, variableAt, deconstructFields, conditionFields, partOf, reach, replacement, mainFits, mainBits, typeField, searchFields, constructFields, partAt, part, parameters, headFields, head, parts, rule, layout, readLayout, rulesFit}
-use Rattle.judgement.specs.Wanted.{wants}
-use Rattle.judgement.specs.Typing.{mayStand, isSome, appliesRule, appliesOperation, fitsScope, usable, wantedBy, newVariable, variable, chain, node, meets, typed, variableThere, partTyped, partsTyped, ruleTyped, mainTarget, rulesTyped, readRules, checkRules}
+use Rattle.judgement.specs.Typing.{checkRules}
+use Rattle.words.specs.Reader as Reader
+use Rattle.grammar.specs.Grammar as Grammar
+use Rattle.grammar.specs.Kinds as Kinds
+use Rattle.tree.specs.Tree as Tree
+use Rattle.tree.specs.Dues as Dues
+use Rattle.tree.specs.Reading as Reading
+use Rattle.rules.specs.Rules as Rules
+use Rattle.rules.specs.Layout as Layout
+use Rattle.judgement.specs.Wanted as Wanted
+use Rattle.judgement.specs.Typing as Typing
 
 -- program of repeat number: the root, the sequence, the number
 numbers : Words
@@ -183,5 +185,5 @@ found [] = []
 found (case gs ws c ∷ cs) = answer (checkRules gs ws) ∷ found cs
 
 right : found table ≡ given table
-unfolding numbers nests twos sums leaves times deep withLeaf sixteen fifteen table given found word wordIn many end typesOf grammarField element form kind grammar all any finishes round rounds finite finiteRecords readGrammar grammarFits kindOf allows allowed childrenOf children isNumberKind isNumber levelsOf levels pairsRead whole duesOf operations applied shapes arguments applications pairsIn argumentsWritten applicationsWritten chainWritten unreadable chainOf conditionOf piecesAfter pieces strategyOf stretch field pairs variableAt deconstructFields conditionFields partOf reach replacement mainFits mainBits typeField searchFields constructFields partAt part parameters headFields head parts rule layout readLayout rulesFit mayStand isSome appliesRule appliesOperation fitsScope wants usable wantedBy newVariable variable chain node meets typed variableThere partTyped partsTyped ruleTyped mainTarget rulesTyped readRules checkRules
+unfolding Reader.word Reader.wordIn Reader.many Reader.end Grammar.typesOf Grammar.field Grammar.element Grammar.form Grammar.kind Grammar.grammar Grammar.all Grammar.any Grammar.finishes Grammar.round Grammar.rounds Grammar.finite Grammar.finiteRecords Grammar.readGrammar Grammar.grammarFits Kinds.kindOf Kinds.allows Kinds.allowed Kinds.childrenOf Kinds.children Kinds.isNumberKind Kinds.isNumber Tree.levelsOf Tree.levels Dues.pairs Dues.whole Reading.duesOf Rules.operations Rules.applied Rules.shapes Rules.arguments Rules.applications Rules.pairsIn Rules.argumentsWritten Rules.applicationsWritten Rules.chainWritten Rules.unreadable Rules.chainOf Rules.conditionOf Rules.piecesAfter Rules.pieces Layout.strategyOf Layout.stretch Layout.field Layout.pairs Layout.variableAt Layout.deconstructFields Layout.conditionFields Layout.partOf Layout.reach Layout.replacement Layout.mainFits Layout.mainBits Layout.typeField Layout.searchFields Layout.constructFields Layout.partAt Layout.part Layout.parameters Layout.headFields Layout.head Layout.parts Layout.rule Layout.layout Layout.readLayout Layout.rulesFit Wanted.wants Typing.mayStand Typing.isSome Typing.appliesRule Typing.appliesOperation Typing.fitsScope Typing.usable Typing.wantedBy Typing.newVariable Typing.variable Typing.chain Typing.node Typing.meets Typing.typed Typing.variableThere Typing.partTyped Typing.partsTyped Typing.ruleTyped Typing.mainTarget Typing.rulesTyped Typing.readRules Typing.checkRules numbers nests twos sums leaves times deep withLeaf sixteen fifteen table given found
 right = refl
