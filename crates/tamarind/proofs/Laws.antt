@@ -1,22 +1,26 @@
--- What is exported of a check's answer is what is exported of the reading, and of a run's answer what is exported of the outcome. Assumes nothing.
-use mathlib.Core.Path.{_≡_, refl, ap, _∙_}
+-- What is exported of a check's answer is what is exported of the reading, of a run's answer what is exported of the outcome, and that says the outcome again.
+-- Assumes nothing.
+use mathlib.Core.Path.{_≡_, refl, sym, ap, _∙_}
 use Prim.Native.Nat.{ℕ}
 use mathlib.Core.List.{List}
-use lib.ListN.{length}
-use Rattle.words.specs.Reader.{Read, value, refused}
+use lib.ListN.{length, drop}
+use lib.Seq.{take-at}
+use Rattle.words.specs.Reader.{Words, Read, value, refused}
 use Rattle.words.specs.Views.{answer}
 use Rattle.words.specs.declared.Check.{Check}
 use Rattle.words.specs.declared.Check.the-variants.{Passed, Refused}
 use Rattle.tamarind.specs.declared.Answer.{Answer}
-use Rattle.meaning.specs.Outcome.{Inputs, filledBy}
-use Rattle.meaning.specs.Runs.{Memories}
+use Rattle.meaning.specs.Meaning.{done, stopped, cannotGoOn}
+use Rattle.meaning.specs.Outcome.{Inputs, ended, outcome, resultAfter, workAfter, filledBy}
+use Rattle.meaning.specs.Outcome as Meant
+use Rattle.meaning.specs.Runs.{Memories, Ran}
 use Rattle.tamarind.specs.declared.Stop.{Stop}
 use Rattle.tamarind.specs.declared.Counts.{Counts}
 use Rattle.tamarind.specs.declared.RunAnswer.{RunAnswer}
 use Rattle.tamarind.specs.declared.Outcome.{Outcome}
 use Rattle.tamarind.specs.declared.Outcome.the-variants as Run
 use Rattle.tamarind.specs.Run.{numberOf, said, filledOf, Runs}
-use Rattle.tamarind.specs.Exports.{exported, exportedCheck, exportedCounts, exportedRun, exportedOutcome, RunExported}
+use Rattle.tamarind.specs.Exports.{exported, exportedCheck, exportedCounts, exportedRun, exportedOutcome, endingOf, saidExported, RunExported}
 
 export-answer : {A : Type 0} (q : Read A) → exportedCheck (answer q) ≡ exported q
 export-answer (value a next) = refl
@@ -55,3 +59,19 @@ run-exported x before o after h e = record {
   result = rw (← h .ran .outcome) (h .ran .result);
   work = rw (← h .ran .outcome) (h .ran .work);
 }
+
+-- .. AND BACK
+
+said-again : (o : Meant.Outcome) (result : Words) → saidExported (exportedRun o) (resultAfter o result) ≡ o
+unfolding exportedRun resultAfter
+said-again (Meant.refused n p) result = refl
+said-again (ended done a k ws) result = ap (ended done a k) (take-at ws (drop (length ws) result) (length ws) refl)
+said-again (ended (stopped n) a k ws) result = ap (ended (stopped n) a k) (take-at ws (drop (length ws) result) (length ws) refl)
+said-again (ended cannotGoOn a k ws) result = ap (ended cannotGoOn a k) (take-at ws (drop (length ws) result) (length ws) refl)
+
+-- what `tamarind_run` promises is what the meaning asks of a step
+pub exported-ran : (x : Inputs) (before : Memories) (r : RunAnswer) (after : Memories) → RunExported x before r after → Ran before (record { inputs = x; outcome = saidExported r (after .result); left = after })
+exported-ran x before r after h =
+    let o = outcome (length (before .result)) (length (before .work)) x in
+    let e : saidExported r (after .result) ≡ o = rw (h .answered, h .result) (said-again o (before .result)) in
+    record { outcome = e; result = rw e (h .result); work = rw e (h .work) }

@@ -1,24 +1,31 @@
--- DEMAND 3, from what `run` ensures: each run of a list is a step that the meaning allows, so the meaning's claim about the list holds. Assumes nothing.
-use Prim.Native.Nat.{ℕ}
-use mathlib.Core.Path.{_≡_, refl, sym, ap, ap₂, _∙_}
+-- DEMAND 3, from what `run` and `tamarind_run` ensure: each run of a list is a step that the meaning allows, so the meaning's claim about the list holds.
+-- Assumes nothing.
+use Prim.Native.Nat.{ℕ, _≤_}
+use mathlib.Core.Path.{_≡_, refl, sym, ap, _∙_}
 use mathlib.Core.List.{List, [], _∷_, map}
 use mathlib.Core.Bool.{true, false}
 use native.Mathlib.Omega.{arith}
-use lib.ListN.{length, take}
+use lib.ListN.{length, take, drop}
+use lib.Seq.{take-at}
 use lib.Dec.{eqb}
 use Rattle.words.specs.Reader.{Words, pick}
-use Rattle.meaning.specs.Outcome.{output, isDone, filledBy}
-use Rattle.meaning.specs.Runs.{Memories, Ran, Each, Fine}
+use Rattle.meaning.specs.Meaning.{done, stopped, cannotGoOn}
+use Rattle.meaning.specs.Outcome as Meant
+use Rattle.meaning.specs.Outcome.{Inputs, refused, ended, resultAfter, output, isDone, filledBy}
+use Rattle.meaning.specs.Runs.{Memories, Ran, Each, Sure, Fine, zeroed}
 use Rattle.meaning.proofs.Runs.{one-after-another}
 use Rattle.tamarind.specs.declared.Stop.{Stop}
 use Rattle.tamarind.specs.declared.Stop.the-variants.{AttemptsSpent, CallsTooDeep, TooManyNodes, NestsTooDeep, TooManyLive, OutOfRange}
 use Rattle.tamarind.specs.declared.Counts.{Counts}
+use Rattle.tamarind.specs.declared.RunAnswer.{RunAnswer}
 use Rattle.tamarind.specs.declared.Outcome.{Outcome}
 use Rattle.tamarind.specs.declared.Outcome.the-variants.{Refused, Done, Stopped}
-use Rattle.tamarind.specs.Run.{numberOf, said, filledOf, wasDone}
-use Rattle.tamarind.specs.Pad.{PadRun, EachOf, EachRun, stepFor, Own, Pad}
+use Rattle.tamarind.specs.Run.{numberOf}
+use Rattle.tamarind.specs.Exports.{exportedRun, exportedOutcome, saidExported, RunExported}
+use Rattle.tamarind.specs.Pad.{Callable, run, tamarindRun, AnswerOf, Ensures, fields, PadRun, RunOn, EachOf, filledWords, wasDone, Own, stepFor, Pad}
+use Rattle.tamarind.proofs.Laws.{run-exported, exported-ran}
 
--- WHAT IS SAID TELLS THE ANSWER
+-- THE FIELDS TELL THE ANSWER
 
 abbrev causeOf : ℕ → Stop
 causeOf n = pick (eqb n 40) AttemptsSpent (pick (eqb n 41) CallsTooDeep (pick (eqb n 42) TooManyNodes (pick (eqb n 43) NestsTooDeep (pick (eqb n 44) TooManyLive OutOfRange))))
@@ -31,51 +38,112 @@ cause-of-number NestsTooDeep = refl
 cause-of-number TooManyLive = refl
 cause-of-number OutOfRange = refl
 
-cause-same : (s t : Stop) → numberOf s ≡ numberOf t → s ≡ t
-cause-same s t e = sym (cause-of-number s) ∙ ap causeOf e ∙ cause-of-number t
+abbrev countsOf : RunAnswer → Counts
+countsOf r = record { attempts = r .attempts; replacements = r .replacements; filled = r .filled }
 
-counts-same : (c d : Counts) → c .attempts ≡ d .attempts → c .replacements ≡ d .replacements → c .filled ≡ d .filled → c ≡ d
-counts-same c d p q r = let e : _≡_ {A = Counts} (record { attempts = c .attempts; replacements = c .replacements; filled = c .filled }) (record { attempts = d .attempts; replacements = d .replacements; filled = d .filled }) = rw (p, q, r) in e
+abbrev answerOf : (f : Callable) → RunAnswer → AnswerOf f
+answerOf run r = pick (eqb (r .ending) 0) (Done (countsOf r)) (pick (eqb (r .ending) 1) (Stopped (causeOf (r .number)) (countsOf r)) (Refused (r .number) (r .position)))
+answerOf tamarindRun r = r
 
-said-same : (a b : Outcome) (u v : Words) → filledOf a ≡ length (filledBy (said a u)) → filledOf b ≡ length (filledBy (said b v)) → said a u ≡ said b v → (a ≡ b) × (take (filledOf a) u ≡ take (filledOf b) v)
-unfolding filledBy
-said-same (Refused n p) (Refused m q) u v h k e = (cc, refl)
-said-same (Refused n p) (Done d) u v h k e = let z : _≡_ {A = ℕ} 0 1 = cc in absurd (omega arith)
-said-same (Refused n p) (Stopped t d) u v h k e = let z : _≡_ {A = ℕ} 0 1 = cc in absurd (omega arith)
-said-same (Done c) (Refused m q) u v h k e = let z : _≡_ {A = ℕ} 0 1 = cc in absurd (omega arith)
-said-same (Done c) (Done d) u v h k e =
-    let f : take (c .filled) u ≡ take (d .filled) v = cc in
-    (ap Done (counts-same c d (cc) (cc) (h ∙ ap length f ∙ sym k)), f)
-said-same (Done c) (Stopped t d) u v h k e = let z : _≡_ {A = ℕ} 0 1 = cc in absurd (omega arith)
-said-same (Stopped s c) (Refused m q) u v h k e = let z : _≡_ {A = ℕ} 0 1 = cc in absurd (omega arith)
-said-same (Stopped s c) (Done d) u v h k e = let z : _≡_ {A = ℕ} 0 1 = cc in absurd (omega arith)
-said-same (Stopped s c) (Stopped t d) u v h k e =
-    let f : take (c .filled) u ≡ take (d .filled) v = cc in
-    (ap₂ Stopped (cause-same s t (cc)) (counts-same c d (cc) (cc) (h ∙ ap length f ∙ sym k)), f)
+enum-of-fields : (a : Outcome) → answerOf run (exportedOutcome a) ≡ a
+enum-of-fields (Refused n p) = refl
+enum-of-fields (Done c) = refl
+enum-of-fields (Stopped s c) = ap (λ t. Stopped t c) (cause-of-number s)
 
--- .. AND THE WORDS TO POST
-posts-own : (a : Outcome) (u tree : Words) → filledOf a ≡ length (filledBy (said a u))
-    → output (isDone (said a u)) (length (filledBy (said a u))) u tree ≡ pick (isDone (said a u)) (filledBy (said a u)) tree → output (wasDone a) (filledOf a) u tree ≡ pick (wasDone a) (take (filledOf a) u) tree
-unfolding isDone filledBy
-posts-own (Refused n p) u tree h e = e
-posts-own (Done c) u tree h e = ap (λ n. output true n u tree) h ∙ e
-posts-own (Stopped s c) u tree h e = ap (λ n. output false n u tree) h ∙ e
+answer-of-fields : (f : Callable) (a : AnswerOf f) → answerOf f (fields f a) ≡ a
+answer-of-fields run a = enum-of-fields a
+answer-of-fields tamarindRun a = refl
+
+-- WHAT IS EXPORTED OF AN OUTCOME
+
+module _ (result work : ℕ) (x : Inputs) where
+  never-three : (o : Meant.Outcome) → Sure result work x o → exportedRun o .ending ≤ 2
+  unfolding exportedRun
+  never-three (refused n p) h = omega arith
+  never-three (ended done a k ws) h = omega arith
+  never-three (ended (stopped n) a k ws) h = omega arith
+  never-three (ended cannotGoOn a k ws) h = absurd (h .ends)
+
+done-exactly : (o : Meant.Outcome) → wasDone (exportedRun o) ≡ isDone o
+unfolding exportedRun isDone
+done-exactly (refused n p) = refl
+done-exactly (ended done a k ws) = refl
+done-exactly (ended (stopped n) a k ws) = refl
+done-exactly (ended cannotGoOn a k ws) = refl
+
+filled-count : (o : Meant.Outcome) → exportedRun o .filled ≡ length (filledBy o)
+unfolding exportedRun filledBy
+filled-count (refused n p) = refl
+filled-count (ended done a k ws) = refl
+filled-count (ended (stopped n) a k ws) = refl
+filled-count (ended cannotGoOn a k ws) = refl
+
+filled-from : (o : Meant.Outcome) (result : Words) → take (length (filledBy o)) (resultAfter o result) ≡ filledBy o
+unfolding resultAfter filledBy
+filled-from (refused n p) result = refl
+filled-from (ended e a k ws) result = take-at ws (drop (length ws) result) (length ws) refl
+
+module _ (o : Meant.Outcome) (r : RunAnswer) (is : r ≡ exportedRun o) where
+  ends : (result work : ℕ) (x : Inputs) → Sure result work x o → r .ending ≤ 2
+  ends result work x sure = rw is (never-three result work x o sure)
+
+  module _ (before after : Memories) (leaves : after .result ≡ resultAfter o (before .result)) where
+    filled-is : filledWords r after ≡ filledBy o
+    filled-is = rw (is, filled-count o, leaves) (filled-from o (before .result))
+
+    posts : (tree : Words) → output (isDone o) (length (filledBy o)) (after .result) tree ≡ pick (isDone o) (filledBy o) tree → output (wasDone r) (r .filled) (after .result) tree ≡ pick (wasDone r) (filledWords r after) tree
+    posts tree e = rw (filled-is, is, done-exactly o, filled-count o) e
+
+-- ONE RUN
+
+module _ (f : Callable) (x : Inputs) (before : Memories) (a : AnswerOf f) (after : Memories) (h : Ensures f x before a after) where
+  abbrev said : Meant.Outcome
+  said = saidExported (fields f a) (after .result)
+
+  exports : RunExported x before (fields f a) after
+  exports = both f a h
+    where
+      both : (f : Callable) (a : AnswerOf f) → Ensures f x before a after → RunExported x before (fields f a) after
+      both run a h = run-exported x before a after h refl
+      both tamarindRun a h = h
+
+  ran : Ran before (stepFor (record { inputs = x; by = f; answer = a; left = after }))
+  ran = exported-ran x before (fields f a) after exports
+
+  shown : fields f a ≡ exportedRun said
+  shown = exports .answered ∙ ap exportedRun (sym (ran .outcome))
+
+  filled : filledWords (fields f a) after ≡ filledBy said
+  filled = filled-is said (fields f a) shown before after (ran .result)
+
+module _ (f : Callable) (x : Inputs) (first before : Memories) (a : AnswerOf f) (after : Memories) (h : Ensures f x before a after) (fine : Fine first before (stepFor (record { inputs = x; by = f; answer = a; left = after }))) where
+  alone : (on : AnswerOf f) (left : Memories) → Ensures f x (zeroed first) on left → (a ≡ on) × (filledWords (fields f a) after ≡ filledWords (fields f on) left)
+  alone on left k =
+      let same = fine .alone (stepFor (record { inputs = x; by = f; answer = on; left = left })) refl (ran f x (zeroed first) on left k) in
+      let e : fields f a ≡ fields f on = shown f x before a after h ∙ ap exportedRun same ∙ sym (shown f x (zeroed first) on left k) in
+      (sym (answer-of-fields f a) ∙ ap (answerOf f) e ∙ answer-of-fields f on, filled f x before a after h ∙ ap filledBy same ∙ sym (filled f x (zeroed first) on left k))
+
+own : (first before : Memories) (r : PadRun) → RunOn before r → Fine first before (stepFor r) → Own first before r
+own first before r h fine =
+    let o = stepFor r .outcome in
+    let a = fields (r .by) (r .answer) in
+    let is = shown (r .by) (r .inputs) before (r .answer) (r .left) h in
+    record {
+      alone = alone (r .by) (r .inputs) first before (r .answer) (r .left) h fine;
+      ends = ends o a is (length (first .result)) (length (first .work)) (r .inputs) (fine .sure);
+      posts = posts o a is before (r .left) (ran (r .by) (r .inputs) before (r .answer) (r .left) h .result) (r .inputs .tree) (fine .posts);
+    }
 
 -- THE LIST
 
-each-ran : (before : Memories) (runs : List PadRun) → EachRun before runs → Each Ran before (map stepFor runs)
+each-ran : (before : Memories) (runs : List PadRun) → EachOf RunOn before runs → Each Ran before (map stepFor runs)
 each-ran before [] h = tt
-each-ran before (r ∷ more) h = (h .0 .ran, each-ran (r .left) more (h .1))
+each-ran before (r ∷ more) h =
+    (ran (r .by) (r .inputs) before (r .answer) (r .left) (h .0), each-ran (r .left) more (h .1))
 
-each-own : (first before : Memories) (runs : List PadRun) → EachRun before runs → Each (Fine first) before (map stepFor runs) → EachOf (Own first) before runs
+each-own : (first before : Memories) (runs : List PadRun) → EachOf RunOn before runs → Each (Fine first) before (map stepFor runs) → EachOf (Own first) before runs
 each-own first before [] h f = tt
-each-own first before (r ∷ more) h f = (
-  record {
-    alone = λ on same ran. said-same (r .answer) (on .answer) (r .left .result) (on .left .result) (h .0 .filled) (ran .filled) (f .0 .alone (stepFor on) same (ran .ran));
-    posts = posts-own (r .answer) (r .left .result) (r .inputs .tree) (h .0 .filled) (f .0 .posts);
-  },
-  each-own first (r .left) more (h .1) (f .1),
-)
+each-own first before (r ∷ more) h f = (own first before r (h .0) (f .0), each-own first (r .left) more (h .1) (f .1))
 
 -- THE WHOLE CLAIM OF DEMAND 3
 pub pad : Pad

@@ -1,11 +1,12 @@
 -- What the exported functions hand back. Assumes nothing: these are definitions.
 use Prim.Native.Nat.{ℕ}
 use mathlib.Core.Path.{_≡_}
-use lib.ListN.{length}
-use Rattle.words.specs.Reader.{Read, value, refused}
+use lib.ListN.{length, take}
+use lib.Dec.{eqb}
+use Rattle.words.specs.Reader.{Words, pick, Read, value, refused}
 use Rattle.words.specs.declared.Check.{Check}
 use Rattle.words.specs.declared.Check.the-variants.{Passed, Refused}
-use Rattle.meaning.specs.Meaning.{done, stopped, cannotGoOn}
+use Rattle.meaning.specs.Meaning.{Ending, done, stopped, cannotGoOn}
 use Rattle.meaning.specs.Outcome.{Inputs, Outcome, ended, outcome, resultAfter, workAfter}
 use Rattle.meaning.specs.Outcome as Meant
 use Rattle.meaning.specs.Runs.{Memories}
@@ -32,7 +33,7 @@ abbrev pub exportedCounts : ℕ → ℕ → ℕ → ℕ → ℕ → RunAnswer
 exportedCounts ending number attempts replacements filled =
     record { ending = ending; number = number; position = 0; attempts = attempts; replacements = replacements; filled = filled }
 
--- "ending or refusal, number, position, trials, replacements, filled count .., as far as an outcome has them": 0 done, 1 stopped, 2 refused; 3 never stands
+-- "ending or refusal, number, position, trials, replacements, filled count .., as far as an outcome has them": 0 done, 1 stopped, 2 refused; 3 never stands (Pad.antt, `ends`)
 unfoldable pub exportedRun : Outcome → RunAnswer
 exportedRun (Meant.refused n p) = record { ending = 2; number = n; position = p; attempts = 0; replacements = 0; filled = 0 }
 exportedRun (ended done a k ws) = exportedCounts 0 0 a k (length ws)
@@ -44,6 +45,14 @@ abbrev pub exportedOutcome : Code.Outcome → RunAnswer
 exportedOutcome (Run.Refused n p) = record { ending = 2; number = n; position = p; attempts = 0; replacements = 0; filled = 0 }
 exportedOutcome (Run.Done c) = exportedCounts 0 0 (c .attempts) (c .replacements) (c .filled)
 exportedOutcome (Run.Stopped s c) = exportedCounts 1 (numberOf s) (c .attempts) (c .replacements) (c .filled)
+
+-- how an accepted run ended, by its ending and its number
+abbrev pub endingOf : ℕ → ℕ → Ending
+endingOf ending number = pick (eqb ending 0) done (pick (eqb ending 1) (stopped number) cannotGoOn)
+
+-- the outcome that an exported answer says, with the result memory as it is afterwards
+abbrev pub saidExported : RunAnswer → Words → Outcome
+saidExported r result = pick (eqb (r .ending) 2) (Meant.refused (r .number) (r .position)) (ended (endingOf (r .ending) (r .number)) (r .attempts) (r .replacements) (take (r .filled) result))
 
 -- what a run brought, the memories before it, its answer, and the memories after it: all are the meaning's
 pub record RunExported (x : Inputs) (before : Memories) (r : RunAnswer) (after : Memories) : Type 0 where

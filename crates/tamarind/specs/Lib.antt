@@ -1,3 +1,3 @@
 pub mod Run
-pub mod Pad
 pub mod Exports
+pub mod Pad

@@ -1,7 +1,7 @@
 -- WHAT `run` PROMISES: its answer is the meaning's outcome, and both memories afterwards are the meaning's too. Assumes nothing: these are definitions.
 use Prim.Native.Nat.{ℕ, _-_, _/_, _≤_}
 use mathlib.Core.Path.{_≡_}
-use mathlib.Core.Bool.{Bool, true, false}
+use mathlib.Core.Bool.{true}
 use lib.ListN.{length, take}
 use Rattle.words.specs.Reader.{Words, Read, value, andThen, return, accepted}
 use Rattle.words.specs.Views.{answer}
@@ -51,12 +51,6 @@ abbrev pub filledOf : Code.Outcome → ℕ
 filledOf (Refused n p) = 0
 filledOf (Done c) = c .filled
 filledOf (Stopped s c) = c .filled
-
--- does it say that the run was done?
-abbrev pub wasDone : Code.Outcome → Bool
-wasDone (Refused n p) = false
-wasDone (Done c) = true
-wasDone (Stopped s c) = false
 
 -- THE CONTRACT OF `run`
 
