@@ -1,6 +1,6 @@
 -- What is exported of a check's answer is what is exported of the reading, of a run's answer what is exported of the outcome, and that says the outcome again.
 -- Assumes nothing.
-use mathlib.Core.Path.{_≡_, refl, sym, ap, _∙_}
+use mathlib.Core.Path.{_≡_, refl, ap, _∙_}
 use Prim.Native.Nat.{ℕ}
 use mathlib.Core.List.{List}
 use lib.ListN.{length, drop}
@@ -11,7 +11,7 @@ use Rattle.words.specs.declared.Check.{Check}
 use Rattle.words.specs.declared.Check.the-variants.{Passed, Refused}
 use Rattle.tamarind.specs.declared.Answer.{Answer}
 use Rattle.meaning.specs.Meaning.{done, stopped, cannotGoOn}
-use Rattle.meaning.specs.Outcome.{Inputs, ended, outcome, resultAfter, workAfter, filledBy}
+use Rattle.meaning.specs.Outcome.{Inputs, ended, outcome, resultAfter, filledBy}
 use Rattle.meaning.specs.Outcome as Meant
 use Rattle.meaning.specs.Runs.{Memories, Ran}
 use Rattle.tamarind.specs.declared.Stop.{Stop}
@@ -20,7 +20,7 @@ use Rattle.tamarind.specs.declared.RunAnswer.{RunAnswer}
 use Rattle.tamarind.specs.declared.Outcome.{Outcome}
 use Rattle.tamarind.specs.declared.Outcome.the-variants as Run
 use Rattle.tamarind.specs.Run.{numberOf, said, filledOf, Runs}
-use Rattle.tamarind.specs.Exports.{exported, exportedCheck, exportedCounts, exportedRun, exportedOutcome, endingOf, saidExported, RunExported}
+use Rattle.tamarind.specs.Exports.{exported, exportedCheck, exportedCounts, exportedRun, exportedOutcome, saidExported, RunExported}
 
 export-answer : {A : Type 0} (q : Read A) → exportedCheck (answer q) ≡ exported q
 export-answer (value a next) = refl

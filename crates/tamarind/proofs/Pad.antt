@@ -1,9 +1,8 @@
 -- DEMAND 3, from what `run` and `tamarind_run` ensure: each run of a list is a step that the meaning allows, so the meaning's claim about the list holds.
 -- Assumes nothing.
-use Prim.Native.Nat.{ℕ, _≤_}
+use Prim.Native.Nat.{ℕ, zero, suc, _+_, _-_, _≤_}
 use mathlib.Core.Path.{_≡_, refl, sym, ap, _∙_}
 use mathlib.Core.List.{List, [], _∷_, map}
-use mathlib.Core.Bool.{true, false}
 use native.Mathlib.Omega.{arith}
 use lib.ListN.{length, take, drop}
 use lib.Seq.{take-at}
@@ -11,8 +10,9 @@ use lib.Dec.{eqb}
 use Rattle.words.specs.Reader.{Words, pick}
 use Rattle.meaning.specs.Meaning.{done, stopped, cannotGoOn}
 use Rattle.meaning.specs.Outcome as Meant
-use Rattle.meaning.specs.Outcome.{Inputs, refused, ended, resultAfter, output, isDone, filledBy}
-use Rattle.meaning.specs.Runs.{Memories, Ran, Each, Sure, Fine, zeroed}
+use Rattle.meaning.specs.Outcome.{Inputs, refused, ended, outcome, resultAfter, workAfter, output, isDone, filledBy}
+use Rattle.meaning.specs.Runs.{Memories, Ran, stepOf, Each, Sure, Fine, zeroed}
+use Rattle.meaning.proofs.FromWords.{outcome-sure}
 use Rattle.meaning.proofs.Runs.{one-after-another}
 use Rattle.tamarind.specs.declared.Stop.{Stop}
 use Rattle.tamarind.specs.declared.Stop.the-variants.{AttemptsSpent, CallsTooDeep, TooManyNodes, NestsTooDeep, TooManyLive, OutOfRange}
@@ -20,9 +20,10 @@ use Rattle.tamarind.specs.declared.Counts.{Counts}
 use Rattle.tamarind.specs.declared.RunAnswer.{RunAnswer}
 use Rattle.tamarind.specs.declared.Outcome.{Outcome}
 use Rattle.tamarind.specs.declared.Outcome.the-variants.{Refused, Done, Stopped}
-use Rattle.tamarind.specs.Run.{numberOf}
+use Rattle.tamarind.specs.Run as Run
+use Rattle.tamarind.specs.Run.{numberOf, filledOf}
 use Rattle.tamarind.specs.Exports.{exportedRun, exportedOutcome, saidExported, RunExported}
-use Rattle.tamarind.specs.Pad.{Callable, run, tamarindRun, AnswerOf, Ensures, fields, PadRun, RunOn, EachOf, filledWords, wasDone, Own, stepFor, Pad}
+use Rattle.tamarind.specs.Pad.{Callable, run, tamarindRun, AnswerOf, Ensures, fields, PadRun, RunOn, EachOf, filledWords, wasDone, Own, stepFor, Pad, CanRun}
 use Rattle.tamarind.proofs.Laws.{run-exported, exported-ran}
 
 -- THE FIELDS TELL THE ANSWER
@@ -148,3 +149,41 @@ each-own first before (r ∷ more) h f = (own first before r (h .0) (f .0), each
 -- THE WHOLE CLAIM OF DEMAND 3
 pub pad : Pad
 pad first runs h = let w = one-after-another first (map stepFor runs) (each-ran first runs h) in record { each = each-own first first runs h (w .each); whole = w }
+
+-- AN ANSWER THERE IS
+
+number-of-cause : (n : ℕ) → 40 ≤ n → n ≤ 45 → numberOf (causeOf n) ≡ n
+number-of-cause n low high = let e : n ≡ 40 + (n - 40) = omega arith in rw e (from (n - 40) (omega arith))
+  where
+    from : (k : ℕ) → k ≤ 5 → numberOf (causeOf (40 + k)) ≡ 40 + k
+    from zero h = refl
+    from (suc zero) h = refl
+    from (suc (suc zero)) h = refl
+    from (suc (suc (suc zero))) h = refl
+    from (suc (suc (suc (suc zero)))) h = refl
+    from (suc (suc (suc (suc (suc zero))))) h = refl
+    from (suc (suc (suc (suc (suc (suc k)))))) h = absurd (omega arith)
+
+-- the enum of what is exported says the outcome again
+module _ (result work : ℕ) (x : Inputs) where
+  enum-says : (o : Meant.Outcome) → Sure result work x o → (ws : Words) → (Run.said (answerOf run (exportedRun o)) (resultAfter o ws) ≡ o) × (filledOf (answerOf run (exportedRun o)) ≡ length (filledBy o))
+  unfolding exportedRun resultAfter filledBy
+  enum-says (refused n p) h ws = (refl, refl)
+  enum-says (ended done a k us) h ws = (ap (ended done a k) (take-at us (drop (length us) ws) (length us) refl), refl)
+  enum-says (ended (stopped n) a k us) h ws = (rw (number-of-cause n (h .ends .0) (h .ends .1), take-at us (drop (length us) ws) (length us) refl), refl)
+  enum-says (ended cannotGoOn a k us) h ws = absurd (h .ends)
+
+met : (f : Callable) (x : Inputs) (before : Memories) → Ensures f x before (answerOf f (exportedRun (stepOf before x .outcome))) (stepOf before x .left)
+unfolding stepOf
+met run x before =
+    let o = outcome (length (before .result)) (length (before .work)) x in
+    let e = enum-says (length (before .result)) (length (before .work)) x o (outcome-sure (length (before .result)) (length (before .work)) x) (before .result) in
+    record {
+      ran = record { outcome = e .0; result = ap (λ o. resultAfter o (before .result)) (sym (e .0)); work = ap (λ o. workAfter o (before .work)) (sym (e .0)) };
+      filled = e .1 ∙ ap (λ o. length (filledBy o)) (sym (e .0));
+    }
+met tamarindRun x before = record { answered = refl; result = refl; work = refl }
+
+-- the meaning's own step
+pub can-run : CanRun
+can-run f x before = (answerOf f (exportedRun (stepOf before x .outcome)), stepOf before x .left, met f x before)

@@ -1,6 +1,6 @@
 -- ONE RUN AFTER ANOTHER, by this core: the claim of demand 3 about a whole list of runs, each made by `run` or by `tamarind_run` as its caller likes.
 -- proofs/Pad.antt proves it. Assumes nothing: these are definitions.
-use Prim.Native.Nat.{ℕ, _≤_}
+use Prim.Native.Nat.{_≤_}
 use mathlib.Core.Path.{_≡_}
 use mathlib.Core.List.{List, [], _∷_, map}
 use mathlib.Core.Bool.{Bool}
@@ -89,3 +89,8 @@ pub record OnePad (first : Memories) (runs : List PadRun) : Type 0 where
 -- THE CLAIM: for every list of runs by this core, refused or not
 abbrev pub Pad : Type 0
 Pad = (first : Memories) (runs : List PadRun) → EachOf RunOn first runs → OnePad first runs
+
+-- THE RUNS IT SPEAKS OF THERE ARE: either function can keep its contract on all inputs and memories, those of a pad just switched on too, where by `Own.alone` it
+-- has one answer
+abbrev pub CanRun : Type 0
+CanRun = (f : Callable) (x : Inputs) (before : Memories) → (a : AnswerOf f) × (after : Memories) × Ensures f x before a after
