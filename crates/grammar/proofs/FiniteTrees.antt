@@ -9,7 +9,7 @@ use lib.Dec.{eqb, leb·zero}
 use borrow.Author.Tests.{lt-ltb, ltb-true}
 use Rattle.words.specs.Reader.{pick, and, or}
 use Rattle.words.proofs.Laws.{and-both, or-true}
-use Rattle.grammar.specs.Grammar.{Kind, token, opt, sequence, forms, Grammar, all, any, finishes, round, rounds, finite}
+use Rattle.grammar.specs.Grammar.{Kind, token, opt, sequence, forms, Grammar, allKnown, anyFormKnown, finishes, round, rounds, finite}
 use Rattle.grammar.specs.Kinds.{kindOf, allows, allowed, childrenOf, children}
 use Rattle.grammar.specs.Finite.{Finite, none, node}
 use Rattle.grammar.proofs.Laws.{round-same, round-length}
@@ -17,7 +17,7 @@ use Rattle.grammar.proofs.Laws.{round-same, round-length}
 -- WHAT THE ROUNDS FIND IS FINITE
 
 round-at : (known : List Bool) (g : Grammar) (t : ℕ) → getD (round known g) t false ≡ finishes known (kindOf g t)
-unfolding round finishes any kindOf
+unfolding round finishes anyFormKnown kindOf
 round-at known [] t = refl
 round-at known (k ∷ g) zero = refl
 round-at known (k ∷ g) (suc t) = round-at known g t
@@ -31,17 +31,17 @@ unfolding allowed children
 node-of g t v k e a f = node {t = t} v (rw e a) (rw e f) none
 
 module _ (g : Grammar) (known : List Bool) (below : (t : ℕ) → getD known t false ≡ true → Finite g (t ∷ [])) where
-  all-finite : (ts : List ℕ) → all known ts ≡ true → Finite g ts
-  unfolding all
+  all-finite : (ts : List ℕ) → allKnown known ts ≡ true → Finite g ts
+  unfolding allKnown
   all-finite [] e = none
-  all-finite (t ∷ ts) e = let b = and-both (getD known t false) (all known ts) e in join (below t (b .0)) (all-finite ts (b .1))
+  all-finite (t ∷ ts) e = let b = and-both (getD known t false) (allKnown known ts) e in join (below t (b .0)) (all-finite ts (b .1))
 
-  any-finite : (fs : List (List ℕ)) → any known fs ≡ true → (v : ℕ) × (v < length fs) × Finite g (getD fs v [])
-  unfolding any
+  any-finite : (fs : List (List ℕ)) → anyFormKnown known fs ≡ true → (v : ℕ) × (v < length fs) × Finite g (getD fs v [])
+  unfolding anyFormKnown
   any-finite [] e = let z : _≡_ {A = ℕ} 0 1 = cc in absurd (omega arith)
-  any-finite (f ∷ fs) e = go (all known f) refl e (any-finite fs)
+  any-finite (f ∷ fs) e = go (allKnown known f) refl e (any-finite fs)
     where
-      go : (b : Bool) → all known f ≡ b → or b (any known fs) ≡ true → (any known fs ≡ true → (v : ℕ) × (v < length fs) × Finite g (getD fs v [])) → (v : ℕ) × (v < suc (length fs)) × Finite g (getD (f ∷ fs) v [])
+      go : (b : Bool) → allKnown known f ≡ b → or b (anyFormKnown known fs) ≡ true → (anyFormKnown known fs ≡ true → (v : ℕ) × (v < length fs) × Finite g (getD fs v [])) → (v : ℕ) × (v < suc (length fs)) × Finite g (getD (f ∷ fs) v [])
       go true h i rest = (0, omega arith, all-finite f h)
       go false h i rest = let u = rest i in (suc (u .0), omega (arith, u .1), u .2)
 
@@ -64,19 +64,19 @@ abbrev Within : List Bool → List Bool → Type 0
 Within a b = (t : ℕ) → getD a t false ≡ true → getD b t false ≡ true
 
 module _ (a b : List Bool) (w : Within a b) where
-  all-within : (ts : List ℕ) → all a ts ≡ true → all b ts ≡ true
-  unfolding all
+  all-within : (ts : List ℕ) → allKnown a ts ≡ true → allKnown b ts ≡ true
+  unfolding allKnown
   all-within [] e = refl
-  all-within (t ∷ ts) e = let u = and-both (getD a t false) (all a ts) e in rw (w t (u .0)) (all-within ts (u .1))
+  all-within (t ∷ ts) e = let u = and-both (getD a t false) (allKnown a ts) e in rw (w t (u .0)) (all-within ts (u .1))
 
-  any-within : (fs : List (List ℕ)) → any a fs ≡ true → any b fs ≡ true
-  unfolding any
+  any-within : (fs : List (List ℕ)) → anyFormKnown a fs ≡ true → anyFormKnown b fs ≡ true
+  unfolding anyFormKnown
   any-within [] e = e
-  any-within (f ∷ fs) e = go (all a f) refl e (any-within fs)
+  any-within (f ∷ fs) e = go (allKnown a f) refl e (any-within fs)
     where
-      go : (x : Bool) → all a f ≡ x → or x (any a fs) ≡ true → (any a fs ≡ true → any b fs ≡ true) → or (all b f) (any b fs) ≡ true
+      go : (x : Bool) → allKnown a f ≡ x → or x (anyFormKnown a fs) ≡ true → (anyFormKnown a fs ≡ true → anyFormKnown b fs ≡ true) → or (allKnown b f) (anyFormKnown b fs) ≡ true
       go true h i rest = rw (all-within f h)
-      go false h i rest = rw (rest i) (or-true (all b f))
+      go false h i rest = rw (rest i) (or-true (allKnown b f))
 
   finishes-within : (k : Kind) → finishes a k ≡ true → finishes b k ≡ true
   unfolding finishes
@@ -169,14 +169,14 @@ fixed g t = go (settles g (length g))
 -- ALL THAT IS FINITE IS FOUND
 
 -- a form whose types all are known
-any-at : (known : List Bool) (fs : List (List ℕ)) (v : ℕ) → v < length fs → all known (getD fs v []) ≡ true → any known fs ≡ true
-unfolding any
+any-at : (known : List Bool) (fs : List (List ℕ)) (v : ℕ) → v < length fs → allKnown known (getD fs v []) ≡ true → anyFormKnown known fs ≡ true
+unfolding anyFormKnown
 any-at known [] v h e = absurd (omega arith)
 any-at known (f ∷ fs) zero h e = rw e
-any-at known (f ∷ fs) (suc v) h e = rw (any-at known fs v (omega arith) e) (or-true (all known f))
+any-at known (f ∷ fs) (suc v) h e = rw (any-at known fs v (omega arith) e) (or-true (allKnown known f))
 
 -- a node's kind finishes with what its children finish with
-node-finishes : (known : List Bool) (k : Kind) (t v : ℕ) → allows k v ≡ true → all known (childrenOf k t v) ≡ true → finishes known k ≡ true
+node-finishes : (known : List Bool) (k : Kind) (t v : ℕ) → allows k v ≡ true → allKnown known (childrenOf k t v) ≡ true → finishes known k ≡ true
 unfolding finishes allows childrenOf
 node-finishes known (token c) t v a e = refl
 node-finishes known (opt c) t v a e = refl
@@ -186,10 +186,10 @@ node-finishes known (forms fs) t v a e = any-at known fs v (ltb-true v (length f
 both-true : (a b : Bool) → a ≡ true → b ≡ true → and a b ≡ true
 both-true a b e f = rw (e, f)
 
-found : (g : Grammar) {ts : List ℕ} → Finite g ts → all (finite g) ts ≡ true
-unfolding all allowed children
+found : (g : Grammar) {ts : List ℕ} → Finite g ts → allKnown (finite g) ts ≡ true
+unfolding allKnown allowed children
 found g none = refl
-found g (node {t} {ts} v a p q) = both-true (getD (finite g) t false) (all (finite g) ts) (sym (fixed g t) ∙ node-finishes (finite g) (kindOf g t) t v a (found g p)) (found g q)
+found g (node {t} {ts} v a p q) = both-true (getD (finite g) t false) (allKnown (finite g) ts) (sym (fixed g t) ∙ node-finishes (finite g) (kindOf g t) t v a (found g p)) (found g q)
 
 -- THE TWO TOGETHER: 12 is given for just the types of which no finite tree exists
 pub finite-sound : (g : Grammar) (t : ℕ) → getD (finite g) t false ≡ true → Finite g (t ∷ [])
@@ -197,5 +197,5 @@ unfolding finite
 finite-sound g t e = rounds-finite g (length g) t e
 
 pub finite-complete : (g : Grammar) (t : ℕ) → Finite g (t ∷ []) → getD (finite g) t false ≡ true
-unfolding all
+unfolding allKnown
 finite-complete g t p = and-both (getD (finite g) t false) true (found g p) .0

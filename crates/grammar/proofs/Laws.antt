@@ -15,7 +15,7 @@ use Rattle.words.specs.declared.Got.{Got}
 use Rattle.words.specs.declared.Got.the-variants.{Word, Bad}
 use Rattle.words.specs.Views.{answer, got}
 use Rattle.words.proofs.Laws.{read-word, read-bad, answer-passed, answer-refused, answer-then, in-value, many-none, many-bad, many-more, many-length, and-true, and-assoc, or-false, or-assoc, loop-refused, loop-more}
-use Rattle.grammar.specs.Grammar.{Kind, token, opt, sequence, forms, Grammar, isLiteral, typesOf, field, element, form, kind, all, any, finishes, round, rounds, finite, finiteRecords, grammar, readGrammar, grammarFits, checkGrammar}
+use Rattle.grammar.specs.Grammar.{Kind, token, opt, sequence, forms, Grammar, isLiteral, typesOf, field, element, form, kind, allKnown, anyFormKnown, finishes, round, rounds, finite, finiteRecords, grammar, readGrammar, grammarFits, checkGrammar}
 use Rattle.grammar.specs.declared.Seen.{Seen}
 use Rattle.grammar.specs.declared.Seen.the-variants.{Whole, Fault}
 use Rattle.grammar.specs.Views.{seenElement, seenElements, seenForm, seenForms, seenKind, closedOf, filled, flagsAfter}
@@ -50,15 +50,15 @@ module _ (ws : Words) (known : List Bool) (n at : ℕ) (g : Got) (e : g ≡ got 
 
 -- THE ELEMENTS
 
-all-pick : (known : List Bool) (b : Bool) (e : ℕ) (ts : List ℕ) → all known (pick b ts (e ∷ ts)) ≡ and (pick b true (getD known e false)) (all known ts)
-unfolding all
+all-pick : (known : List Bool) (b : Bool) (e : ℕ) (ts : List ℕ) → allKnown known (pick b ts (e ∷ ts)) ≡ and (pick b true (getD known e false)) (allKnown known ts)
+unfolding allKnown
 all-pick known true e ts = refl
 all-pick known false e ts = refl
 
 elements-cons : (known : List Bool) (acc : Bool) (e : ℕ) (q : Read (List ℕ)) →
     seenElements known acc (andThen q (λ more. return (e ∷ more))) ≡ seenElements known (and acc (pick (isLiteral e) true (getD known e false))) q
 unfolding typesOf
-elements-cons known acc e (value es next) = ap (λ b. Whole next b) (ap (and acc) (all-pick known (isLiteral e) e (typesOf es)) ∙ and-assoc acc (pick (isLiteral e) true (getD known e false)) (all known (typesOf es)))
+elements-cons known acc e (value es next) = ap (λ b. Whole next b) (ap (and acc) (all-pick known (isLiteral e) e (typesOf es)) ∙ and-assoc acc (pick (isLiteral e) true (getD known e false)) (allKnown known (typesOf es)))
 elements-cons known acc e (refused n p) = refl
 
 seen-element : (known : List Bool) (r : Read ℕ) (s : Seen) → s ≡ seenElement known r → {next : ℕ} {b : Bool} → s ≡ Whole next b → (e : ℕ) × (r ≡ value e next) × (b ≡ pick (isLiteral e) true (getD known e false))
@@ -71,7 +71,7 @@ fault-element known (refused n p) s d f = cc
 
 module _ (ws : Words) (known : List Bool) (n left at : ℕ) (acc : Bool) (whole : Seen) (inv : whole ≡ seenElements known acc (many left (element ws n) at)) where
   pub elements-end : left ≤ 0 → Whole at acc ≡ whole
-  unfolding all typesOf
+  unfolding allKnown typesOf
   elements-end h = sym (inv ∙ rw (many-none (element ws n) left at h) (ap (λ b. Whole at b) (sym (and-true acc))))
 
   module _ (some-left : 0 < left) (s : Seen) (e : s ≡ seenElement known (element ws n at)) where
@@ -101,12 +101,12 @@ module _ (ws : Words) (known : List Bool) (n at : ℕ) (g : Got) (e : g ≡ got 
 -- THE FORMS
 
 forms-cons : (known : List Bool) (acc : Bool) (f : List ℕ) (q : Read (List (List ℕ))) →
-    seenForms known acc (andThen q (λ more. return (f ∷ more))) ≡ seenForms known (or acc (all known f)) q
-unfolding any
-forms-cons known acc f (value fs next) = ap (λ b. Whole next b) (or-assoc acc (all known f) (any known fs))
+    seenForms known acc (andThen q (λ more. return (f ∷ more))) ≡ seenForms known (or acc (allKnown known f)) q
+unfolding anyFormKnown
+forms-cons known acc f (value fs next) = ap (λ b. Whole next b) (or-assoc acc (allKnown known f) (anyFormKnown known fs))
 forms-cons known acc f (refused n p) = refl
 
-seen-form : (known : List Bool) (r : Read (List ℕ)) (s : Seen) → s ≡ seenForm known r → {next : ℕ} {b : Bool} → s ≡ Whole next b → (f : List ℕ) × (r ≡ value f next) × (b ≡ all known f)
+seen-form : (known : List Bool) (r : Read (List ℕ)) (s : Seen) → s ≡ seenForm known r → {next : ℕ} {b : Bool} → s ≡ Whole next b → (f : List ℕ) × (r ≡ value f next) × (b ≡ allKnown known f)
 seen-form known (value f m) s d e = (f, cc, cc)
 seen-form known (refused n p) s d e = let z : _≡_ {A = ℕ} 0 1 = cc in absurd (omega arith)
 
@@ -116,7 +116,7 @@ fault-form known (refused n p) s d f = cc
 
 module _ (ws : Words) (known : List Bool) (n left at : ℕ) (acc : Bool) (whole : Seen) (inv : whole ≡ seenForms known acc (many left (form ws n) at)) where
   pub forms-end : left ≤ 0 → Whole at acc ≡ whole
-  unfolding any
+  unfolding anyFormKnown
   forms-end h = sym (inv ∙ rw (many-none (form ws n) left at h) (ap (λ b. Whole at b) (sym (or-false acc))))
 
   module _ (some-left : 0 < left) (s : Seen) (e : s ≡ seenForm known (form ws n at)) where
@@ -308,13 +308,13 @@ padded-take : (bs : List Bool) (n : ℕ) → length bs ≤ 64 → length bs ≡ 
 padded-take bs n h e = rw (padded bs h) (take-at bs (drop (0 + length bs) (replicate 64 false)) n e)
 
 module _ (a b : List Bool) (same : (t : ℕ) → getD a t false ≡ getD b t false) where
-  all-same : (ts : List ℕ) → all a ts ≡ all b ts
-  unfolding all
+  all-same : (ts : List ℕ) → allKnown a ts ≡ allKnown b ts
+  unfolding allKnown
   all-same [] = refl
   all-same (t ∷ ts) = rw (same t, all-same ts)
 
-  any-same : (fs : List (List ℕ)) → any a fs ≡ any b fs
-  unfolding any
+  any-same : (fs : List (List ℕ)) → anyFormKnown a fs ≡ anyFormKnown b fs
+  unfolding anyFormKnown
   any-same [] = refl
   any-same (f ∷ fs) = rw (all-same f, any-same fs)
 

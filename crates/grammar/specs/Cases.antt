@@ -6,7 +6,7 @@ use Rattle.words.specs.Reader.{Words, word, wordIn, many, end}
 use Rattle.words.specs.declared.Check.{Check}
 use Rattle.words.specs.declared.Check.the-variants.{Passed, Refused}
 use Rattle.words.specs.Views.{answer}
-use Rattle.grammar.specs.Grammar.{typesOf, field, element, form, kind, grammar, all, any, finishes, round, rounds, finite, finiteRecords, readGrammar, grammarFits, checkGrammar}
+use Rattle.grammar.specs.Grammar.{typesOf, field, element, form, kind, grammar, allKnown, anyFormKnown, finishes, round, rounds, finite, finiteRecords, readGrammar, grammarFits, checkGrammar}
 
 run : Words → Check
 run ws = answer (checkGrammar ws)
@@ -99,5 +99,5 @@ outputs =
     ∷ []
 
 right : map run inputs ≡ outputs
-unfolding word wordIn many end typesOf field element form kind grammar all any finishes round rounds finite finiteRecords readGrammar grammarFits checkGrammar run inputs outputs
+unfolding word wordIn many end typesOf field element form kind grammar allKnown anyFormKnown finishes round rounds finite finiteRecords readGrammar grammarFits checkGrammar run inputs outputs
 right = refl

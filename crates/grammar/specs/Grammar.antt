@@ -73,22 +73,24 @@ module _ (ws : Words) where
     end 10 ws
     return kinds
 
--- Types of which a finite tree exists, found in rounds: a round takes a type in when its trees can be finished with the types known before it.
-unfoldable pub all : List Bool → List ℕ → Bool
-all known [] = true
-all known (t ∷ ts) = and (getD known t false) (all known ts)
+-- TYPES OF WHICH A FINITE TREE EXISTS, found in rounds: a round takes a type in when its trees can be finished with the types known before it.
 
--- has one of the forms a finite tree?
-unfoldable pub any : List Bool → List (List ℕ) → Bool
-any known [] = false
-any known (f ∷ fs) = or (all known f) (any known fs)
+-- are all these types known?
+unfoldable pub allKnown : List Bool → List ℕ → Bool
+allKnown known [] = true
+allKnown known (t ∷ ts) = and (getD known t false) (allKnown known ts)
+
+-- has one of the forms only types that are known?
+unfoldable pub anyFormKnown : List Bool → List (List ℕ) → Bool
+anyFormKnown known [] = false
+anyFormKnown known (f ∷ fs) = or (allKnown known f) (anyFormKnown known fs)
 
 -- an opt or a sequence may be empty; a form wants a finite tree of each of its types
 unfoldable pub finishes : List Bool → Kind → Bool
 finishes known (token c) = true
 finishes known (opt e) = true
 finishes known (sequence e) = true
-finishes known (forms fs) = any known fs
+finishes known (forms fs) = anyFormKnown known fs
 
 -- one round over all types
 unfoldable pub round : List Bool → Grammar → List Bool

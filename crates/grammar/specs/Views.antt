@@ -5,7 +5,7 @@ use mathlib.Core.Bool.{Bool, true, false}
 use lib.ListN.{getD, replicate}
 use lib.Seq.{sets}
 use Rattle.words.specs.Reader.{pick, and, or, Read, value, refused}
-use Rattle.grammar.specs.Grammar.{Kind, Grammar, all, any, finishes, round, typesOf, isLiteral}
+use Rattle.grammar.specs.Grammar.{Kind, Grammar, allKnown, anyFormKnown, finishes, round, typesOf, isLiteral}
 use Rattle.words.specs.declared.Got.{Got}
 use Rattle.words.specs.declared.Got.the-variants.{Word, Bad}
 use Rattle.grammar.specs.declared.Seen.{Seen}
@@ -18,17 +18,17 @@ seenElement known (refused n p) = Fault n p
 
 -- elements that were read, after others
 abbrev pub seenElements : List Bool → Bool → Read (List ℕ) → Seen
-seenElements known acc (value es next) = Whole next (and acc (all known (typesOf es)))
+seenElements known acc (value es next) = Whole next (and acc (allKnown known (typesOf es)))
 seenElements known acc (refused n p) = Fault n p
 
 -- a form that was read
 abbrev pub seenForm : List Bool → Read (List ℕ) → Seen
-seenForm known (value ts next) = Whole next (all known ts)
+seenForm known (value ts next) = Whole next (allKnown known ts)
 seenForm known (refused n p) = Fault n p
 
 -- forms that were read, after others
 abbrev pub seenForms : List Bool → Bool → Read (List (List ℕ)) → Seen
-seenForms known acc (value fs next) = Whole next (or acc (any known fs))
+seenForms known acc (value fs next) = Whole next (or acc (anyFormKnown known fs))
 seenForms known acc (refused n p) = Fault n p
 
 -- a kind that was read

@@ -7,7 +7,7 @@ use Rattle.words.specs.Reader.{Words, word, wordIn, many, end}
 use Rattle.words.specs.Views.{answer}
 use Rattle.words.specs.declared.Check.{Check}
 use Rattle.words.specs.declared.Check.the-variants.{Passed, Refused}
-use Rattle.grammar.specs.Grammar.{typesOf, field, element, form, kind, grammar, all, any, finishes, round, rounds, finite, finiteRecords, readGrammar, grammarFits, checkGrammar}
+use Rattle.grammar.specs.Grammar.{typesOf, field, element, form, kind, grammar, allKnown, anyFormKnown, finishes, round, rounds, finite, finiteRecords, readGrammar, grammarFits, checkGrammar}
 use Rattle.grammar.specs.Kinds.{kindOf, allows, allowed, childrenOf, children}
 use Rattle.tree.specs.Tree.{levelsOf, levels}
 use Rattle.tree.specs.Dues.{pairs, whole}
@@ -131,5 +131,5 @@ outputs =
     ∷ []
 
 right : map run inputs ≡ outputs
-unfolding word wordIn many end typesOf field element form kind grammar all any finishes round rounds finite finiteRecords readGrammar grammarFits checkGrammar kindOf allows allowed childrenOf children levelsOf levels pairs whole duesOf meetsNode readTreeOf checkTree numbers nests itself pair twelve times deep run inputs outputs
+unfolding word wordIn many end typesOf field element form kind grammar allKnown anyFormKnown finishes round rounds finite finiteRecords readGrammar grammarFits checkGrammar kindOf allows allowed childrenOf children levelsOf levels pairs whole duesOf meetsNode readTreeOf checkTree numbers nests itself pair twelve times deep run inputs outputs
 right = refl
