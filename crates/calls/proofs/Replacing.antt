@@ -10,14 +10,14 @@ use Rattle.words.specs.Reader.{Words, pick, and}
 use Rattle.words.proofs.Laws.{and-both}
 use Rattle.grammar.specs.Grammar.{Grammar}
 use Rattle.tree.specs.Limits.{mostNodes, mostNesting}
-use Rattle.tree.specs.Tree.{Tree, size, nesting, isTree, firstTree, typeOf}
+use Rattle.tree.specs.Tree.{Tree, size, nesting, isTree, firstTree, typeOf, put}
 use Rattle.tree.proofs.Trees.{passes-tree}
 use Rattle.rules.specs.Rules as Rules
 use Rattle.rules.specs.Rules.{Piece, pieces}
 use Rattle.meaning.specs.declared.State.{State}
 use Rattle.meaning.specs.Computation.{Result, ok, stop, Comp, thenOf, stopUnless, check, return}
 use Rattle.meaning.specs.Meaning as M
-use Rattle.meaning.specs.Meaning.{Bindings, put, calls, nodesWithin, nestingWithin}
+use Rattle.meaning.specs.Meaning.{Bindings, calls, nodesWithin, nestingWithin}
 use Rattle.rewrite.specs.Arena.{Standing, Replaced, PlacedAs}
 use Rattle.rules.specs.Views.{pairsAt}
 use Rattle.calls.specs.Engine.{Held, Given, Setting, Sure, Says, Finishes, Replaces}

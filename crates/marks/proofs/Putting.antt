@@ -7,9 +7,8 @@ use lib.ListN.{length, getD, take, drop, length-append, length-drop, take-append
 use lib.Seq.{paste, length-paste, take-paste, drop-paste, take-at, drop-at, take-take, take-add, drop-drop, take-nil, length-take-le}
 use Rattle.words.specs.Reader.{Words}
 use Rattle.grammar.specs.Grammar.{Grammar}
-use Rattle.tree.specs.Tree.{Trees, size, nesting, after, firstTree}
+use Rattle.tree.specs.Tree.{Trees, size, nesting, after, firstTree, put}
 use Rattle.tree.proofs.Trees.{Even, even-of, size-append, trees-even, tree-some, first-after, first-even, after-drop}
-use Rattle.meaning.specs.Meaning.{put}
 use Rattle.marks.specs.Marked.{typeIn, sizeIn, nestingIn, marked, unmarked}
 use Rattle.marks.specs.Post.{span, Unfinished, Kept, AboveMarked, Resizable, Resized, Ready, InPlace}
 use Rattle.marks.proofs.Marks.{marked-length, marked-append, marked-suffix}

@@ -9,11 +9,10 @@ use Rattle.grammar.specs.Grammar.{Grammar}
 use Rattle.grammar.specs.Kinds.{allowed, children}
 use Rattle.tables.specs.Tables.{Heads, Tables}
 use Rattle.tree.specs.Limits.{mostNodes}
-use Rattle.tree.specs.Tree.{Trees, size, nesting, nodeNesting, firstTree}
+use Rattle.tree.specs.Tree.{Trees, size, nesting, nodeNesting, firstTree, put}
 use Rattle.words.specs.Views.{equalWords}
 use Rattle.grammar.specs.Limits.{mostTypes}
 use Rattle.marks.specs.Marked.{typeIn, markOf, marked, unmarked, Stands, UnderWay}
-use Rattle.meaning.specs.Meaning.{put}
 
 -- r is the mark of a node (t, v), whose children's marked trees the words below begin with
 abbrev pub MarkMade : Words → Words → ℕ → ℕ → Words → ℕ → Type 0

@@ -16,7 +16,7 @@ use Rattle.grammar.specs.Grammar.{Kind, token, opt, sequence, forms, Grammar}
 use Rattle.grammar.specs.Kinds.{kindOf, allows, allowed, childrenOf, children, isNumberKind, isNumber}
 use Rattle.tree.specs.Limits.{mostNodes}
 use Rattle.tree.specs.Tree as T
-use Rattle.tree.specs.Tree.{Trees, Tree, size, nestingFrom, nesting, areTrees, isTree, after, firstTree, typeOf}
+use Rattle.tree.specs.Tree.{Trees, Tree, size, nestingFrom, nesting, areTrees, isTree, after, firstTree, typeOf, put}
 use Rattle.tree.proofs.Trees.{tells, trees-append, trees-even, size-append, and-intro, trees-pass, tree-passes, tree-type}
 use Rattle.rules.specs.Limits.{mostVariables}
 use Rattle.rules.specs.Rules.{Operation, Applied, rule, operation, Application, Piece, Part, Strategy, rootOnly, firstMatch, exhaustive, searches, Rule, Rules}
@@ -26,7 +26,7 @@ use Rattle.meaning.specs.declared.State.{State}
 use Rattle.meaning.specs.Computation.{Result, thenOf, stopUnless}
 use Rattle.meaning.specs.Operations.{rounded, truncated, inRange, divisor, withOne, withNone, compute, compare}
 use Rattle.meaning.specs.Meaning as M
-use Rattle.meaning.specs.Meaning.{Env, Bindings, live, valueOf, valuesOf, withValue, isNumberToken, areNumberTokens, fits, Found, put, Ending, done, stopped, cannotGoOn, Called, resultAs, resultOf, opened, afterRound, Calls, apply, applyChain, fill, finish, succeeds, anySucceeds, part, parts, attempt, seek, replace, begin, start, callMatches, turn, callWith, call, variables}
+use Rattle.meaning.specs.Meaning.{Env, Bindings, live, valueOf, valuesOf, withValue, isNumberToken, areNumberTokens, fits, Found, Ending, done, stopped, cannotGoOn, Called, resultAs, resultOf, opened, afterRound, Calls, apply, applyChain, fill, finish, succeeds, anySucceeds, part, parts, attempt, seek, replace, begin, start, callMatches, turn, callWith, call, variables}
 use Rattle.meaning.specs.Sound.{WellEnded, Sound}
 use Rattle.tree.specs.Rest.{Rest}
 use Rattle.tree.proofs.Rest.{tree-rest, rest-node, onward}

@@ -11,7 +11,7 @@ use Rattle.words.specs.Reader.{Words, pick, and}
 use Rattle.grammar.specs.Grammar.{Grammar}
 use Rattle.grammar.specs.Limits.{greatestNumber}
 use Rattle.tree.specs.Limits.{mostNodes, mostNesting}
-use Rattle.tree.specs.Tree.{size, nesting, areTrees, isTree, after, firstTree, typeOf}
+use Rattle.tree.specs.Tree.{size, nesting, areTrees, isTree, after, firstTree, typeOf, put}
 use Rattle.rules.specs.Limits.{mostVariables}
 use Rattle.rules.specs.Rules.{Applied, rule, operation, nothing, Operation, add, subtract, quotient, remainder, round, truncate, equal, greater, Shape, node, new, same, Application, Piece, write, copy, chain, Part, deconstruct, search, construct, condition, Strategy, rootOnly, firstMatch, exhaustive, searches, Rule, Rules}
 use Rattle.meaning.specs.Limits.{mostLive, mostCalls}
@@ -19,7 +19,7 @@ use Rattle.meaning.specs.declared.State.{State}
 use Rattle.meaning.specs.Computation.{initial, Result, ok, stop, stuck, Comp, thenOf, spend, stopUnless, surely, check, present, choose, whether}
 use Rattle.meaning.specs.Operations.{rounded, truncated, inRange, divisor, withOne, withNone, compute, compare}
 use Rattle.meaning.specs.Meaning as M
-use Rattle.meaning.specs.Meaning.{Env, Bindings, live, nodesWithin, nestingWithin, liveWithin, variable, variables, sameTree, bind, match, matchFirst, valueOf, valuesOf, isNumberToken, areNumberTokens, fits, start, begin, put, Found, done, stopped, cannotGoOn, Called, resultAs, resultOf, opened, afterRound, Calls, apply, applyChain, fill, finish, succeeds, anySucceeds, part, parts, attempt, seek, replace, turn, callWith, call, callMatches, calls}
+use Rattle.meaning.specs.Meaning.{Env, Bindings, live, nodesWithin, nestingWithin, liveWithin, variable, variables, sameTree, bind, match, matchFirst, valueOf, valuesOf, isNumberToken, areNumberTokens, fits, start, begin, Found, done, stopped, cannotGoOn, Called, resultAs, resultOf, opened, afterRound, Calls, apply, applyChain, fill, finish, succeeds, anySucceeds, part, parts, attempt, seek, replace, turn, callWith, call, callMatches, calls}
 
 -- both give the same value or the same stop, which is then of those that are kept, and leave related states; nothing is said where the first is stuck or its stop
 -- is free

@@ -4,14 +4,14 @@ use Prim.Native.Nat.{ℕ, zero, suc, _+_, _-_}
 use mathlib.Core.List.{List, [], _∷_, _++_}
 use mathlib.Core.Bool.{Bool, true, false, not}
 use mathlib.Core.Option.{Option, none, some}
-use lib.ListN.{length, getD, take, drop, getElem?}
+use lib.ListN.{length, getD, drop, getElem?}
 use lib.Dec.{eqb, leb, ltb}
 use Rattle.words.specs.Reader.{Words, pick, and, or}
 use Rattle.words.specs.Views.{equalWords}
 use Rattle.grammar.specs.Grammar.{Grammar}
 use Rattle.grammar.specs.Kinds.{isNumber}
 use Rattle.tree.specs.Limits.{mostNodes, mostNesting}
-use Rattle.tree.specs.Tree.{size, nesting, areTrees, isTree, after, firstTree, typeOf}
+use Rattle.tree.specs.Tree.{size, nesting, areTrees, isTree, after, firstTree, typeOf, put}
 use Rattle.rules.specs.Limits.{mostVariables}
 use Rattle.rules.specs.Rules.{Applied, rule, operation, nothing, Shape, node, new, same, Application, Piece, write, copy, chain, Part, deconstruct, search, construct, condition, Strategy, rootOnly, firstMatch, exhaustive, searches, Rule, Rules}
 use Rattle.meaning.specs.Limits.{mostCalls, mostLive}
@@ -154,10 +154,6 @@ begin strict g r args scope besides = do
 pub record Found : Type 0 where
   pub place : ℕ
   pub bound : Bindings
-
--- the scope with the words in the place of the node's tree
-unfoldable pub put : Grammar → Words → ℕ → Words → Words
-put g scope place ws = take place scope ++ (ws ++ after g (drop place scope) 1)
 
 -- how a call ends
 pub data Ending : Type 0 where

@@ -11,10 +11,9 @@ use borrow.Author.Tests.{le-leb, lt-leb, leb-true, leb-false, lt-ltb, le-ltb, lt
 use Rattle.words.specs.Reader.{Words}
 use Rattle.grammar.specs.Grammar.{Grammar}
 use Rattle.tables.specs.Tables.{Heads, Tables}
-use Rattle.tree.specs.Tree.{Trees, Tree, size, nestingFrom, nesting, nodeNesting, after, firstTree}
+use Rattle.tree.specs.Tree.{Trees, Tree, size, nestingFrom, nesting, nodeNesting, after, firstTree, put}
 use Rattle.tree.proofs.Trees.{tells, trees-even, first-after}
 use Rattle.tree.proofs.Places.{node-at, spliced, subtree-size, splice-trees, splice-size, splice-nesting, node-nested}
-use Rattle.meaning.specs.Meaning.{put}
 use Rattle.marks.specs.Marked.{sizeIn, nestingIn, marked}
 use Rattle.marks.specs.Post.{span, NestingOf, Ready, InPlace}
 use Rattle.marks.proofs.Marks.{marked-drop, tree-deeper}

@@ -10,13 +10,13 @@ use Rattle.grammar.specs.Grammar.{Grammar}
 use Rattle.grammar.specs.Limits.{mostTypes}
 use Rattle.tables.specs.Tables.{Heads, Tables}
 use Rattle.tree.specs.Limits.{mostNodes, mostNesting}
-use Rattle.tree.specs.Tree.{Trees, Tree, size, nesting, firstTree}
+use Rattle.tree.specs.Tree.{Trees, Tree, size, nesting, firstTree, put}
 use Rattle.rules.specs.Rules.{Operation, applied, operation, arguments}
 use Rattle.meaning.specs.Limits.{mostLive}
 use Rattle.meaning.specs.declared.State.{State}
 use Rattle.meaning.specs.Computation.{Result, ok, stop, stuck}
 use Rattle.meaning.specs.Operations.{compute}
-use Rattle.meaning.specs.Meaning.{Env, total, variables, put}
+use Rattle.meaning.specs.Meaning.{Env, total, variables}
 use Rattle.operations.specs.Operating.{argumentsOf}
 use Rattle.marks.specs.Marked.{marked, Stands, UnderWay}
 use Rattle.rewrite.specs.Vars.{EnvAt, startsOf, Sound}

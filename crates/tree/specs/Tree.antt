@@ -3,7 +3,7 @@ use Prim.Native.Nat.{ℕ, zero, suc, _+_, _≤_, max}
 use mathlib.Core.Path.{_≡_}
 use mathlib.Core.List.{List, [], _∷_, _++_, map}
 use mathlib.Core.Bool.{Bool, true, false}
-use lib.ListN.{length, getD}
+use lib.ListN.{length, getD, take, drop}
 use lib.Dec.{eqb, leb}
 use Rattle.words.specs.Reader.{Words, pick, and}
 use Rattle.grammar.specs.Grammar.{Kind, token, opt, sequence, forms, Grammar}
@@ -93,3 +93,7 @@ firstTree g ws = first g ws 1
 -- the type of a tree: its root's
 unfoldable pub typeOf : Words → ℕ
 typeOf ws = getD ws 0 0
+
+-- "A match is replaced": the scope with the words in the place of the node's tree
+unfoldable pub put : Grammar → Words → ℕ → Words → Words
+put g scope place ws = take place scope ++ (ws ++ after g (drop place scope) 1)
