@@ -67,6 +67,26 @@ table =
     ∷ case 9 numbers (1 ∷ 12 ∷ 0 ∷ 2 ∷ 0 ∷ 0 ∷ 64 ∷ 1 ∷ 4 ∷ 4 ∷ 2 ∷ 1 ∷ 2 ∷ 5 ∷ 4 ∷ 1 ∷ 1 ∷ 65 ∷ 0 ∷ 8 ∷ 4 ∷ 66 ∷ 1 ∷ 1 ∷ 0 ∷ 1008 ∷ 1 ∷ 65 ∷ 1 ∷ 1 ∷ 1 ∷ 1 ∷ 2 ∷ 6 ∷ 2 ∷ 0 ∷ 0 ∷ 1 ∷ 1 ∷ []) (list (replicate 1023 5)) (ended done 1 0 (list (replicate 1023 5)))
     -- .. or the 6,145th
     ∷ case 9 numbers (1 ∷ 12 ∷ 0 ∷ 2 ∷ 0 ∷ 0 ∷ 64 ∷ 1 ∷ 5 ∷ 4 ∷ 2 ∷ 1 ∷ 2 ∷ 5 ∷ 4 ∷ 2 ∷ 1 ∷ 2 ∷ 5 ∷ 4 ∷ 1 ∷ 1 ∷ 65 ∷ 0 ∷ 8 ∷ 4 ∷ 66 ∷ 1 ∷ 1 ∷ 0 ∷ 1008 ∷ 1 ∷ 65 ∷ 1 ∷ 1 ∷ 1 ∷ 1 ∷ 2 ∷ 6 ∷ 2 ∷ 0 ∷ 0 ∷ 1 ∷ 1 ∷ []) (list (replicate 1023 5)) (ended (stopped 44) 1 0 (list (replicate 1023 5)))
+    -- H2: what is under way is live: while a tree is copied into it, while a chain copies, and in the chain's calls
+    -- scope, variable, a built number, the root of the replacement and the copy are 6,144
+    ∷ case 9 numbers (1 ∷ 12 ∷ 0 ∷ 2 ∷ 0 ∷ 0 ∷ 64 ∷ 1 ∷ 1 ∷ 4 ∷ 2 ∷ 1 ∷ 2 ∷ 5 ∷ 2 ∷ 0 ∷ 0 ∷ 65 ∷ 0 ∷ []) (list (replicate 1023 5)) (ended done 1 1 (list (replicate 1023 5)))
+    -- one number more
+    ∷ case 9 numbers (1 ∷ 12 ∷ 0 ∷ 2 ∷ 0 ∷ 0 ∷ 64 ∷ 1 ∷ 2 ∷ 4 ∷ 2 ∷ 1 ∷ 2 ∷ 5 ∷ 4 ∷ 2 ∷ 1 ∷ 2 ∷ 5 ∷ 2 ∷ 0 ∷ 0 ∷ 65 ∷ 0 ∷ []) (list (replicate 1023 5)) (ended (stopped 44) 1 0 (list (replicate 1023 5)))
+    -- a chain's copy of one number is the 6,144th, behind one written node; its operation divides by 0
+    ∷ case 9 numbers (1 ∷ 12 ∷ 0 ∷ 4 ∷ 0 ∷ 0 ∷ 1 ∷ 0 ∷ 64 ∷ 2 ∷ 64 ∷ 1 ∷ 6 ∷ 4 ∷ 1 ∷ 1 ∷ 65 ∷ 1 ∷ 4 ∷ 2 ∷ 1 ∷ 2 ∷ 5 ∷ 4 ∷ 2 ∷ 1 ∷ 2 ∷ 5 ∷ 4 ∷ 2 ∷ 1 ∷ 2 ∷ 5 ∷ 4 ∷ 1 ∷ 6 ∷ 1 ∷ 0 ∷ 66 ∷ 0 ∷ 1 ∷ 0 ∷ 1002 ∷ 1 ∷ 65 ∷ 0 ∷ 1 ∷ 1 ∷ 1 ∷ 0 ∷ 1 ∷ 2 ∷ 9 ∷ 2 ∷ 0 ∷ 0 ∷ 1 ∷ 1 ∷ []) (list (0 ∷ replicate 1022 5)) (ended (stopped 45) 1 0 (list (0 ∷ replicate 1022 5)))
+    -- .. or the 6,145th: the operation is not reached
+    ∷ case 9 numbers (1 ∷ 12 ∷ 0 ∷ 4 ∷ 0 ∷ 0 ∷ 1 ∷ 0 ∷ 64 ∷ 2 ∷ 64 ∷ 1 ∷ 7 ∷ 4 ∷ 1 ∷ 1 ∷ 65 ∷ 1 ∷ 4 ∷ 2 ∷ 1 ∷ 2 ∷ 5 ∷ 4 ∷ 2 ∷ 1 ∷ 2 ∷ 5 ∷ 4 ∷ 2 ∷ 1 ∷ 2 ∷ 5 ∷ 4 ∷ 2 ∷ 1 ∷ 2 ∷ 5 ∷ 4 ∷ 1 ∷ 6 ∷ 1 ∷ 0 ∷ 66 ∷ 0 ∷ 1 ∷ 0 ∷ 1002 ∷ 1 ∷ 65 ∷ 0 ∷ 1 ∷ 1 ∷ 1 ∷ 0 ∷ 1 ∷ 2 ∷ 9 ∷ 2 ∷ 0 ∷ 0 ∷ 1 ∷ 1 ∷ []) (list (0 ∷ replicate 1022 5)) (ended (stopped 44) 1 0 (list (0 ∷ replicate 1022 5)))
+    -- the argument of a chain's call is the 6,144th, behind one written node and the copy; the call makes no match
+    ∷ case 9 numbers (2 ∷ 12 ∷ 0 ∷ 4 ∷ 0 ∷ 0 ∷ 1 ∷ 0 ∷ 64 ∷ 2 ∷ 64 ∷ 1 ∷ 5 ∷ 4 ∷ 1 ∷ 1 ∷ 65 ∷ 1 ∷ 4 ∷ 2 ∷ 1 ∷ 2 ∷ 5 ∷ 4 ∷ 2 ∷ 1 ∷ 2 ∷ 5 ∷ 4 ∷ 1 ∷ 6 ∷ 1 ∷ 0 ∷ 66 ∷ 0 ∷ 1 ∷ 0 ∷ 1 ∷ 1 ∷ 65 ∷ 0 ∷ 1 ∷ 1 ∷ 1 ∷ 0 ∷ 1 ∷ 2 ∷ 9 ∷ 2 ∷ 0 ∷ 0 ∷ 1 ∷ 1 ∷ 10 ∷ 2 ∷ 1 ∷ 2 ∷ 1 ∷ 2 ∷ 7 ∷ 1 ∷ 2 ∷ 7 ∷ []) (list (0 ∷ replicate 1022 5)) (ended done 2 0 (list (0 ∷ replicate 1022 5)))
+    -- .. or the 6,145th: the call is not opened
+    ∷ case 9 numbers (2 ∷ 12 ∷ 0 ∷ 4 ∷ 0 ∷ 0 ∷ 1 ∷ 0 ∷ 64 ∷ 2 ∷ 64 ∷ 1 ∷ 6 ∷ 4 ∷ 1 ∷ 1 ∷ 65 ∷ 1 ∷ 4 ∷ 2 ∷ 1 ∷ 2 ∷ 5 ∷ 4 ∷ 2 ∷ 1 ∷ 2 ∷ 5 ∷ 4 ∷ 2 ∷ 1 ∷ 2 ∷ 5 ∷ 4 ∷ 1 ∷ 6 ∷ 1 ∷ 0 ∷ 66 ∷ 0 ∷ 1 ∷ 0 ∷ 1 ∷ 1 ∷ 65 ∷ 0 ∷ 1 ∷ 1 ∷ 1 ∷ 0 ∷ 1 ∷ 2 ∷ 9 ∷ 2 ∷ 0 ∷ 0 ∷ 1 ∷ 1 ∷ 10 ∷ 2 ∷ 1 ∷ 2 ∷ 1 ∷ 2 ∷ 7 ∷ 1 ∷ 2 ∷ 7 ∷ []) (list (0 ∷ replicate 1022 5)) (ended (stopped 44) 1 0 (list (0 ∷ replicate 1022 5)))
+    -- H16: a written node that passes 42 and 44 gives 42
+    ∷ case 9 deep (1 ∷ 12 ∷ 0 ∷ 2 ∷ 0 ∷ 0 ∷ 64 ∷ 0 ∷ 1 ∷ 4 ∷ 1 ∷ 1 ∷ 1 ∷ 1 ∷ 4 ∷ 0 ∷ 2 ∷ 65 ∷ 0 ∷ 0 ∷ 1 ∷ 1 ∷ 1 ∷ []) (times 2 (0 ∷ 0 ∷ []) ++ (0 ∷ 1 ∷ (times 1022 (1 ∷ 0 ∷ 2 ∷ 5 ∷ []) ++ (1 ∷ 1 ∷ [])))) (ended (stopped 42) 1 0 (times 2 (0 ∷ 0 ∷ []) ++ (0 ∷ 1 ∷ (times 1022 (1 ∷ 0 ∷ 2 ∷ 5 ∷ []) ++ (1 ∷ 1 ∷ [])))))
+    -- H2, H5: a condition's calls count the caller's variables: scope, variable, copy and argument
+    -- of 1,536 nodes each
+    ∷ case 9 numbers (2 ∷ 12 ∷ 0 ∷ 1 ∷ 64 ∷ 0 ∷ 1 ∷ 8 ∷ 4 ∷ 66 ∷ 0 ∷ 1 ∷ 0 ∷ 1 ∷ 1 ∷ 65 ∷ 0 ∷ 1 ∷ 65 ∷ 0 ∷ 2 ∷ 0 ∷ 1 ∷ 0 ∷ 2 ∷ 0 ∷ 0 ∷ 1 ∷ 1 ∷ []) (list (replicate 767 5)) (ended done 2 0 (list (replicate 767 5)))
+    -- of 1,538
+    ∷ case 9 numbers (2 ∷ 12 ∷ 0 ∷ 1 ∷ 64 ∷ 0 ∷ 1 ∷ 8 ∷ 4 ∷ 66 ∷ 0 ∷ 1 ∷ 0 ∷ 1 ∷ 1 ∷ 65 ∷ 0 ∷ 1 ∷ 65 ∷ 0 ∷ 2 ∷ 0 ∷ 1 ∷ 0 ∷ 2 ∷ 0 ∷ 0 ∷ 1 ∷ 1 ∷ []) (list (replicate 768 5)) (ended (stopped 44) 1 0 (list (replicate 768 5)))
     -- H9: 44 of the last pair before 43 of the finished tree
     -- 43
     ∷ case 9 deep (1 ∷ 8 ∷ 0 ∷ 1 ∷ 64 ∷ 0 ∷ 2 ∷ 0 ∷ 0 ∷ 65 ∷ 0 ∷ []) (times 61 (0 ∷ 0 ∷ []) ++ (0 ∷ 1 ∷ (times 969 (1 ∷ 0 ∷ 2 ∷ 5 ∷ []) ++ (1 ∷ 1 ∷ [])))) (ended (stopped 43) 1 0 (times 61 (0 ∷ 0 ∷ []) ++ (0 ∷ 1 ∷ (times 969 (1 ∷ 0 ∷ 2 ∷ 5 ∷ []) ++ (1 ∷ 1 ∷ [])))))

@@ -1,5 +1,6 @@
--- Rules that are not well typed, each stuck at a test of the strict run, so that none of the tests is idle: one table, one proof. Where a plain run looks too it
--- is stuck as well; otherwise it goes on. Assumes nothing.
+-- Rules that are not well typed, each stuck at a test of the strict run: one table, one proof. Where a plain run looks too it is stuck as well; otherwise it goes
+-- on. So none of the tests of `begin`, `apply`, `succeeds` and `finish` is idle. Those of `bind` and `replace` cannot fail alone: what is bound or replaced is a
+-- part of a scope, which `begin` has tested, or was finished, and so was what takes its place. Assumes nothing.
 use Prim.Native.Nat.{ℕ}
 use mathlib.Core.Path.{_≡_, refl}
 use mathlib.Core.List.{List, [], _∷_}
@@ -9,7 +10,7 @@ use lib.ListN.{replicate}
 use Rattle.words.specs.Reader.{Words}
 use Rattle.grammar.specs.Grammar.{Grammar, token, sequence, forms}
 use Rattle.rules.specs.Rules.{add, round, equal, rule, operation, nothing, new, same, Application, Piece, write, copy, chain, Part, deconstruct, construct, condition, rootOnly, firstMatch, Rule, Rules}
-use Rattle.meaning.specs.Meaning.{Ending, done, cannotGoOn, run}
+use Rattle.meaning.specs.Meaning.{Ending, done, stopped, cannotGoOn, run}
 use Rattle.words.specs.Views as Views
 use Rattle.grammar.specs.Kinds as Kinds
 use Rattle.tree.specs.Tree as Tree
@@ -69,11 +70,16 @@ table =
     ∷ case (main [] (apply (record { applied = operation add; arguments = [] })) ∷ []) cannotGoOn cannotGoOn
     ∷ case (main (construct 1 (write 1 1 ∷ []) ∷ construct 1 (chain 1 (record { applied = operation round; arguments = [] } ∷ []) ∷ []) ∷ []) (copy 0 ∷ []) ∷ []) cannotGoOn done
     ∷ case (main (construct 1 (write 1 1 ∷ []) ∷ []) (apply (record { applied = operation add; arguments = 1 ∷ [] })) ∷ []) cannotGoOn done
+    -- .. the last two in a condition
+    ∷ case (main (construct 1 (write 1 1 ∷ []) ∷ condition true 1 (record { applied = operation equal; arguments = 0 ∷ [] } ∷ []) ∷ []) (copy 0 ∷ []) ∷ []) cannotGoOn done
+    ∷ case (main (construct 1 (write 1 1 ∷ []) ∷ condition true 0 (record { applied = operation equal; arguments = 1 ∷ [] } ∷ []) ∷ []) (copy 0 ∷ []) ∷ []) cannotGoOn done
     -- a variable of another type than its tree's
     ∷ case (main (construct 1 (write 2 5 ∷ []) ∷ []) (copy 0 ∷ []) ∷ []) cannotGoOn done
     -- a replacement of another type than the target, and one that is no tree
     ∷ case (main [] (write 1 1 ∷ []) ∷ []) cannotGoOn done
     ∷ case (main [] (write 2 5 ∷ write 2 5 ∷ []) ∷ []) cannotGoOn done
+    -- .. and nests too deep: what is finished is tested before its nesting
+    ∷ case (main [] (replicate 65 (write 0 0)) ∷ []) cannotGoOn (stopped 43)
     ∷ []
 
 given : List Case → List Ending

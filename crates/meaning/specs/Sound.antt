@@ -20,6 +20,7 @@ WellEnded cannotGoOn = ⊥
 --   a variable becomes a tree of its own type, within the limits, and none is the 17th: `bind`
 --   "every rule .. applied is there": `apply`, `succeeds`; in a replacement it has one: `callWith`
 --   .. "and fits as under Typing": arguments fit parameters in number and type, the scope is a tree, for a root-only rule one of the target type: `begin`
+--   a call that is stopped by 41 is not applied, so nothing is tested of it but that its rule and its arguments are there: `calls`
 --   "every .. operation applied is there and fits": `apply`, `succeeds`, `compute`, `compare`; its scope and arguments are number tokens: `isNumberToken`
 --   a tree of the target type is put where one of that type stood, and the scope stays a tree of its type, within the limits: `replace`
 --   "and a next step, the end or a stop 40 to 45 follows": `WellEnded`; the bound on the rounds never runs out: `rounds`
