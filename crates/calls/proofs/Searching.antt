@@ -37,7 +37,7 @@ use Rattle.marks.proofs.Marks.{marked-length}
 use Rattle.marks.proofs.Spans.{drop-take}
 use Rattle.rewrite.specs.Vars.{Sound}
 use Rattle.rewrite.specs.Matching.{Stage, Means, Answers, bindings}
-use Rattle.rewrite.specs.Candidates.{Clashes, unspent, Passed, NextCandidate}
+use Rattle.rewrite.specs.Candidates.{Clashes, ClashesAt, unspent, Passed, NextCandidate}
 use Rattle.rewrite.specs.declared.candidates.Candidate.{Candidate}
 use Rattle.rewrite.proofs.Matcher.{Node, node-of, two-marked}
 use Rattle.rewrite.specs.declared.Verdict.the-variants.{Matches, Differs, Stops}
@@ -632,7 +632,7 @@ module _ (given : Given) (w₀ : Words) (plan : Plan) (base n : ℕ) (frame : Fr
           searching-differs w (unspent now) (i + k) at-k l this (λ e. omega arith) (c .0) (take (frame .top) w) (span w (base + 2 * (i + k)) (base + 2 * n)) pairs refl (stretch (i + k) (omega (arith, tried-few (plan .strategy) n))) es (c .2 true) (c .1) in
           rw (z, ← y) s
 
-      searching-passed : (k : ℕ) (now : State) → (0 < k → i + k ≤ triedOf (plan .strategy) n) → Passed pairs w (plan .target) base (base + 2 * n) (frame .live) i fuel k now → Searching w now (i + k)
+      searching-passed : (k : ℕ) (now : State) → (0 < k → i + k ≤ triedOf (plan .strategy) n) → Passed (ClashesAt pairs w (base + 2 * n) (frame .live)) w (plan .target) base i fuel k now → Searching w now (i + k)
       searching-passed zero now h e = let z : i + 0 ≡ i = omega arith in rw (z, e) go
       searching-passed (suc k) now h (inl x) = passed-other k now (searching-passed k now (λ _. omega (arith, h (omega arith))) (x .1)) (omega (arith, h (omega arith))) (x .0)
       searching-passed (suc k) now h (inr x) = passed-clash k now (searching-passed k (unspent now) (λ _. omega (arith, h (omega arith))) (x .2)) (omega (arith, h (omega arith))) (x .0) (x .1)
@@ -640,5 +640,5 @@ module _ (given : Given) (w₀ : Words) (plan : Plan) (base n : ℕ) (frame : Fr
       pub searching-next : (last end : ℕ) → last ≡ triedOf (plan .strategy) n → end ≡ base + 2 * n → (r : Candidate) → NextCandidate pairs w (plan .target) base end i last (frame .live) fuel r → Searching w (r .left) (r .node)
       searching-next last end el ee r x = rw (x .node-is) (searching-passed (x .passed) (r .left) (λ h. omega (arith, el, x .inside h)) (passed-as (x .passed) (r .left) ee (x .nodes)))
         where
-          passed-as : {a b : ℕ} (k : ℕ) (now : State) → a ≡ b → Passed pairs w (plan .target) base a (frame .live) i fuel k now → Passed pairs w (plan .target) base b (frame .live) i fuel k now
+          passed-as : {a b : ℕ} (k : ℕ) (now : State) → a ≡ b → Passed (ClashesAt pairs w a (frame .live)) w (plan .target) base i fuel k now → Passed (ClashesAt pairs w b (frame .live)) w (plan .target) base i fuel k now
           passed-as k now q y = rw q at y

@@ -380,12 +380,14 @@ fn seek(
     let strategy = plan.strategy;
     let last = rules::tried(strategy, n);
     let end = base + 2 * n;
+    let first = candidates::first_of(pairs, plan.target);
     let mut fuel = left;
     let mut i: usize = 0;
     let mut now: Frame = frame;
     let found = 'nodes: loop {
         let next = candidates::next_candidate(
             pairs,
+            first,
             w,
             plan.target,
             base,

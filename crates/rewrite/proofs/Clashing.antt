@@ -1,9 +1,10 @@
 -- Attempts that must fail: the matcher's loop without its variables, and the nodes that are passed over. Assumes nothing.
-use Prim.Native.Nat.{ℕ, suc, _+_, _-_, _*_, _<_, _≤_}
+use Prim.Native.Nat.{ℕ, zero, suc, _+_, _-_, _*_, _<_, _≤_}
 use mathlib.Core.Path.{_≡_, refl, sym, ap, _∙_}
 use mathlib.Core.Bool.{Bool, true, false}
 use mathlib.Core.Logic.{_⊎_, inl, inr, ⊎-elim}
 use native.Mathlib.Omega.{arith}
+use native.Mathlib.Nat.{add-zero}
 use lib.ListN.{length, getD}
 use lib.Dec.{ltb}
 use borrow.Author.Tests.{ltb-true, ltb-false}
@@ -11,9 +12,12 @@ use Rattle.words.specs.Reader.{Words}
 use Rattle.meaning.specs.declared.State.{State}
 use Rattle.marks.specs.Marked.{typeIn, sizeIn}
 use Rattle.marks.specs.Post.{span}
+use Rattle.marks.proofs.Spans.{span-length, span-word}
 use Rattle.rewrite.specs.Vars.{Sound, bound}
 use Rattle.rewrite.specs.Matching.{MatchAnswers}
-use Rattle.rewrite.specs.Candidates.{Clashes, unspent, Passed, NextCandidate}
+use Rattle.rewrite.specs.Candidates.{BeginsWithNode, FirstOf, Begun, Clashes, unspent, Passed, Next, OtherValue, NextStart, ClashesAt, NextCandidate}
+use Rattle.rewrite.specs.declared.candidates.Candidate.{Candidate}
+use Rattle.rewrite.specs.declared.candidates.First.{First}
 use Rattle.rewrite.specs.declared.Vars.{Vars}
 use Rattle.rewrite.specs.declared.Verdict.the-variants.{Differs}
 use Rattle.rewrite.specs.declared.Matched.{Matched}
@@ -80,21 +84,35 @@ module _ (pairs part : Words) (live total i p : ℕ) (cl : Clashing pairs part l
               new-past pairs arena part at vars live env total i p go two more w ew is (at + p) refl t (omega arith) (ltb-false (env .n) 16 e),
             )
 
+-- a pattern whose first pair is a node, at a part that begins with a node of its type
+module _ (pairs part : Words) (live : ℕ) (h : live ≤ 6144) (more : 2 ≤ length part) (begins : BeginsWithNode pairs (typeIn (getD part 0 0))) where
+  start : Clashing pairs part live live 0 0
+  start = clashing-start pairs part live h
+
+  is-node : (n : ℕ) → 64 ≤ n → getD pairs 0 0 ≡ n → ⊥
+  is-node n k e = let s : typeIn (getD part 0 0) < 64 = omega arith in omega (arith, begins .1)
+
+  pub clashing-first : (getD part 1 0 ≡ getD pairs 1 0 → ⊥) → Clashes pairs part live
+  clashing-first o = clashing-value pairs part live live 0 0 start (omega (arith, begins .0)) (omega (arith, more)) _ refl (is-node 64 (omega arith)) (is-node 65 (omega arith)) _ refl (sym (begins .1)) o
+
+  pub clashing-begun : getD part 1 0 ≡ getD pairs 1 0 → Clashing pairs part live live 2 2
+  clashing-begun e = clashing-node pairs part live live 0 0 start (omega (arith, begins .0)) (omega (arith, more)) _ refl (is-node 64 (omega arith)) (is-node 65 (omega arith)) _ refl (sym (begins .1)) e
+
 -- THE NODES PASSED OVER
 
-module _ (pairs w : Words) (target base end from last live : ℕ) (left : State) where
+module _ (fails : ℕ → Type 0) (w : Words) (target base from last : ℕ) (left : State) where
   -- the loop is at node i
   pub record Passing (i : ℕ) (fuel : State) : Type 0 where
     passed : ℕ
     pub node-is : i ≡ from + passed
     pub inside : 0 < passed → i ≤ last
-    nodes : Passed pairs w target base end live from left passed fuel
+    nodes : Passed fails w target base from left passed fuel
 
   pub passing-start : Passing from left
   passing-start = record { passed = 0; node-is = omega arith; inside = λ h. absurd (omega arith); nodes = refl }
 
   module _ (i : ℕ) (fuel : State) (pa : Passing i fuel) where
-    pub passing-done : (i < last → typeIn (getD w (base + 2 * i) 0) ≡ target) → NextCandidate pairs w target base end from last live left (record { node = i; left = fuel })
+    pub passing-done : (i < last → typeIn (getD w (base + 2 * i) 0) ≡ target) → Next fails w target base from last left (record { node = i; left = fuel })
     passing-done t = record { passed = pa .passed; node-is = pa .node-is; inside = λ h. omega (arith, pa .inside h, pa .node-is); nodes = pa .nodes; typed = t }
 
     module _ (h : i < last) (word : ℕ) (e : word ≡ getD w (base + 2 * i) 0) where
@@ -104,19 +122,70 @@ module _ (pairs w : Words) (target base end from last live : ℕ) (left : State)
       pub passing-other : (typeIn word ≡ target → ⊥) → Passing (i + 1) fuel
       passing-other o = record { passed = suc (pa .passed); node-is = omega (arith, pa .node-is); inside = λ k. omega arith; nodes = inl ((λ x. o (ap typeIn there ∙ x)), pa .nodes) }
 
-      pub passing-clash : typeIn word ≡ target → (now : State) → fuel .attempts ≡ suc (now .attempts) → (part : Words) → part ≡ span w (base + 2 * i) end → Clashes pairs part live → Passing (i + 1) now
-      passing-clash t now z part ep c = record {
+      pub passing-fail : typeIn word ≡ target → (now : State) → fuel .attempts ≡ suc (now .attempts) → fails (base + 2 * i) → Passing (i + 1) now
+      passing-fail t now z f = record {
         passed = suc (pa .passed);
         node-is = omega (arith, pa .node-is);
         inside = λ k. omega arith;
-        nodes = inr (ap typeIn (sym there) ∙ t, clashes-as (ep ∙ ap (λ x. span w (base + 2 * x) end) (pa .node-is)) c, passed-as (pa .passed) before (pa .nodes));
+        nodes = inr (ap typeIn (sym there) ∙ t, fails-as (pa .node-is) f, passed-as (pa .passed) before (pa .nodes));
       }
         where
           before : fuel ≡ unspent now
           before = ap (λ a. record { attempts = a }) z
 
-          clashes-as : {a b : Words} → a ≡ b → Clashes pairs a live → Clashes pairs b live
-          clashes-as q x = rw q at x
+          fails-as : {a b : ℕ} → a ≡ b → fails (base + 2 * a) → fails (base + 2 * b)
+          fails-as q x = rw q at x
 
-          passed-as : {a b : State} (k : ℕ) → a ≡ b → Passed pairs w target base end live from left k a → Passed pairs w target base end live from left k b
+          passed-as : {a b : State} (k : ℕ) → a ≡ b → Passed fails w target base from left k a → Passed fails w target base from left k b
           passed-as k q x = rw q at x
+
+  -- nodes that are passed over from there on, for another reason that is enough
+  module _ (reason : ℕ → Type 0) (enough : (n : ℕ) → n < last → typeIn (getD w (base + 2 * n) 0) ≡ target → reason (base + 2 * n) → fails (base + 2 * n)) (i : ℕ) (fuel : State) (pa : Passing i fuel) where
+    on-by : (k : ℕ) (now : State) → (0 < k → i + k ≤ last) → Passed reason w target base i fuel k now → Passing (i + k) now
+    on-by zero now h e = let z : i + 0 ≡ i = omega arith in rw (z, e) pa
+    on-by (suc k) now h (inl x) =
+        let z : i + suc k ≡ i + k + 1 = omega arith in
+        rw z (passing-other (i + k) now (on-by k now (λ _. omega (arith, h (omega arith))) (x .1)) (omega (arith, h (omega arith))) _ refl (x .0))
+    on-by (suc k) now h (inr x) =
+        let z : i + suc k ≡ i + k + 1 = omega arith in
+        let l : i + k < last = omega (arith, h (omega arith)) in
+        rw z (passing-fail (i + k) (unspent now) (on-by k (unspent now) (λ _. omega arith) (x .2)) l _ refl (x .0) now refl (enough (i + k) l (x .0) (x .1)))
+
+    pub passing-on : (r : Candidate) → Next reason w target base i last fuel r → Passing (r .node) (r .left)
+    passing-on r x = rw (x .node-is) (on-by (x .passed) (r .left) (x .inside) (x .nodes))
+
+-- the loop over the nodes ends at one of the target's type, with the value that is due there
+pub start-found : (w : Words) (target : ℕ) (fixed : Bool) (value base from last : ℕ) (left : State) (i : ℕ) (fuel : State) → Passing (OtherValue w fixed value) w target base from last left i fuel → (i < last → typeIn (getD w (base + 2 * i) 0) ≡ target)
+    → (i < last → 0 < fuel .attempts → fixed ≡ true → getD w (base + 2 * i + 1) 0 ≡ value) → NextStart w target fixed value base from last left (record { node = i; left = fuel })
+start-found w target fixed value base from last left i fuel pa t v = record { next = passing-done (OtherValue w fixed value) w target base from last left i fuel pa t; valued = v }
+
+-- a part of work memory that begins with a node of the target's type
+part-begins : (pairs w : Words) (target base end last : ℕ) → (0 < last → (base + 2 * last ≤ end) × (end ≤ length w)) → (n : ℕ) → n < last → typeIn (getD w (base + 2 * n) 0) ≡ target → BeginsWithNode pairs target
+    → (2 ≤ length (span w (base + 2 * n) end)) × BeginsWithNode pairs (typeIn (getD (span w (base + 2 * n) end) 0 0)) × (getD (span w (base + 2 * n) end) 1 0 ≡ getD w (base + 2 * n + 1) 0)
+part-begins pairs w target base end last room n l t b =
+    let r = room (omega arith) in
+    let long = span-length w (base + 2 * n) end (r .1) in
+    let first : getD (span w (base + 2 * n) end) 0 0 ≡ getD w (base + 2 * n) 0 = span-word w (base + 2 * n) end 0 (omega (arith, r .0)) ∙ ap (λ x. getD w x 0) (add-zero (base + 2 * n)) in
+    (omega (arith, long, r .0), (b .0, b .1 ∙ sym t ∙ sym (ap typeIn first)), span-word w (base + 2 * n) end 1 (omega (arith, r .0)))
+
+-- the search goes from node i to the start that is found, for a pattern of which this is known
+module _ (pairs w : Words) (target base end from last live : ℕ) (left : State) (first : First) (known : FirstOf pairs target first) (h : live ≤ 6144) (room : 0 < last → (base + 2 * last ≤ end) × (end ≤ length w))
+    (i : ℕ) (fuel : State) (pa : Passing (ClashesAt pairs w end live) w target base from last left i fuel) (r : Candidate)
+    (found : NextStart w target (first .fixed) (first .value) base i last fuel r) where
+  other-clashes : (n : ℕ) → n < last → typeIn (getD w (base + 2 * n) 0) ≡ target → OtherValue w (first .fixed) (first .value) (base + 2 * n) → ClashesAt pairs w end live (base + 2 * n)
+  other-clashes n l t o =
+      let k = part-begins pairs w target base end last room n l t (known .begins (o .0)) in
+      clashing-first pairs (span w (base + 2 * n) end) live h (k .0) (k .1) (λ e. o .1 (sym (k .2) ∙ e ∙ sym (known .value-is)))
+
+  moved : Passing (ClashesAt pairs w end live) w target base from last left (r .node) (r .left)
+  moved = passing-on (ClashesAt pairs w end live) w target base from last left (OtherValue w (first .fixed) (first .value)) other-clashes i fuel pa r (found .next)
+
+  pub candidate-found : NextCandidate pairs w target base end from last live left r
+  candidate-found = passing-done (ClashesAt pairs w end live) w target base from last left (r .node) (r .left) moved (found .next .typed)
+
+  module _ (l : r .node < last) where
+    pub candidate-begun : first .fixed ≡ true → 0 < r .left .attempts → Begun pairs (span w (base + 2 * r .node) end)
+    candidate-begun f some = let k = part-begins pairs w target base end last room (r .node) l (found .next .typed l) (known .begins f) in (k .0, k .1, k .2 ∙ found .valued l some f ∙ known .value-is)
+
+    pub candidate-fails : (now : State) → r .left .attempts ≡ suc (now .attempts) → Clashes pairs (span w (base + 2 * r .node) end) live → Passing (ClashesAt pairs w end live) w target base from last left (r .node + 1) now
+    candidate-fails now z x = passing-fail (ClashesAt pairs w end live) w target base from last left (r .node) (r .left) moved l _ refl (found .next .typed l) now z x

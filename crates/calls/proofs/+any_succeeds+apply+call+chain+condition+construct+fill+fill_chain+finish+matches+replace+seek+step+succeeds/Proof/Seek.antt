@@ -16,27 +16,28 @@ use Rattle.calls.proofs.after_match.Reads as after-match-reads
 use Rattle.rules.proofs.pairs_of.Reads as pairs-of-reads
 use Rattle.calls.proofs.seeking.Reads as seeking-reads
 use Rattle.rules.proofs.tried.Reads as tried-reads
+use Rattle.rewrite.proofs.candidates.first_of.Reads as first-of-reads
 use Rattle.rewrite.proofs.candidates.next_candidate.Reads as next-candidate-reads
 use Rattle.rewrite.proofs.match_pattern.Reads as match-pattern-reads
 use Rattle.calls.proofs.+any_succeeds+apply+call+chain+condition+construct+fill+fill_chain+finish+matches+replace+seek+step+succeeds.Proof.Common.{seek-at, step-below}
 
 abbrev pub seek-claims : ℕ → seek-lts.Claims
-seek-claims t = (pairs-of-reads.Asked, pairs-of-reads.Learnt, tried-reads.Asked, tried-reads.Learnt, next-candidate-reads.Asked, next-candidate-reads.Learnt, seeking-reads.Asked, seeking-reads.Learnt, match-pattern-reads.Asked, match-pattern-reads.Learnt, after-match-reads.Asked, after-match-reads.Learnt, step-below t, step.Post)
+seek-claims t = (pairs-of-reads.Asked, pairs-of-reads.Learnt, tried-reads.Asked, tried-reads.Learnt, first-of-reads.Asked, first-of-reads.Learnt, next-candidate-reads.Asked, next-candidate-reads.Learnt, seeking-reads.Asked, seeking-reads.Learnt, match-pattern-reads.Asked, match-pattern-reads.Learnt, after-match-reads.Asked, after-match-reads.Learnt, step-below t, step.Post)
 
 abbrev pub seek-Inv-loop : seek-lts.InvT-loop
-seek-Inv-loop heads rows types book starts w₀ plan base n frame deep pairs last end fuel₀ i₀ now₀ p fewer at₀ k₀ w fuel i now at k =
+seek-Inv-loop heads rows types book starts w₀ plan base n frame deep pairs last end first fuel₀ i₀ now₀ p fewer at₀ k₀ w fuel i now at k =
     (i ≡ i₀) × Parting (givenOf heads rows types book starts) deep w₀ fuel₀ now₀ at₀ k₀ w fuel now at k
 
 abbrev pub seek-μ-loop : seek-lts.MeasureT-loop
-seek-μ-loop heads rows types book starts w₀ plan base n frame deep pairs last end fuel₀ i₀ now₀ p fewer at₀ k₀ w fuel i now at k =
+seek-μ-loop heads rows types book starts w₀ plan base n frame deep pairs last end first fuel₀ i₀ now₀ p fewer at₀ k₀ w fuel i now at k =
     k
 
 abbrev pub seek-Inv-nodes : seek-lts.InvT-nodes
-seek-Inv-nodes heads rows types book starts w₀ plan base n frame deep pairs last end fuel₀ i₀ now₀ w fuel i now =
+seek-Inv-nodes heads rows types book starts w₀ plan base n frame deep pairs last end first fuel₀ i₀ now₀ w fuel i now =
     (now ≡ frame) × Searching (givenOf heads rows types book starts) w₀ plan base n frame deep fuel₀ w fuel i
 
 abbrev pub seek-μ-nodes : seek-lts.MeasureT-nodes
-seek-μ-nodes heads rows types book starts w₀ plan base n frame deep pairs last end fuel₀ i₀ now₀ w fuel i now =
+seek-μ-nodes heads rows types book starts w₀ plan base n frame deep pairs last end first fuel₀ i₀ now₀ w fuel i now =
     n - i
 
 pub seek-pairs-of-requires : (t : ℕ) → seek-lts.Need-pairs-of-requires (seek-claims t) (seek-at t) seek.Post seek-Inv-loop seek-μ-loop seek-Inv-nodes seek-μ-nodes
@@ -51,20 +52,23 @@ seek-mul-end t c = search needs
 pub seek-add-end : (t : ℕ) → seek-lts.Need-add-end (seek-claims t) (seek-at t) seek.Post seek-Inv-loop seek-μ-loop seek-Inv-nodes seek-μ-nodes
 seek-add-end t c = search needs
 
+pub seek-first-of-requires : (t : ℕ) → seek-lts.Need-first-of-requires (seek-claims t) (seek-at t) seek.Post seek-Inv-loop seek-μ-loop seek-Inv-nodes seek-μ-nodes
+seek-first-of-requires t c κs = search needs
+
 pub seek-nodes-holds : (t : ℕ) → seek-lts.Need-nodes-holds (seek-claims t) (seek-at t) seek.Post seek-Inv-loop seek-μ-loop seek-Inv-nodes seek-μ-nodes
-seek-nodes-holds t c = (refl, searching-start (givenOf (c .before .before .before .before .args .heads .now) (c .before .before .before .before .args .rows .now) (c .before .before .before .before .args .types) (c .before .before .before .before .args .book .now) (c .before .before .before .before .args .starts .now)) (c .before .before .before .before .args .w .now) (c .before .before .before .before .args .plan) (c .before .before .before .before .args .base) (c .before .before .before .before .args .n) (c .before .before .before .before .args .frame) (c .before .before .before .before .args .deep) (c .before .before .before .before .args .left) (c .before .before .before .before .pre .1 .0))
+seek-nodes-holds t c = (refl, searching-start (givenOf (c .before .before .before .before .before .args .heads .now) (c .before .before .before .before .before .args .rows .now) (c .before .before .before .before .before .args .types) (c .before .before .before .before .before .args .book .now) (c .before .before .before .before .before .args .starts .now)) (c .before .before .before .before .before .args .w .now) (c .before .before .before .before .before .args .plan) (c .before .before .before .before .before .args .base) (c .before .before .before .before .before .args .n) (c .before .before .before .before .before .args .frame) (c .before .before .before .before .before .args .deep) (c .before .before .before .before .before .args .left) (c .before .before .before .before .before .pre .1 .0))
 
 pub seek-next-candidate-requires : (t : ℕ) → seek-lts.Need-next-candidate-requires (seek-claims t) (seek-at t) seek.Post seek-Inv-loop seek-μ-loop seek-Inv-nodes seek-μ-nodes
-seek-next-candidate-requires t c κs = (c .before .before .before .pairs-of .ensures .1, c .before .before .before .before .before .before .pre .1 .0 .few, λ h. let k = tried-few (c .before .before .before .before .before .before .args .plan .strategy) (c .before .before .before .before .before .before .args .n) in (omega (arith, k, h, c .before .before .tried .ensures), omega (arith, h, k, c .before .before .tried .ensures, c .before .before .before .before .before .before .pre .1 .5 (omega (arith, h, k, c .before .before .tried .ensures)), c .before .before .before .before .before .before .pre .1 .0 .low, c .before .before .before .before .before .before .pre .1 .0 .few, c .before .before .before .before .before .before .pre .1 .0 .long, c .before .nodes .inv .1 .long)))
+seek-next-candidate-requires t c κs = (c .before .before .before .before .pairs-of .ensures .1, c .before .before .first-of .ensures, c .before .before .before .before .before .before .before .pre .1 .0 .few, λ h. let k = tried-few (c .before .before .before .before .before .before .before .args .plan .strategy) (c .before .before .before .before .before .before .before .args .n) in (omega (arith, k, h, c .before .before .before .tried .ensures), omega (arith, h, k, c .before .before .before .tried .ensures, c .before .before .before .before .before .before .before .pre .1 .5 (omega (arith, h, k, c .before .before .before .tried .ensures)), c .before .before .before .before .before .before .before .pre .1 .0 .low, c .before .before .before .before .before .before .before .pre .1 .0 .few, c .before .before .before .before .before .before .before .pre .1 .0 .long, c .before .nodes .inv .1 .long)))
 
 pub seek-seeking-requires : (t : ℕ) → seek-lts.Need-seeking-requires (seek-claims t) (seek-at t) seek.Post seek-Inv-loop seek-μ-loop seek-Inv-nodes seek-μ-nodes
 seek-seeking-requires t c κs = search needs
 
 pub seek-mul-p : (t : ℕ) → seek-lts.Need-mul-p (seek-claims t) (seek-at t) seek.Post seek-Inv-loop seek-μ-loop seek-Inv-nodes seek-μ-nodes
-seek-mul-p t c = let s = searching-next (givenOf (c .before .before .before .before .before .before .before .before .before .args .heads .now) (c .before .before .before .before .before .before .before .before .before .args .rows .now) (c .before .before .before .before .before .before .before .before .before .args .types) (c .before .before .before .before .before .before .before .before .before .args .book .now) (c .before .before .before .before .before .before .before .before .before .args .starts .now)) (c .before .before .before .before .before .before .before .before .before .args .w .now) (c .before .before .before .before .before .before .before .before .before .args .plan) (c .before .before .before .before .before .before .before .before .before .args .base) (c .before .before .before .before .before .before .before .before .before .args .n) (c .before .before .before .before .before .before .before .before .before .args .frame) (c .before .before .before .before .before .before .before .before .before .args .deep) (c .before .before .before .before .before .before .before .before .before .args .left) (c .before .before .before .before .before .before .before .before .before .pre .1 .0) (c .before .before .before .before .before .before .before .before .before .pre .1 .5) _ (c .before .before .before .before .before .before .pairs-of .ensures .0) (c .before .before .before .before .nodes .w) (c .before .before .before .before .nodes .fuel) (c .before .before .before .before .nodes .i) (c .before .before .before .before .nodes .inv .1) _ _ (c .before .before .before .before .before .tried .ensures) refl _ (c .before .before .next-candidate .ensures) in omega (arith, c .before .before .before .before .before .before .before .before .before .pre .1 .0 .low, c .before .before .before .before .before .before .before .before .before .pre .1 .0 .few, c .before .before .before .before .before .before .before .before .before .pre .1 .0 .long, c .before .before .before .before .before .before .before .before .before .pre .1 .3, c .before .before .before .before .before .before .before .before .before .pre .1 .4, s .within, c .before .before .before .before .nodes .inv .1 .long)
+seek-mul-p t c = let s = searching-next (givenOf (c .before .before .before .before .before .before .before .before .before .before .args .heads .now) (c .before .before .before .before .before .before .before .before .before .before .args .rows .now) (c .before .before .before .before .before .before .before .before .before .before .args .types) (c .before .before .before .before .before .before .before .before .before .before .args .book .now) (c .before .before .before .before .before .before .before .before .before .before .args .starts .now)) (c .before .before .before .before .before .before .before .before .before .before .args .w .now) (c .before .before .before .before .before .before .before .before .before .before .args .plan) (c .before .before .before .before .before .before .before .before .before .before .args .base) (c .before .before .before .before .before .before .before .before .before .before .args .n) (c .before .before .before .before .before .before .before .before .before .before .args .frame) (c .before .before .before .before .before .before .before .before .before .before .args .deep) (c .before .before .before .before .before .before .before .before .before .before .args .left) (c .before .before .before .before .before .before .before .before .before .before .pre .1 .0) (c .before .before .before .before .before .before .before .before .before .before .pre .1 .5) _ (c .before .before .before .before .before .before .before .pairs-of .ensures .0) (c .before .before .before .before .nodes .w) (c .before .before .before .before .nodes .fuel) (c .before .before .before .before .nodes .i) (c .before .before .before .before .nodes .inv .1) _ _ (c .before .before .before .before .before .before .tried .ensures) refl _ (c .before .before .next-candidate .ensures) in omega (arith, c .before .before .before .before .before .before .before .before .before .before .pre .1 .0 .low, c .before .before .before .before .before .before .before .before .before .before .pre .1 .0 .few, c .before .before .before .before .before .before .before .before .before .before .pre .1 .0 .long, c .before .before .before .before .before .before .before .before .before .before .pre .1 .3, c .before .before .before .before .before .before .before .before .before .before .pre .1 .4, s .within, c .before .before .before .before .nodes .inv .1 .long)
 
 pub seek-add-p : (t : ℕ) → seek-lts.Need-add-p (seek-claims t) (seek-at t) seek.Post seek-Inv-loop seek-μ-loop seek-Inv-nodes seek-μ-nodes
-seek-add-p t c = let s = searching-next (givenOf (c .before .before .before .before .before .before .before .before .before .args .heads .now) (c .before .before .before .before .before .before .before .before .before .args .rows .now) (c .before .before .before .before .before .before .before .before .before .args .types) (c .before .before .before .before .before .before .before .before .before .args .book .now) (c .before .before .before .before .before .before .before .before .before .args .starts .now)) (c .before .before .before .before .before .before .before .before .before .args .w .now) (c .before .before .before .before .before .before .before .before .before .args .plan) (c .before .before .before .before .before .before .before .before .before .args .base) (c .before .before .before .before .before .before .before .before .before .args .n) (c .before .before .before .before .before .before .before .before .before .args .frame) (c .before .before .before .before .before .before .before .before .before .args .deep) (c .before .before .before .before .before .before .before .before .before .args .left) (c .before .before .before .before .before .before .before .before .before .pre .1 .0) (c .before .before .before .before .before .before .before .before .before .pre .1 .5) _ (c .before .before .before .before .before .before .pairs-of .ensures .0) (c .before .before .before .before .nodes .w) (c .before .before .before .before .nodes .fuel) (c .before .before .before .before .nodes .i) (c .before .before .before .before .nodes .inv .1) _ _ (c .before .before .before .before .before .tried .ensures) refl _ (c .before .before .next-candidate .ensures) in omega (arith, c .before .before .before .before .before .before .before .before .before .pre .1 .0 .low, c .before .before .before .before .before .before .before .before .before .pre .1 .0 .few, c .before .before .before .before .before .before .before .before .before .pre .1 .0 .long, c .before .before .before .before .before .before .before .before .before .pre .1 .3, c .before .before .before .before .before .before .before .before .before .pre .1 .4, s .within, c .before .before .before .before .nodes .inv .1 .long)
+seek-add-p t c = let s = searching-next (givenOf (c .before .before .before .before .before .before .before .before .before .before .args .heads .now) (c .before .before .before .before .before .before .before .before .before .before .args .rows .now) (c .before .before .before .before .before .before .before .before .before .before .args .types) (c .before .before .before .before .before .before .before .before .before .before .args .book .now) (c .before .before .before .before .before .before .before .before .before .before .args .starts .now)) (c .before .before .before .before .before .before .before .before .before .before .args .w .now) (c .before .before .before .before .before .before .before .before .before .before .args .plan) (c .before .before .before .before .before .before .before .before .before .before .args .base) (c .before .before .before .before .before .before .before .before .before .before .args .n) (c .before .before .before .before .before .before .before .before .before .before .args .frame) (c .before .before .before .before .before .before .before .before .before .before .args .deep) (c .before .before .before .before .before .before .before .before .before .before .args .left) (c .before .before .before .before .before .before .before .before .before .before .pre .1 .0) (c .before .before .before .before .before .before .before .before .before .before .pre .1 .5) _ (c .before .before .before .before .before .before .before .pairs-of .ensures .0) (c .before .before .before .before .nodes .w) (c .before .before .before .before .nodes .fuel) (c .before .before .before .before .nodes .i) (c .before .before .before .before .nodes .inv .1) _ _ (c .before .before .before .before .before .before .tried .ensures) refl _ (c .before .before .next-candidate .ensures) in omega (arith, c .before .before .before .before .before .before .before .before .before .before .pre .1 .0 .low, c .before .before .before .before .before .before .before .before .before .before .pre .1 .0 .few, c .before .before .before .before .before .before .before .before .before .before .pre .1 .0 .long, c .before .before .before .before .before .before .before .before .before .before .pre .1 .3, c .before .before .before .before .before .before .before .before .before .before .pre .1 .4, s .within, c .before .before .before .before .nodes .inv .1 .long)
 
 pub seek-seeking-requires-2 : (t : ℕ) → seek-lts.Need-seeking-requires-2 (seek-claims t) (seek-at t) seek.Post seek-Inv-loop seek-μ-loop seek-Inv-nodes seek-μ-nodes
 seek-seeking-requires-2 t c κs = search needs
@@ -73,25 +77,25 @@ pub seek-sub-fewer : (t : ℕ) → seek-lts.Need-sub-fewer (seek-claims t) (seek
 seek-sub-fewer t c = search needs
 
 pub seek-slice-reshare-prefix-arena : (t : ℕ) → seek-lts.Need-slice-reshare-prefix-arena (seek-claims t) (seek-at t) seek.Post seek-Inv-loop seek-μ-loop seek-Inv-nodes seek-μ-nodes
-seek-slice-reshare-prefix-arena t c = let s = searching-next (givenOf (c .before .before .before .before .before .before .before .before .before .before .before .before .before .args .heads .now) (c .before .before .before .before .before .before .before .before .before .before .before .before .before .args .rows .now) (c .before .before .before .before .before .before .before .before .before .before .before .before .before .args .types) (c .before .before .before .before .before .before .before .before .before .before .before .before .before .args .book .now) (c .before .before .before .before .before .before .before .before .before .before .before .before .before .args .starts .now)) (c .before .before .before .before .before .before .before .before .before .before .before .before .before .args .w .now) (c .before .before .before .before .before .before .before .before .before .before .before .before .before .args .plan) (c .before .before .before .before .before .before .before .before .before .before .before .before .before .args .base) (c .before .before .before .before .before .before .before .before .before .before .before .before .before .args .n) (c .before .before .before .before .before .before .before .before .before .before .before .before .before .args .frame) (c .before .before .before .before .before .before .before .before .before .before .before .before .before .args .deep) (c .before .before .before .before .before .before .before .before .before .before .before .before .before .args .left) (c .before .before .before .before .before .before .before .before .before .before .before .before .before .pre .1 .0) (c .before .before .before .before .before .before .before .before .before .before .before .before .before .pre .1 .5) _ (c .before .before .before .before .before .before .before .before .before .before .pairs-of .ensures .0) (c .before .before .before .before .before .before .before .before .nodes .w) (c .before .before .before .before .before .before .before .before .nodes .fuel) (c .before .before .before .before .before .before .before .before .nodes .i) (c .before .before .before .before .before .before .before .before .nodes .inv .1) _ _ (c .before .before .before .before .before .before .before .before .before .tried .ensures) refl _ (c .before .before .before .before .before .before .next-candidate .ensures) in omega (arith, c .before .before .before .before .before .before .before .before .before .before .before .before .before .pre .1 .0 .low, c .before .before .before .before .before .before .before .before .before .before .before .before .before .pre .1 .0 .few, c .before .before .before .before .before .before .before .before .before .before .before .before .before .pre .1 .0 .long, c .before .before .before .before .before .before .before .before .before .before .before .before .before .pre .1 .3, c .before .before .before .before .before .before .before .before .before .before .before .before .before .pre .1 .4, s .within, c .before .before .before .before .before .before .before .before .nodes .inv .1 .long)
+seek-slice-reshare-prefix-arena t c = let s = searching-next (givenOf (c .before .before .before .before .before .before .before .before .before .before .before .before .before .before .args .heads .now) (c .before .before .before .before .before .before .before .before .before .before .before .before .before .before .args .rows .now) (c .before .before .before .before .before .before .before .before .before .before .before .before .before .before .args .types) (c .before .before .before .before .before .before .before .before .before .before .before .before .before .before .args .book .now) (c .before .before .before .before .before .before .before .before .before .before .before .before .before .before .args .starts .now)) (c .before .before .before .before .before .before .before .before .before .before .before .before .before .before .args .w .now) (c .before .before .before .before .before .before .before .before .before .before .before .before .before .before .args .plan) (c .before .before .before .before .before .before .before .before .before .before .before .before .before .before .args .base) (c .before .before .before .before .before .before .before .before .before .before .before .before .before .before .args .n) (c .before .before .before .before .before .before .before .before .before .before .before .before .before .before .args .frame) (c .before .before .before .before .before .before .before .before .before .before .before .before .before .before .args .deep) (c .before .before .before .before .before .before .before .before .before .before .before .before .before .before .args .left) (c .before .before .before .before .before .before .before .before .before .before .before .before .before .before .pre .1 .0) (c .before .before .before .before .before .before .before .before .before .before .before .before .before .before .pre .1 .5) _ (c .before .before .before .before .before .before .before .before .before .before .before .pairs-of .ensures .0) (c .before .before .before .before .before .before .before .before .nodes .w) (c .before .before .before .before .before .before .before .before .nodes .fuel) (c .before .before .before .before .before .before .before .before .nodes .i) (c .before .before .before .before .before .before .before .before .nodes .inv .1) _ _ (c .before .before .before .before .before .before .before .before .before .before .tried .ensures) refl _ (c .before .before .before .before .before .before .next-candidate .ensures) in omega (arith, c .before .before .before .before .before .before .before .before .before .before .before .before .before .before .pre .1 .0 .low, c .before .before .before .before .before .before .before .before .before .before .before .before .before .before .pre .1 .0 .few, c .before .before .before .before .before .before .before .before .before .before .before .before .before .before .pre .1 .0 .long, c .before .before .before .before .before .before .before .before .before .before .before .before .before .before .pre .1 .3, c .before .before .before .before .before .before .before .before .before .before .before .before .before .before .pre .1 .4, s .within, c .before .before .before .before .before .before .before .before .nodes .inv .1 .long)
 
 pub seek-slice-aggregate-arena : (t : ℕ) → seek-lts.Need-slice-aggregate-arena (seek-claims t) (seek-at t) seek.Post seek-Inv-loop seek-μ-loop seek-Inv-nodes seek-μ-nodes
-seek-slice-aggregate-arena t c = let s = searching-next (givenOf (c .before .before .before .before .before .before .before .before .before .before .before .before .before .before .args .heads .now) (c .before .before .before .before .before .before .before .before .before .before .before .before .before .before .args .rows .now) (c .before .before .before .before .before .before .before .before .before .before .before .before .before .before .args .types) (c .before .before .before .before .before .before .before .before .before .before .before .before .before .before .args .book .now) (c .before .before .before .before .before .before .before .before .before .before .before .before .before .before .args .starts .now)) (c .before .before .before .before .before .before .before .before .before .before .before .before .before .before .args .w .now) (c .before .before .before .before .before .before .before .before .before .before .before .before .before .before .args .plan) (c .before .before .before .before .before .before .before .before .before .before .before .before .before .before .args .base) (c .before .before .before .before .before .before .before .before .before .before .before .before .before .before .args .n) (c .before .before .before .before .before .before .before .before .before .before .before .before .before .before .args .frame) (c .before .before .before .before .before .before .before .before .before .before .before .before .before .before .args .deep) (c .before .before .before .before .before .before .before .before .before .before .before .before .before .before .args .left) (c .before .before .before .before .before .before .before .before .before .before .before .before .before .before .pre .1 .0) (c .before .before .before .before .before .before .before .before .before .before .before .before .before .before .pre .1 .5) _ (c .before .before .before .before .before .before .before .before .before .before .before .pairs-of .ensures .0) (c .before .before .before .before .before .before .before .before .before .nodes .w) (c .before .before .before .before .before .before .before .before .before .nodes .fuel) (c .before .before .before .before .before .before .before .before .before .nodes .i) (c .before .before .before .before .before .before .before .before .before .nodes .inv .1) _ _ (c .before .before .before .before .before .before .before .before .before .before .tried .ensures) refl _ (c .before .before .before .before .before .before .before .next-candidate .ensures) in omega (arith, length-take (c .before .before .before .before .before .before .before .before .before .before .before .before .before .before .args .frame .top) (c .before .before .before .before .before .before .before .before .before .nodes .w), c .before .before .before .before .before .before .before .before .before .before .before .before .before .before .pre .1 .0 .low, c .before .before .before .before .before .before .before .before .before .before .before .before .before .before .pre .1 .0 .few, c .before .before .before .before .before .before .before .before .before .before .before .before .before .before .pre .1 .0 .long, c .before .before .before .before .before .before .before .before .before .before .before .before .before .before .pre .1 .3, c .before .before .before .before .before .before .before .before .before .before .before .before .before .before .pre .1 .4, s .within, c .before .before .before .before .before .before .before .before .before .nodes .inv .1 .long)
+seek-slice-aggregate-arena t c = let s = searching-next (givenOf (c .before .before .before .before .before .before .before .before .before .before .before .before .before .before .before .args .heads .now) (c .before .before .before .before .before .before .before .before .before .before .before .before .before .before .before .args .rows .now) (c .before .before .before .before .before .before .before .before .before .before .before .before .before .before .before .args .types) (c .before .before .before .before .before .before .before .before .before .before .before .before .before .before .before .args .book .now) (c .before .before .before .before .before .before .before .before .before .before .before .before .before .before .before .args .starts .now)) (c .before .before .before .before .before .before .before .before .before .before .before .before .before .before .before .args .w .now) (c .before .before .before .before .before .before .before .before .before .before .before .before .before .before .before .args .plan) (c .before .before .before .before .before .before .before .before .before .before .before .before .before .before .before .args .base) (c .before .before .before .before .before .before .before .before .before .before .before .before .before .before .before .args .n) (c .before .before .before .before .before .before .before .before .before .before .before .before .before .before .before .args .frame) (c .before .before .before .before .before .before .before .before .before .before .before .before .before .before .before .args .deep) (c .before .before .before .before .before .before .before .before .before .before .before .before .before .before .before .args .left) (c .before .before .before .before .before .before .before .before .before .before .before .before .before .before .before .pre .1 .0) (c .before .before .before .before .before .before .before .before .before .before .before .before .before .before .before .pre .1 .5) _ (c .before .before .before .before .before .before .before .before .before .before .before .before .pairs-of .ensures .0) (c .before .before .before .before .before .before .before .before .before .nodes .w) (c .before .before .before .before .before .before .before .before .before .nodes .fuel) (c .before .before .before .before .before .before .before .before .before .nodes .i) (c .before .before .before .before .before .before .before .before .before .nodes .inv .1) _ _ (c .before .before .before .before .before .before .before .before .before .before .before .tried .ensures) refl _ (c .before .before .before .before .before .before .before .next-candidate .ensures) in omega (arith, length-take (c .before .before .before .before .before .before .before .before .before .before .before .before .before .before .before .args .frame .top) (c .before .before .before .before .before .before .before .before .before .nodes .w), c .before .before .before .before .before .before .before .before .before .before .before .before .before .before .before .pre .1 .0 .low, c .before .before .before .before .before .before .before .before .before .before .before .before .before .before .before .pre .1 .0 .few, c .before .before .before .before .before .before .before .before .before .before .before .before .before .before .before .pre .1 .0 .long, c .before .before .before .before .before .before .before .before .before .before .before .before .before .before .before .pre .1 .3, c .before .before .before .before .before .before .before .before .before .before .before .before .before .before .before .pre .1 .4, s .within, c .before .before .before .before .before .before .before .before .before .nodes .inv .1 .long)
 
 pub seek-mul-match-pattern : (t : ℕ) → seek-lts.Need-mul-match-pattern (seek-claims t) (seek-at t) seek.Post seek-Inv-loop seek-μ-loop seek-Inv-nodes seek-μ-nodes
-seek-mul-match-pattern t c = let s = searching-next (givenOf (c .before .before .before .before .before .before .before .before .before .before .before .before .before .before .args .heads .now) (c .before .before .before .before .before .before .before .before .before .before .before .before .before .before .args .rows .now) (c .before .before .before .before .before .before .before .before .before .before .before .before .before .before .args .types) (c .before .before .before .before .before .before .before .before .before .before .before .before .before .before .args .book .now) (c .before .before .before .before .before .before .before .before .before .before .before .before .before .before .args .starts .now)) (c .before .before .before .before .before .before .before .before .before .before .before .before .before .before .args .w .now) (c .before .before .before .before .before .before .before .before .before .before .before .before .before .before .args .plan) (c .before .before .before .before .before .before .before .before .before .before .before .before .before .before .args .base) (c .before .before .before .before .before .before .before .before .before .before .before .before .before .before .args .n) (c .before .before .before .before .before .before .before .before .before .before .before .before .before .before .args .frame) (c .before .before .before .before .before .before .before .before .before .before .before .before .before .before .args .deep) (c .before .before .before .before .before .before .before .before .before .before .before .before .before .before .args .left) (c .before .before .before .before .before .before .before .before .before .before .before .before .before .before .pre .1 .0) (c .before .before .before .before .before .before .before .before .before .before .before .before .before .before .pre .1 .5) _ (c .before .before .before .before .before .before .before .before .before .before .before .pairs-of .ensures .0) (c .before .before .before .before .before .before .before .before .before .nodes .w) (c .before .before .before .before .before .before .before .before .before .nodes .fuel) (c .before .before .before .before .before .before .before .before .before .nodes .i) (c .before .before .before .before .before .before .before .before .before .nodes .inv .1) _ _ (c .before .before .before .before .before .before .before .before .before .before .tried .ensures) refl _ (c .before .before .before .before .before .before .before .next-candidate .ensures) in let h = tried-inside (c .before .before .before .before .before .before .before .before .before .before .before .before .before .before .args .plan .strategy) (c .before .before .before .before .before .before .before .before .before .before .before .before .before .before .args .n) (c .before .before .before .before .before .before .before .next-candidate .result .node) (c .before .before .before .before .before .before .before .before .before .before .tried .result) (c .before .before .before .before .before .before .before .before .before .before .tried .ensures) (c .before .before .before .before .before .if1 .left) in omega (arith, h, c .before .before .before .before .before .before .before .before .before .before .before .before .before .before .pre .1 .5 (omega (arith, h)), c .before .before .before .before .before .before .before .before .before .before .before .before .before .before .pre .1 .0 .low, c .before .before .before .before .before .before .before .before .before .before .before .before .before .before .pre .1 .0 .few, c .before .before .before .before .before .before .before .before .before .before .before .before .before .before .pre .1 .0 .long, c .before .before .before .before .before .before .before .before .before .before .before .before .before .before .pre .1 .3, c .before .before .before .before .before .before .before .before .before .before .before .before .before .before .pre .1 .4, s .within, c .before .before .before .before .before .before .before .before .before .nodes .inv .1 .long)
+seek-mul-match-pattern t c = let s = searching-next (givenOf (c .before .before .before .before .before .before .before .before .before .before .before .before .before .before .before .args .heads .now) (c .before .before .before .before .before .before .before .before .before .before .before .before .before .before .before .args .rows .now) (c .before .before .before .before .before .before .before .before .before .before .before .before .before .before .before .args .types) (c .before .before .before .before .before .before .before .before .before .before .before .before .before .before .before .args .book .now) (c .before .before .before .before .before .before .before .before .before .before .before .before .before .before .before .args .starts .now)) (c .before .before .before .before .before .before .before .before .before .before .before .before .before .before .before .args .w .now) (c .before .before .before .before .before .before .before .before .before .before .before .before .before .before .before .args .plan) (c .before .before .before .before .before .before .before .before .before .before .before .before .before .before .before .args .base) (c .before .before .before .before .before .before .before .before .before .before .before .before .before .before .before .args .n) (c .before .before .before .before .before .before .before .before .before .before .before .before .before .before .before .args .frame) (c .before .before .before .before .before .before .before .before .before .before .before .before .before .before .before .args .deep) (c .before .before .before .before .before .before .before .before .before .before .before .before .before .before .before .args .left) (c .before .before .before .before .before .before .before .before .before .before .before .before .before .before .before .pre .1 .0) (c .before .before .before .before .before .before .before .before .before .before .before .before .before .before .before .pre .1 .5) _ (c .before .before .before .before .before .before .before .before .before .before .before .before .pairs-of .ensures .0) (c .before .before .before .before .before .before .before .before .before .nodes .w) (c .before .before .before .before .before .before .before .before .before .nodes .fuel) (c .before .before .before .before .before .before .before .before .before .nodes .i) (c .before .before .before .before .before .before .before .before .before .nodes .inv .1) _ _ (c .before .before .before .before .before .before .before .before .before .before .before .tried .ensures) refl _ (c .before .before .before .before .before .before .before .next-candidate .ensures) in let h = tried-inside (c .before .before .before .before .before .before .before .before .before .before .before .before .before .before .before .args .plan .strategy) (c .before .before .before .before .before .before .before .before .before .before .before .before .before .before .before .args .n) (c .before .before .before .before .before .before .before .next-candidate .result .node) (c .before .before .before .before .before .before .before .before .before .before .before .tried .result) (c .before .before .before .before .before .before .before .before .before .before .before .tried .ensures) (c .before .before .before .before .before .if1 .left) in omega (arith, h, c .before .before .before .before .before .before .before .before .before .before .before .before .before .before .before .pre .1 .5 (omega (arith, h)), c .before .before .before .before .before .before .before .before .before .before .before .before .before .before .before .pre .1 .0 .low, c .before .before .before .before .before .before .before .before .before .before .before .before .before .before .before .pre .1 .0 .few, c .before .before .before .before .before .before .before .before .before .before .before .before .before .before .before .pre .1 .0 .long, c .before .before .before .before .before .before .before .before .before .before .before .before .before .before .before .pre .1 .3, c .before .before .before .before .before .before .before .before .before .before .before .before .before .before .before .pre .1 .4, s .within, c .before .before .before .before .before .before .before .before .before .nodes .inv .1 .long)
 
 pub seek-sub-match-pattern : (t : ℕ) → seek-lts.Need-sub-match-pattern (seek-claims t) (seek-at t) seek.Post seek-Inv-loop seek-μ-loop seek-Inv-nodes seek-μ-nodes
-seek-sub-match-pattern t c = let s = searching-next (givenOf (c .before .before .before .before .before .before .before .before .before .before .before .before .before .before .args .heads .now) (c .before .before .before .before .before .before .before .before .before .before .before .before .before .before .args .rows .now) (c .before .before .before .before .before .before .before .before .before .before .before .before .before .before .args .types) (c .before .before .before .before .before .before .before .before .before .before .before .before .before .before .args .book .now) (c .before .before .before .before .before .before .before .before .before .before .before .before .before .before .args .starts .now)) (c .before .before .before .before .before .before .before .before .before .before .before .before .before .before .args .w .now) (c .before .before .before .before .before .before .before .before .before .before .before .before .before .before .args .plan) (c .before .before .before .before .before .before .before .before .before .before .before .before .before .before .args .base) (c .before .before .before .before .before .before .before .before .before .before .before .before .before .before .args .n) (c .before .before .before .before .before .before .before .before .before .before .before .before .before .before .args .frame) (c .before .before .before .before .before .before .before .before .before .before .before .before .before .before .args .deep) (c .before .before .before .before .before .before .before .before .before .before .before .before .before .before .args .left) (c .before .before .before .before .before .before .before .before .before .before .before .before .before .before .pre .1 .0) (c .before .before .before .before .before .before .before .before .before .before .before .before .before .before .pre .1 .5) _ (c .before .before .before .before .before .before .before .before .before .before .before .pairs-of .ensures .0) (c .before .before .before .before .before .before .before .before .before .nodes .w) (c .before .before .before .before .before .before .before .before .before .nodes .fuel) (c .before .before .before .before .before .before .before .before .before .nodes .i) (c .before .before .before .before .before .before .before .before .before .nodes .inv .1) _ _ (c .before .before .before .before .before .before .before .before .before .before .tried .ensures) refl _ (c .before .before .before .before .before .before .before .next-candidate .ensures) in let h = tried-inside (c .before .before .before .before .before .before .before .before .before .before .before .before .before .before .args .plan .strategy) (c .before .before .before .before .before .before .before .before .before .before .before .before .before .before .args .n) (c .before .before .before .before .before .before .before .next-candidate .result .node) (c .before .before .before .before .before .before .before .before .before .before .tried .result) (c .before .before .before .before .before .before .before .before .before .before .tried .ensures) (c .before .before .before .before .before .if1 .left) in omega (arith, h, c .before .before .before .before .before .before .before .before .before .before .before .before .before .before .pre .1 .5 (omega (arith, h)), c .before .before .before .before .before .before .before .before .before .before .before .before .before .before .pre .1 .0 .low, c .before .before .before .before .before .before .before .before .before .before .before .before .before .before .pre .1 .0 .few, c .before .before .before .before .before .before .before .before .before .before .before .before .before .before .pre .1 .0 .long, c .before .before .before .before .before .before .before .before .before .before .before .before .before .before .pre .1 .3, c .before .before .before .before .before .before .before .before .before .before .before .before .before .before .pre .1 .4, s .within, c .before .before .before .before .before .before .before .before .before .nodes .inv .1 .long)
+seek-sub-match-pattern t c = let s = searching-next (givenOf (c .before .before .before .before .before .before .before .before .before .before .before .before .before .before .before .args .heads .now) (c .before .before .before .before .before .before .before .before .before .before .before .before .before .before .before .args .rows .now) (c .before .before .before .before .before .before .before .before .before .before .before .before .before .before .before .args .types) (c .before .before .before .before .before .before .before .before .before .before .before .before .before .before .before .args .book .now) (c .before .before .before .before .before .before .before .before .before .before .before .before .before .before .before .args .starts .now)) (c .before .before .before .before .before .before .before .before .before .before .before .before .before .before .before .args .w .now) (c .before .before .before .before .before .before .before .before .before .before .before .before .before .before .before .args .plan) (c .before .before .before .before .before .before .before .before .before .before .before .before .before .before .before .args .base) (c .before .before .before .before .before .before .before .before .before .before .before .before .before .before .before .args .n) (c .before .before .before .before .before .before .before .before .before .before .before .before .before .before .before .args .frame) (c .before .before .before .before .before .before .before .before .before .before .before .before .before .before .before .args .deep) (c .before .before .before .before .before .before .before .before .before .before .before .before .before .before .before .args .left) (c .before .before .before .before .before .before .before .before .before .before .before .before .before .before .before .pre .1 .0) (c .before .before .before .before .before .before .before .before .before .before .before .before .before .before .before .pre .1 .5) _ (c .before .before .before .before .before .before .before .before .before .before .before .before .pairs-of .ensures .0) (c .before .before .before .before .before .before .before .before .before .nodes .w) (c .before .before .before .before .before .before .before .before .before .nodes .fuel) (c .before .before .before .before .before .before .before .before .before .nodes .i) (c .before .before .before .before .before .before .before .before .before .nodes .inv .1) _ _ (c .before .before .before .before .before .before .before .before .before .before .before .tried .ensures) refl _ (c .before .before .before .before .before .before .before .next-candidate .ensures) in let h = tried-inside (c .before .before .before .before .before .before .before .before .before .before .before .before .before .before .before .args .plan .strategy) (c .before .before .before .before .before .before .before .before .before .before .before .before .before .before .before .args .n) (c .before .before .before .before .before .before .before .next-candidate .result .node) (c .before .before .before .before .before .before .before .before .before .before .before .tried .result) (c .before .before .before .before .before .before .before .before .before .before .before .tried .ensures) (c .before .before .before .before .before .if1 .left) in omega (arith, h, c .before .before .before .before .before .before .before .before .before .before .before .before .before .before .before .pre .1 .5 (omega (arith, h)), c .before .before .before .before .before .before .before .before .before .before .before .before .before .before .before .pre .1 .0 .low, c .before .before .before .before .before .before .before .before .before .before .before .before .before .before .before .pre .1 .0 .few, c .before .before .before .before .before .before .before .before .before .before .before .before .before .before .before .pre .1 .0 .long, c .before .before .before .before .before .before .before .before .before .before .before .before .before .before .before .pre .1 .3, c .before .before .before .before .before .before .before .before .before .before .before .before .before .before .before .pre .1 .4, s .within, c .before .before .before .before .before .before .before .before .before .nodes .inv .1 .long)
 
 pub seek-part-match-pattern-start : (t : ℕ) → seek-lts.Need-part-match-pattern-start (seek-claims t) (seek-at t) seek.Post seek-Inv-loop seek-μ-loop seek-Inv-nodes seek-μ-nodes
-seek-part-match-pattern-start t c = let s = searching-next (givenOf (c .before .before .before .before .before .before .before .before .before .before .before .before .before .before .args .heads .now) (c .before .before .before .before .before .before .before .before .before .before .before .before .before .before .args .rows .now) (c .before .before .before .before .before .before .before .before .before .before .before .before .before .before .args .types) (c .before .before .before .before .before .before .before .before .before .before .before .before .before .before .args .book .now) (c .before .before .before .before .before .before .before .before .before .before .before .before .before .before .args .starts .now)) (c .before .before .before .before .before .before .before .before .before .before .before .before .before .before .args .w .now) (c .before .before .before .before .before .before .before .before .before .before .before .before .before .before .args .plan) (c .before .before .before .before .before .before .before .before .before .before .before .before .before .before .args .base) (c .before .before .before .before .before .before .before .before .before .before .before .before .before .before .args .n) (c .before .before .before .before .before .before .before .before .before .before .before .before .before .before .args .frame) (c .before .before .before .before .before .before .before .before .before .before .before .before .before .before .args .deep) (c .before .before .before .before .before .before .before .before .before .before .before .before .before .before .args .left) (c .before .before .before .before .before .before .before .before .before .before .before .before .before .before .pre .1 .0) (c .before .before .before .before .before .before .before .before .before .before .before .before .before .before .pre .1 .5) _ (c .before .before .before .before .before .before .before .before .before .before .before .pairs-of .ensures .0) (c .before .before .before .before .before .before .before .before .before .nodes .w) (c .before .before .before .before .before .before .before .before .before .nodes .fuel) (c .before .before .before .before .before .before .before .before .before .nodes .i) (c .before .before .before .before .before .before .before .before .before .nodes .inv .1) _ _ (c .before .before .before .before .before .before .before .before .before .before .tried .ensures) refl _ (c .before .before .before .before .before .before .before .next-candidate .ensures) in let h = tried-inside (c .before .before .before .before .before .before .before .before .before .before .before .before .before .before .args .plan .strategy) (c .before .before .before .before .before .before .before .before .before .before .before .before .before .before .args .n) (c .before .before .before .before .before .before .before .next-candidate .result .node) (c .before .before .before .before .before .before .before .before .before .before .tried .result) (c .before .before .before .before .before .before .before .before .before .before .tried .ensures) (c .before .before .before .before .before .if1 .left) in omega (arith, h, c .before .before .before .before .before .before .before .before .before .before .before .before .before .before .pre .1 .5 (omega (arith, h)), length-take (c .before .before .before .before .before .before .before .before .before .before .before .before .before .before .args .frame .top) (c .before .before .before .before .before .before .before .before .before .nodes .w), c .before .before .before .before .before .before .before .before .before .before .before .before .before .before .pre .1 .0 .low, c .before .before .before .before .before .before .before .before .before .before .before .before .before .before .pre .1 .0 .few, c .before .before .before .before .before .before .before .before .before .before .before .before .before .before .pre .1 .0 .long, c .before .before .before .before .before .before .before .before .before .before .before .before .before .before .pre .1 .3, c .before .before .before .before .before .before .before .before .before .before .before .before .before .before .pre .1 .4, s .within, c .before .before .before .before .before .before .before .before .before .nodes .inv .1 .long)
+seek-part-match-pattern-start t c = let s = searching-next (givenOf (c .before .before .before .before .before .before .before .before .before .before .before .before .before .before .before .args .heads .now) (c .before .before .before .before .before .before .before .before .before .before .before .before .before .before .before .args .rows .now) (c .before .before .before .before .before .before .before .before .before .before .before .before .before .before .before .args .types) (c .before .before .before .before .before .before .before .before .before .before .before .before .before .before .before .args .book .now) (c .before .before .before .before .before .before .before .before .before .before .before .before .before .before .before .args .starts .now)) (c .before .before .before .before .before .before .before .before .before .before .before .before .before .before .before .args .w .now) (c .before .before .before .before .before .before .before .before .before .before .before .before .before .before .before .args .plan) (c .before .before .before .before .before .before .before .before .before .before .before .before .before .before .before .args .base) (c .before .before .before .before .before .before .before .before .before .before .before .before .before .before .before .args .n) (c .before .before .before .before .before .before .before .before .before .before .before .before .before .before .before .args .frame) (c .before .before .before .before .before .before .before .before .before .before .before .before .before .before .before .args .deep) (c .before .before .before .before .before .before .before .before .before .before .before .before .before .before .before .args .left) (c .before .before .before .before .before .before .before .before .before .before .before .before .before .before .before .pre .1 .0) (c .before .before .before .before .before .before .before .before .before .before .before .before .before .before .before .pre .1 .5) _ (c .before .before .before .before .before .before .before .before .before .before .before .before .pairs-of .ensures .0) (c .before .before .before .before .before .before .before .before .before .nodes .w) (c .before .before .before .before .before .before .before .before .before .nodes .fuel) (c .before .before .before .before .before .before .before .before .before .nodes .i) (c .before .before .before .before .before .before .before .before .before .nodes .inv .1) _ _ (c .before .before .before .before .before .before .before .before .before .before .before .tried .ensures) refl _ (c .before .before .before .before .before .before .before .next-candidate .ensures) in let h = tried-inside (c .before .before .before .before .before .before .before .before .before .before .before .before .before .before .before .args .plan .strategy) (c .before .before .before .before .before .before .before .before .before .before .before .before .before .before .before .args .n) (c .before .before .before .before .before .before .before .next-candidate .result .node) (c .before .before .before .before .before .before .before .before .before .before .before .tried .result) (c .before .before .before .before .before .before .before .before .before .before .before .tried .ensures) (c .before .before .before .before .before .if1 .left) in omega (arith, h, c .before .before .before .before .before .before .before .before .before .before .before .before .before .before .before .pre .1 .5 (omega (arith, h)), length-take (c .before .before .before .before .before .before .before .before .before .before .before .before .before .before .before .args .frame .top) (c .before .before .before .before .before .before .before .before .before .nodes .w), c .before .before .before .before .before .before .before .before .before .before .before .before .before .before .before .pre .1 .0 .low, c .before .before .before .before .before .before .before .before .before .before .before .before .before .before .before .pre .1 .0 .few, c .before .before .before .before .before .before .before .before .before .before .before .before .before .before .before .pre .1 .0 .long, c .before .before .before .before .before .before .before .before .before .before .before .before .before .before .before .pre .1 .3, c .before .before .before .before .before .before .before .before .before .before .before .before .before .before .before .pre .1 .4, s .within, c .before .before .before .before .before .before .before .before .before .nodes .inv .1 .long)
 
 pub seek-part-match-pattern-end : (t : ℕ) → seek-lts.Need-part-match-pattern-end (seek-claims t) (seek-at t) seek.Post seek-Inv-loop seek-μ-loop seek-Inv-nodes seek-μ-nodes
-seek-part-match-pattern-end t c = let s = searching-next (givenOf (c .before .before .before .before .before .before .before .before .before .before .before .before .before .before .args .heads .now) (c .before .before .before .before .before .before .before .before .before .before .before .before .before .before .args .rows .now) (c .before .before .before .before .before .before .before .before .before .before .before .before .before .before .args .types) (c .before .before .before .before .before .before .before .before .before .before .before .before .before .before .args .book .now) (c .before .before .before .before .before .before .before .before .before .before .before .before .before .before .args .starts .now)) (c .before .before .before .before .before .before .before .before .before .before .before .before .before .before .args .w .now) (c .before .before .before .before .before .before .before .before .before .before .before .before .before .before .args .plan) (c .before .before .before .before .before .before .before .before .before .before .before .before .before .before .args .base) (c .before .before .before .before .before .before .before .before .before .before .before .before .before .before .args .n) (c .before .before .before .before .before .before .before .before .before .before .before .before .before .before .args .frame) (c .before .before .before .before .before .before .before .before .before .before .before .before .before .before .args .deep) (c .before .before .before .before .before .before .before .before .before .before .before .before .before .before .args .left) (c .before .before .before .before .before .before .before .before .before .before .before .before .before .before .pre .1 .0) (c .before .before .before .before .before .before .before .before .before .before .before .before .before .before .pre .1 .5) _ (c .before .before .before .before .before .before .before .before .before .before .before .pairs-of .ensures .0) (c .before .before .before .before .before .before .before .before .before .nodes .w) (c .before .before .before .before .before .before .before .before .before .nodes .fuel) (c .before .before .before .before .before .before .before .before .before .nodes .i) (c .before .before .before .before .before .before .before .before .before .nodes .inv .1) _ _ (c .before .before .before .before .before .before .before .before .before .before .tried .ensures) refl _ (c .before .before .before .before .before .before .before .next-candidate .ensures) in let h = tried-inside (c .before .before .before .before .before .before .before .before .before .before .before .before .before .before .args .plan .strategy) (c .before .before .before .before .before .before .before .before .before .before .before .before .before .before .args .n) (c .before .before .before .before .before .before .before .next-candidate .result .node) (c .before .before .before .before .before .before .before .before .before .before .tried .result) (c .before .before .before .before .before .before .before .before .before .before .tried .ensures) (c .before .before .before .before .before .if1 .left) in omega (arith, h, c .before .before .before .before .before .before .before .before .before .before .before .before .before .before .pre .1 .5 (omega (arith, h)), length-take (c .before .before .before .before .before .before .before .before .before .before .before .before .before .before .args .frame .top) (c .before .before .before .before .before .before .before .before .before .nodes .w), c .before .before .before .before .before .before .before .before .before .before .before .before .before .before .pre .1 .0 .low, c .before .before .before .before .before .before .before .before .before .before .before .before .before .before .pre .1 .0 .few, c .before .before .before .before .before .before .before .before .before .before .before .before .before .before .pre .1 .0 .long, c .before .before .before .before .before .before .before .before .before .before .before .before .before .before .pre .1 .3, c .before .before .before .before .before .before .before .before .before .before .before .before .before .before .pre .1 .4, s .within, c .before .before .before .before .before .before .before .before .before .nodes .inv .1 .long)
+seek-part-match-pattern-end t c = let s = searching-next (givenOf (c .before .before .before .before .before .before .before .before .before .before .before .before .before .before .before .args .heads .now) (c .before .before .before .before .before .before .before .before .before .before .before .before .before .before .before .args .rows .now) (c .before .before .before .before .before .before .before .before .before .before .before .before .before .before .before .args .types) (c .before .before .before .before .before .before .before .before .before .before .before .before .before .before .before .args .book .now) (c .before .before .before .before .before .before .before .before .before .before .before .before .before .before .before .args .starts .now)) (c .before .before .before .before .before .before .before .before .before .before .before .before .before .before .before .args .w .now) (c .before .before .before .before .before .before .before .before .before .before .before .before .before .before .before .args .plan) (c .before .before .before .before .before .before .before .before .before .before .before .before .before .before .before .args .base) (c .before .before .before .before .before .before .before .before .before .before .before .before .before .before .before .args .n) (c .before .before .before .before .before .before .before .before .before .before .before .before .before .before .before .args .frame) (c .before .before .before .before .before .before .before .before .before .before .before .before .before .before .before .args .deep) (c .before .before .before .before .before .before .before .before .before .before .before .before .before .before .before .args .left) (c .before .before .before .before .before .before .before .before .before .before .before .before .before .before .before .pre .1 .0) (c .before .before .before .before .before .before .before .before .before .before .before .before .before .before .before .pre .1 .5) _ (c .before .before .before .before .before .before .before .before .before .before .before .before .pairs-of .ensures .0) (c .before .before .before .before .before .before .before .before .before .nodes .w) (c .before .before .before .before .before .before .before .before .before .nodes .fuel) (c .before .before .before .before .before .before .before .before .before .nodes .i) (c .before .before .before .before .before .before .before .before .before .nodes .inv .1) _ _ (c .before .before .before .before .before .before .before .before .before .before .before .tried .ensures) refl _ (c .before .before .before .before .before .before .before .next-candidate .ensures) in let h = tried-inside (c .before .before .before .before .before .before .before .before .before .before .before .before .before .before .before .args .plan .strategy) (c .before .before .before .before .before .before .before .before .before .before .before .before .before .before .before .args .n) (c .before .before .before .before .before .before .before .next-candidate .result .node) (c .before .before .before .before .before .before .before .before .before .before .before .tried .result) (c .before .before .before .before .before .before .before .before .before .before .before .tried .ensures) (c .before .before .before .before .before .if1 .left) in omega (arith, h, c .before .before .before .before .before .before .before .before .before .before .before .before .before .before .before .pre .1 .5 (omega (arith, h)), length-take (c .before .before .before .before .before .before .before .before .before .before .before .before .before .before .before .args .frame .top) (c .before .before .before .before .before .before .before .before .before .nodes .w), c .before .before .before .before .before .before .before .before .before .before .before .before .before .before .before .pre .1 .0 .low, c .before .before .before .before .before .before .before .before .before .before .before .before .before .before .before .pre .1 .0 .few, c .before .before .before .before .before .before .before .before .before .before .before .before .before .before .before .pre .1 .0 .long, c .before .before .before .before .before .before .before .before .before .before .before .before .before .before .before .pre .1 .3, c .before .before .before .before .before .before .before .before .before .before .before .before .before .before .before .pre .1 .4, s .within, c .before .before .before .before .before .before .before .before .before .nodes .inv .1 .long)
 
 pub seek-match-pattern-requires : (t : ℕ) → seek-lts.Need-match-pattern-requires (seek-claims t) (seek-at t) seek.Post seek-Inv-loop seek-μ-loop seek-Inv-nodes seek-μ-nodes
-seek-match-pattern-requires t c κs = let s = searching-next (givenOf (c .before .before .before .before .before .before .before .before .before .before .before .before .before .before .before .args .heads .now) (c .before .before .before .before .before .before .before .before .before .before .before .before .before .before .before .args .rows .now) (c .before .before .before .before .before .before .before .before .before .before .before .before .before .before .before .args .types) (c .before .before .before .before .before .before .before .before .before .before .before .before .before .before .before .args .book .now) (c .before .before .before .before .before .before .before .before .before .before .before .before .before .before .before .args .starts .now)) (c .before .before .before .before .before .before .before .before .before .before .before .before .before .before .before .args .w .now) (c .before .before .before .before .before .before .before .before .before .before .before .before .before .before .before .args .plan) (c .before .before .before .before .before .before .before .before .before .before .before .before .before .before .before .args .base) (c .before .before .before .before .before .before .before .before .before .before .before .before .before .before .before .args .n) (c .before .before .before .before .before .before .before .before .before .before .before .before .before .before .before .args .frame) (c .before .before .before .before .before .before .before .before .before .before .before .before .before .before .before .args .deep) (c .before .before .before .before .before .before .before .before .before .before .before .before .before .before .before .args .left) (c .before .before .before .before .before .before .before .before .before .before .before .before .before .before .before .pre .1 .0) (c .before .before .before .before .before .before .before .before .before .before .before .before .before .before .before .pre .1 .5) _ (c .before .before .before .before .before .before .before .before .before .before .before .before .pairs-of .ensures .0) (c .before .before .before .before .before .before .before .before .before .before .nodes .w) (c .before .before .before .before .before .before .before .before .before .before .nodes .fuel) (c .before .before .before .before .before .before .before .before .before .before .nodes .i) (c .before .before .before .before .before .before .before .before .before .before .nodes .inv .1) _ _ (c .before .before .before .before .before .before .before .before .before .before .before .tried .ensures) refl _ (c .before .before .before .before .before .before .before .before .next-candidate .ensures) in let h = tried-inside (c .before .before .before .before .before .before .before .before .before .before .before .before .before .before .before .args .plan .strategy) (c .before .before .before .before .before .before .before .before .before .before .before .before .before .before .before .args .n) (c .before .before .before .before .before .before .before .before .next-candidate .result .node) (c .before .before .before .before .before .before .before .before .before .before .before .tried .result) (c .before .before .before .before .before .before .before .before .before .before .before .tried .ensures) (c .before .before .before .before .before .before .if1 .left) in (c .before .before .before .before .before .before .before .before .before .before .before .before .pairs-of .ensures .1, omega (arith, h, c .before .before .before .before .before .before .before .before .before .before .before .before .before .before .before .pre .1 .5 (omega (arith, h)), c .before .before .before .before .before .before .before .before .before .before .before .before .before .before .before .pre .1 .0 .low, c .before .before .before .before .before .before .before .before .before .before .before .before .before .before .before .pre .1 .0 .few, c .before .before .before .before .before .before .before .before .before .before .before .before .before .before .before .pre .1 .0 .long, c .before .before .before .before .before .before .before .before .before .before .before .before .before .before .before .pre .1 .3, c .before .before .before .before .before .before .before .before .before .before .before .before .before .before .before .pre .1 .4, s .within, c .before .before .before .before .before .before .before .before .before .before .nodes .inv .1 .long), subst (λ x. Sound (x .vars)) (sym (c .before .before .before .before .before .before .before .before .before .before .nodes .inv .0)) (c .before .before .before .before .before .before .before .before .before .before .before .before .before .before .before .pre .1 .0 .sound), subst (λ x. x .live ≤ 6144) (sym (c .before .before .before .before .before .before .before .before .before .before .nodes .inv .0)) (c .before .before .before .before .before .before .before .before .before .before .before .before .before .before .before .pre .1 .0 .few))
+seek-match-pattern-requires t c κs = let s = searching-next (givenOf (c .before .before .before .before .before .before .before .before .before .before .before .before .before .before .before .before .args .heads .now) (c .before .before .before .before .before .before .before .before .before .before .before .before .before .before .before .before .args .rows .now) (c .before .before .before .before .before .before .before .before .before .before .before .before .before .before .before .before .args .types) (c .before .before .before .before .before .before .before .before .before .before .before .before .before .before .before .before .args .book .now) (c .before .before .before .before .before .before .before .before .before .before .before .before .before .before .before .before .args .starts .now)) (c .before .before .before .before .before .before .before .before .before .before .before .before .before .before .before .before .args .w .now) (c .before .before .before .before .before .before .before .before .before .before .before .before .before .before .before .before .args .plan) (c .before .before .before .before .before .before .before .before .before .before .before .before .before .before .before .before .args .base) (c .before .before .before .before .before .before .before .before .before .before .before .before .before .before .before .before .args .n) (c .before .before .before .before .before .before .before .before .before .before .before .before .before .before .before .before .args .frame) (c .before .before .before .before .before .before .before .before .before .before .before .before .before .before .before .before .args .deep) (c .before .before .before .before .before .before .before .before .before .before .before .before .before .before .before .before .args .left) (c .before .before .before .before .before .before .before .before .before .before .before .before .before .before .before .before .pre .1 .0) (c .before .before .before .before .before .before .before .before .before .before .before .before .before .before .before .before .pre .1 .5) _ (c .before .before .before .before .before .before .before .before .before .before .before .before .before .pairs-of .ensures .0) (c .before .before .before .before .before .before .before .before .before .before .nodes .w) (c .before .before .before .before .before .before .before .before .before .before .nodes .fuel) (c .before .before .before .before .before .before .before .before .before .before .nodes .i) (c .before .before .before .before .before .before .before .before .before .before .nodes .inv .1) _ _ (c .before .before .before .before .before .before .before .before .before .before .before .before .tried .ensures) refl _ (c .before .before .before .before .before .before .before .before .next-candidate .ensures) in let h = tried-inside (c .before .before .before .before .before .before .before .before .before .before .before .before .before .before .before .before .args .plan .strategy) (c .before .before .before .before .before .before .before .before .before .before .before .before .before .before .before .before .args .n) (c .before .before .before .before .before .before .before .before .next-candidate .result .node) (c .before .before .before .before .before .before .before .before .before .before .before .before .tried .result) (c .before .before .before .before .before .before .before .before .before .before .before .before .tried .ensures) (c .before .before .before .before .before .before .if1 .left) in (c .before .before .before .before .before .before .before .before .before .before .before .before .before .pairs-of .ensures .1, omega (arith, h, c .before .before .before .before .before .before .before .before .before .before .before .before .before .before .before .before .pre .1 .5 (omega (arith, h)), c .before .before .before .before .before .before .before .before .before .before .before .before .before .before .before .before .pre .1 .0 .low, c .before .before .before .before .before .before .before .before .before .before .before .before .before .before .before .before .pre .1 .0 .few, c .before .before .before .before .before .before .before .before .before .before .before .before .before .before .before .before .pre .1 .0 .long, c .before .before .before .before .before .before .before .before .before .before .before .before .before .before .before .before .pre .1 .3, c .before .before .before .before .before .before .before .before .before .before .before .before .before .before .before .before .pre .1 .4, s .within, c .before .before .before .before .before .before .before .before .before .before .nodes .inv .1 .long), subst (λ x. Sound (x .vars)) (sym (c .before .before .before .before .before .before .before .before .before .before .nodes .inv .0)) (c .before .before .before .before .before .before .before .before .before .before .before .before .before .before .before .before .pre .1 .0 .sound), subst (λ x. x .live ≤ 6144) (sym (c .before .before .before .before .before .before .before .before .before .before .nodes .inv .0)) (c .before .before .before .before .before .before .before .before .before .before .before .before .before .before .before .before .pre .1 .0 .few))
 
 pub seek-enum-told : (t : ℕ) → seek-lts.Need-enum-told (seek-claims t) (seek-at t) seek.Post seek-Inv-loop seek-μ-loop seek-Inv-nodes seek-μ-nodes
 seek-enum-told t c = search needs
@@ -100,10 +104,10 @@ pub seek-add-i : (t : ℕ) → seek-lts.Need-add-i (seek-claims t) (seek-at t) s
 seek-add-i t c = search needs
 
 pub seek-nodes-less : (t : ℕ) → seek-lts.Need-nodes-less (seek-claims t) (seek-at t) seek.Post seek-Inv-loop seek-μ-loop seek-Inv-nodes seek-μ-nodes
-seek-nodes-less t c = let h = tried-inside (c .before .before .before .before .before .before .before .before .before .before .before .before .before .before .before .before .before .before .args .plan .strategy) (c .before .before .before .before .before .before .before .before .before .before .before .before .before .before .before .before .before .before .args .n) (c .before .before .before .before .before .before .before .before .before .before .before .next-candidate .result .node) (c .before .before .before .before .before .before .before .before .before .before .before .before .before .before .tried .result) (c .before .before .before .before .before .before .before .before .before .before .before .before .before .before .tried .ensures) (c .before .before .before .before .before .before .before .before .before .if1 .left) in omega (arith, h, c .before .before .before .before .before .before .before .before .before .before .before .next-candidate .ensures .node-is)
+seek-nodes-less t c = let h = tried-inside (c .before .before .before .before .before .before .before .before .before .before .before .before .before .before .before .before .before .before .before .args .plan .strategy) (c .before .before .before .before .before .before .before .before .before .before .before .before .before .before .before .before .before .before .before .args .n) (c .before .before .before .before .before .before .before .before .before .before .before .next-candidate .result .node) (c .before .before .before .before .before .before .before .before .before .before .before .before .before .before .before .tried .result) (c .before .before .before .before .before .before .before .before .before .before .before .before .before .before .before .tried .ensures) (c .before .before .before .before .before .before .before .before .before .if1 .left) in omega (arith, h, c .before .before .before .before .before .before .before .before .before .before .before .next-candidate .ensures .node-is)
 
 pub seek-nodes-again : (t : ℕ) → seek-lts.Need-nodes-again (seek-claims t) (seek-at t) seek.Post seek-Inv-loop seek-μ-loop seek-Inv-nodes seek-μ-nodes
-seek-nodes-again t c = let s = searching-next (givenOf (c .before .before .before .before .before .before .before .before .before .before .before .before .before .before .before .before .before .before .args .heads .now) (c .before .before .before .before .before .before .before .before .before .before .before .before .before .before .before .before .before .before .args .rows .now) (c .before .before .before .before .before .before .before .before .before .before .before .before .before .before .before .before .before .before .args .types) (c .before .before .before .before .before .before .before .before .before .before .before .before .before .before .before .before .before .before .args .book .now) (c .before .before .before .before .before .before .before .before .before .before .before .before .before .before .before .before .before .before .args .starts .now)) (c .before .before .before .before .before .before .before .before .before .before .before .before .before .before .before .before .before .before .args .w .now) (c .before .before .before .before .before .before .before .before .before .before .before .before .before .before .before .before .before .before .args .plan) (c .before .before .before .before .before .before .before .before .before .before .before .before .before .before .before .before .before .before .args .base) (c .before .before .before .before .before .before .before .before .before .before .before .before .before .before .before .before .before .before .args .n) (c .before .before .before .before .before .before .before .before .before .before .before .before .before .before .before .before .before .before .args .frame) (c .before .before .before .before .before .before .before .before .before .before .before .before .before .before .before .before .before .before .args .deep) (c .before .before .before .before .before .before .before .before .before .before .before .before .before .before .before .before .before .before .args .left) (c .before .before .before .before .before .before .before .before .before .before .before .before .before .before .before .before .before .before .pre .1 .0) (c .before .before .before .before .before .before .before .before .before .before .before .before .before .before .before .before .before .before .pre .1 .5) _ (c .before .before .before .before .before .before .before .before .before .before .before .before .before .before .before .pairs-of .ensures .0) (c .before .before .before .before .before .before .before .before .before .before .before .before .before .nodes .w) (c .before .before .before .before .before .before .before .before .before .before .before .before .before .nodes .fuel) (c .before .before .before .before .before .before .before .before .before .before .before .before .before .nodes .i) (c .before .before .before .before .before .before .before .before .before .before .before .before .before .nodes .inv .1) _ _ (c .before .before .before .before .before .before .before .before .before .before .before .before .before .before .tried .ensures) refl _ (c .before .before .before .before .before .before .before .before .before .before .before .next-candidate .ensures) in let h = tried-inside (c .before .before .before .before .before .before .before .before .before .before .before .before .before .before .before .before .before .before .args .plan .strategy) (c .before .before .before .before .before .before .before .before .before .before .before .before .before .before .before .before .before .before .args .n) (c .before .before .before .before .before .before .before .before .before .before .before .next-candidate .result .node) (c .before .before .before .before .before .before .before .before .before .before .before .before .before .before .tried .result) (c .before .before .before .before .before .before .before .before .before .before .before .before .before .before .tried .ensures) (c .before .before .before .before .before .before .before .before .before .if1 .left) in let z : c .before .before .before .before .before .before .before .before .before .before .before .before .before .before .before .before .before .before .args .base + 2 * c .before .before .before .before .before .before .before .before .before .before .before .before .before .before .before .before .before .before .args .n - (c .before .before .before .before .before .before .before .before .before .before .before .before .before .before .before .before .before .before .args .base + 2 * c .before .before .before .before .before .before .before .before .before .before .before .next-candidate .result .node) ≡ 2 * (c .before .before .before .before .before .before .before .before .before .before .before .before .before .before .before .before .before .before .args .n - c .before .before .before .before .before .before .before .before .before .before .before .next-candidate .result .node) = omega (arith, h) in (c .before .before .before .before .before .before .before .before .before .before .before .before .before .nodes .inv .0, searching-differs (givenOf (c .before .before .before .before .before .before .before .before .before .before .before .before .before .before .before .before .before .before .args .heads .now) (c .before .before .before .before .before .before .before .before .before .before .before .before .before .before .before .before .before .before .args .rows .now) (c .before .before .before .before .before .before .before .before .before .before .before .before .before .before .before .before .before .before .args .types) (c .before .before .before .before .before .before .before .before .before .before .before .before .before .before .before .before .before .before .args .book .now) (c .before .before .before .before .before .before .before .before .before .before .before .before .before .before .before .before .before .before .args .starts .now)) (c .before .before .before .before .before .before .before .before .before .before .before .before .before .before .before .before .before .before .args .w .now) (c .before .before .before .before .before .before .before .before .before .before .before .before .before .before .before .before .before .before .args .plan) (c .before .before .before .before .before .before .before .before .before .before .before .before .before .before .before .before .before .before .args .base) (c .before .before .before .before .before .before .before .before .before .before .before .before .before .before .before .before .before .before .args .n) (c .before .before .before .before .before .before .before .before .before .before .before .before .before .before .before .before .before .before .args .frame) (c .before .before .before .before .before .before .before .before .before .before .before .before .before .before .before .before .before .before .args .deep) (c .before .before .before .before .before .before .before .before .before .before .before .before .before .before .before .before .before .before .args .left) (c .before .before .before .before .before .before .before .before .before .before .before .before .before .before .before .before .before .before .pre .1 .0) (c .before .before .before .before .before .before .before .before .before .before .before .before .before .nodes .w) (c .before .before .before .before .before .before .before .before .before .before .before .next-candidate .result .left) (c .before .before .before .before .before .before .before .before .before .before .before .next-candidate .result .node) s (subst (λ x. c .before .before .before .before .before .before .before .before .before .before .before .next-candidate .result .node < x) (c .before .before .before .before .before .before .before .before .before .before .before .before .before .before .tried .ensures) (c .before .before .before .before .before .before .before .before .before .if1 .left)) (c .before .before .before .before .before .before .before .before .before .before .before .next-candidate .ensures .typed (c .before .before .before .before .before .before .before .before .before .if1 .left)) (c .before .before .before .before .before .before .before .if2 .left) (c .before .before .match-pattern .result) (take (c .before .before .before .before .before .before .before .before .before .before .before .before .before .before .before .before .before .before .args .frame .top) (c .before .before .before .before .before .before .before .before .before .before .before .before .before .nodes .w)) _ _ refl (ap (λ x. take x (drop (c .before .before .before .before .before .before .before .before .before .before .before .before .before .before .before .before .before .before .args .base + 2 * c .before .before .before .before .before .before .before .before .before .before .before .next-candidate .result .node) (take (c .before .before .before .before .before .before .before .before .before .before .before .before .before .before .before .before .before .before .args .frame .top) (c .before .before .before .before .before .before .before .before .before .before .before .before .before .nodes .w)))) z) (c .before .before .before .before .before .before .before .before .before .before .before .before .before .before .before .pairs-of .ensures .0) (answers-as (c .before .before .before .before .before .before .before .before .before .before .before .before .before .nodes .now) (c .before .before .before .before .before .before .before .before .before .before .before .before .before .before .before .before .before .before .args .frame) (c .before .before .before .before .before .before .before .before .before .before .before .before .before .nodes .inv .0) (c .before .before .match-pattern .ensures true)) (c .enum-told .given .1))
+seek-nodes-again t c = let s = searching-next (givenOf (c .before .before .before .before .before .before .before .before .before .before .before .before .before .before .before .before .before .before .before .args .heads .now) (c .before .before .before .before .before .before .before .before .before .before .before .before .before .before .before .before .before .before .before .args .rows .now) (c .before .before .before .before .before .before .before .before .before .before .before .before .before .before .before .before .before .before .before .args .types) (c .before .before .before .before .before .before .before .before .before .before .before .before .before .before .before .before .before .before .before .args .book .now) (c .before .before .before .before .before .before .before .before .before .before .before .before .before .before .before .before .before .before .before .args .starts .now)) (c .before .before .before .before .before .before .before .before .before .before .before .before .before .before .before .before .before .before .before .args .w .now) (c .before .before .before .before .before .before .before .before .before .before .before .before .before .before .before .before .before .before .before .args .plan) (c .before .before .before .before .before .before .before .before .before .before .before .before .before .before .before .before .before .before .before .args .base) (c .before .before .before .before .before .before .before .before .before .before .before .before .before .before .before .before .before .before .before .args .n) (c .before .before .before .before .before .before .before .before .before .before .before .before .before .before .before .before .before .before .before .args .frame) (c .before .before .before .before .before .before .before .before .before .before .before .before .before .before .before .before .before .before .before .args .deep) (c .before .before .before .before .before .before .before .before .before .before .before .before .before .before .before .before .before .before .before .args .left) (c .before .before .before .before .before .before .before .before .before .before .before .before .before .before .before .before .before .before .before .pre .1 .0) (c .before .before .before .before .before .before .before .before .before .before .before .before .before .before .before .before .before .before .before .pre .1 .5) _ (c .before .before .before .before .before .before .before .before .before .before .before .before .before .before .before .before .pairs-of .ensures .0) (c .before .before .before .before .before .before .before .before .before .before .before .before .before .nodes .w) (c .before .before .before .before .before .before .before .before .before .before .before .before .before .nodes .fuel) (c .before .before .before .before .before .before .before .before .before .before .before .before .before .nodes .i) (c .before .before .before .before .before .before .before .before .before .before .before .before .before .nodes .inv .1) _ _ (c .before .before .before .before .before .before .before .before .before .before .before .before .before .before .before .tried .ensures) refl _ (c .before .before .before .before .before .before .before .before .before .before .before .next-candidate .ensures) in let h = tried-inside (c .before .before .before .before .before .before .before .before .before .before .before .before .before .before .before .before .before .before .before .args .plan .strategy) (c .before .before .before .before .before .before .before .before .before .before .before .before .before .before .before .before .before .before .before .args .n) (c .before .before .before .before .before .before .before .before .before .before .before .next-candidate .result .node) (c .before .before .before .before .before .before .before .before .before .before .before .before .before .before .before .tried .result) (c .before .before .before .before .before .before .before .before .before .before .before .before .before .before .before .tried .ensures) (c .before .before .before .before .before .before .before .before .before .if1 .left) in let z : c .before .before .before .before .before .before .before .before .before .before .before .before .before .before .before .before .before .before .before .args .base + 2 * c .before .before .before .before .before .before .before .before .before .before .before .before .before .before .before .before .before .before .before .args .n - (c .before .before .before .before .before .before .before .before .before .before .before .before .before .before .before .before .before .before .before .args .base + 2 * c .before .before .before .before .before .before .before .before .before .before .before .next-candidate .result .node) ≡ 2 * (c .before .before .before .before .before .before .before .before .before .before .before .before .before .before .before .before .before .before .before .args .n - c .before .before .before .before .before .before .before .before .before .before .before .next-candidate .result .node) = omega (arith, h) in (c .before .before .before .before .before .before .before .before .before .before .before .before .before .nodes .inv .0, searching-differs (givenOf (c .before .before .before .before .before .before .before .before .before .before .before .before .before .before .before .before .before .before .before .args .heads .now) (c .before .before .before .before .before .before .before .before .before .before .before .before .before .before .before .before .before .before .before .args .rows .now) (c .before .before .before .before .before .before .before .before .before .before .before .before .before .before .before .before .before .before .before .args .types) (c .before .before .before .before .before .before .before .before .before .before .before .before .before .before .before .before .before .before .before .args .book .now) (c .before .before .before .before .before .before .before .before .before .before .before .before .before .before .before .before .before .before .before .args .starts .now)) (c .before .before .before .before .before .before .before .before .before .before .before .before .before .before .before .before .before .before .before .args .w .now) (c .before .before .before .before .before .before .before .before .before .before .before .before .before .before .before .before .before .before .before .args .plan) (c .before .before .before .before .before .before .before .before .before .before .before .before .before .before .before .before .before .before .before .args .base) (c .before .before .before .before .before .before .before .before .before .before .before .before .before .before .before .before .before .before .before .args .n) (c .before .before .before .before .before .before .before .before .before .before .before .before .before .before .before .before .before .before .before .args .frame) (c .before .before .before .before .before .before .before .before .before .before .before .before .before .before .before .before .before .before .before .args .deep) (c .before .before .before .before .before .before .before .before .before .before .before .before .before .before .before .before .before .before .before .args .left) (c .before .before .before .before .before .before .before .before .before .before .before .before .before .before .before .before .before .before .before .pre .1 .0) (c .before .before .before .before .before .before .before .before .before .before .before .before .before .nodes .w) (c .before .before .before .before .before .before .before .before .before .before .before .next-candidate .result .left) (c .before .before .before .before .before .before .before .before .before .before .before .next-candidate .result .node) s (subst (λ x. c .before .before .before .before .before .before .before .before .before .before .before .next-candidate .result .node < x) (c .before .before .before .before .before .before .before .before .before .before .before .before .before .before .before .tried .ensures) (c .before .before .before .before .before .before .before .before .before .if1 .left)) (c .before .before .before .before .before .before .before .before .before .before .before .next-candidate .ensures .typed (c .before .before .before .before .before .before .before .before .before .if1 .left)) (c .before .before .before .before .before .before .before .if2 .left) (c .before .before .match-pattern .result) (take (c .before .before .before .before .before .before .before .before .before .before .before .before .before .before .before .before .before .before .before .args .frame .top) (c .before .before .before .before .before .before .before .before .before .before .before .before .before .nodes .w)) _ _ refl (ap (λ x. take x (drop (c .before .before .before .before .before .before .before .before .before .before .before .before .before .before .before .before .before .before .before .args .base + 2 * c .before .before .before .before .before .before .before .before .before .before .before .next-candidate .result .node) (take (c .before .before .before .before .before .before .before .before .before .before .before .before .before .before .before .before .before .before .before .args .frame .top) (c .before .before .before .before .before .before .before .before .before .before .before .before .before .nodes .w)))) z) (c .before .before .before .before .before .before .before .before .before .before .before .before .before .before .before .before .pairs-of .ensures .0) (answers-as (c .before .before .before .before .before .before .before .before .before .before .before .before .before .nodes .now) (c .before .before .before .before .before .before .before .before .before .before .before .before .before .before .before .before .before .before .before .args .frame) (c .before .before .before .before .before .before .before .before .before .before .before .before .before .nodes .inv .0) (c .before .before .match-pattern .ensures true)) (c .enum-told .given .1))
 
 pub seek-enum-known-verdict : (t : ℕ) → seek-lts.Need-enum-known-verdict (seek-claims t) (seek-at t) seek.Post seek-Inv-loop seek-μ-loop seek-Inv-nodes seek-μ-nodes
 seek-enum-known-verdict t c = search needs
@@ -118,22 +122,22 @@ pub seek-after-match-requires : (t : ℕ) → seek-lts.Need-after-match-requires
 seek-after-match-requires t c κs = search needs
 
 pub seek-loop-holds : (t : ℕ) → seek-lts.Need-loop-holds (seek-claims t) (seek-at t) seek.Post seek-Inv-loop seek-μ-loop seek-Inv-nodes seek-μ-nodes
-seek-loop-holds t c = let s = searching-next (givenOf (c .before .before .before .before .before .before .before .before .before .before .before .before .before .before .before .before .before .before .before .args .heads .now) (c .before .before .before .before .before .before .before .before .before .before .before .before .before .before .before .before .before .before .before .args .rows .now) (c .before .before .before .before .before .before .before .before .before .before .before .before .before .before .before .before .before .before .before .args .types) (c .before .before .before .before .before .before .before .before .before .before .before .before .before .before .before .before .before .before .before .args .book .now) (c .before .before .before .before .before .before .before .before .before .before .before .before .before .before .before .before .before .before .before .args .starts .now)) (c .before .before .before .before .before .before .before .before .before .before .before .before .before .before .before .before .before .before .before .args .w .now) (c .before .before .before .before .before .before .before .before .before .before .before .before .before .before .before .before .before .before .before .args .plan) (c .before .before .before .before .before .before .before .before .before .before .before .before .before .before .before .before .before .before .before .args .base) (c .before .before .before .before .before .before .before .before .before .before .before .before .before .before .before .before .before .before .before .args .n) (c .before .before .before .before .before .before .before .before .before .before .before .before .before .before .before .before .before .before .before .args .frame) (c .before .before .before .before .before .before .before .before .before .before .before .before .before .before .before .before .before .before .before .args .deep) (c .before .before .before .before .before .before .before .before .before .before .before .before .before .before .before .before .before .before .before .args .left) (c .before .before .before .before .before .before .before .before .before .before .before .before .before .before .before .before .before .before .before .pre .1 .0) (c .before .before .before .before .before .before .before .before .before .before .before .before .before .before .before .before .before .before .before .pre .1 .5) _ (c .before .before .before .before .before .before .before .before .before .before .before .before .before .before .before .before .pairs-of .ensures .0) (c .before .before .before .before .before .before .before .before .before .before .before .before .before .before .nodes .w) (c .before .before .before .before .before .before .before .before .before .before .before .before .before .before .nodes .fuel) (c .before .before .before .before .before .before .before .before .before .before .before .before .before .before .nodes .i) (c .before .before .before .before .before .before .before .before .before .before .before .before .before .before .nodes .inv .1) _ _ (c .before .before .before .before .before .before .before .before .before .before .before .before .before .before .before .tried .ensures) refl _ (c .before .before .before .before .before .before .before .before .before .before .before .before .next-candidate .ensures) in let h = tried-inside (c .before .before .before .before .before .before .before .before .before .before .before .before .before .before .before .before .before .before .before .args .plan .strategy) (c .before .before .before .before .before .before .before .before .before .before .before .before .before .before .before .before .before .before .before .args .n) (c .before .before .before .before .before .before .before .before .before .before .before .before .next-candidate .result .node) (c .before .before .before .before .before .before .before .before .before .before .before .before .before .before .before .tried .result) (c .before .before .before .before .before .before .before .before .before .before .before .before .before .before .before .tried .ensures) (c .before .before .before .before .before .before .before .before .before .before .if1 .left) in let z : c .before .before .before .before .before .before .before .before .before .before .before .before .before .before .before .before .before .before .before .args .base + 2 * c .before .before .before .before .before .before .before .before .before .before .before .before .before .before .before .before .before .before .before .args .n - (c .before .before .before .before .before .before .before .before .before .before .before .before .before .before .before .before .before .before .before .args .base + 2 * c .before .before .before .before .before .before .before .before .before .before .before .before .next-candidate .result .node) ≡ 2 * (c .before .before .before .before .before .before .before .before .before .before .before .before .before .before .before .before .before .before .before .args .n - c .before .before .before .before .before .before .before .before .before .before .before .before .next-candidate .result .node) = omega (arith, h) in let x = trying-grown (givenOf (c .before .before .before .before .before .before .before .before .before .before .before .before .before .before .before .before .before .before .before .args .heads .now) (c .before .before .before .before .before .before .before .before .before .before .before .before .before .before .before .before .before .before .before .args .rows .now) (c .before .before .before .before .before .before .before .before .before .before .before .before .before .before .before .before .before .before .before .args .types) (c .before .before .before .before .before .before .before .before .before .before .before .before .before .before .before .before .before .before .before .args .book .now) (c .before .before .before .before .before .before .before .before .before .before .before .before .before .before .before .before .before .before .before .args .starts .now)) (c .before .before .before .before .before .before .before .before .before .before .before .before .before .before .before .before .before .before .before .args .w .now) (c .before .before .before .before .before .before .before .before .before .before .before .before .before .before .before .before .before .before .before .args .plan) (c .before .before .before .before .before .before .before .before .before .before .before .before .before .before .before .before .before .before .before .args .base) (c .before .before .before .before .before .before .before .before .before .before .before .before .before .before .before .before .before .before .before .args .n) (c .before .before .before .before .before .before .before .before .before .before .before .before .before .before .before .before .before .before .before .args .frame) (c .before .before .before .before .before .before .before .before .before .before .before .before .before .before .before .before .before .before .before .args .deep) (c .before .before .before .before .before .before .before .before .before .before .before .before .before .before .before .before .before .before .before .args .left) (c .before .before .before .before .before .before .before .before .before .before .before .before .before .before .before .before .before .before .before .pre .1 .0) (c .before .before .before .before .before .before .before .before .before .before .before .before .before .before .nodes .w) (c .before .before .before .before .before .before .before .before .before .before .before .before .next-candidate .result .left) (c .before .before .before .before .before .before .before .before .before .before .before .before .next-candidate .result .node) s (subst (λ x. c .before .before .before .before .before .before .before .before .before .before .before .before .next-candidate .result .node < x) (c .before .before .before .before .before .before .before .before .before .before .before .before .before .before .before .tried .ensures) (c .before .before .before .before .before .before .before .before .before .before .if1 .left)) (c .before .before .before .before .before .before .before .before .before .before .before .before .next-candidate .ensures .typed (c .before .before .before .before .before .before .before .before .before .before .if1 .left)) (c .before .before .before .before .before .before .before .before .if2 .left) (c .before .before .before .match-pattern .result) (take (c .before .before .before .before .before .before .before .before .before .before .before .before .before .before .before .before .before .before .before .args .frame .top) (c .before .before .before .before .before .before .before .before .before .before .before .before .before .before .nodes .w)) _ _ refl (ap (λ x. take x (drop (c .before .before .before .before .before .before .before .before .before .before .before .before .before .before .before .before .before .before .before .args .base + 2 * c .before .before .before .before .before .before .before .before .before .before .before .before .next-candidate .result .node) (take (c .before .before .before .before .before .before .before .before .before .before .before .before .before .before .before .before .before .before .before .args .frame .top) (c .before .before .before .before .before .before .before .before .before .before .before .before .before .before .nodes .w)))) z) (c .before .before .before .before .before .before .before .before .before .before .before .before .before .before .before .before .pairs-of .ensures .0) (answers-as (c .before .before .before .before .before .before .before .before .before .before .before .before .before .before .nodes .now) (c .before .before .before .before .before .before .before .before .before .before .before .before .before .before .before .before .before .before .before .args .frame) (c .before .before .before .before .before .before .before .before .before .before .before .before .before .before .nodes .inv .0) (c .before .before .before .match-pattern .ensures true)) in (refl, rw (c .after-match .ensures) (parting-start (givenOf (c .before .before .before .before .before .before .before .before .before .before .before .before .before .before .before .before .before .before .before .args .heads .now) (c .before .before .before .before .before .before .before .before .before .before .before .before .before .before .before .before .before .before .before .args .rows .now) (c .before .before .before .before .before .before .before .before .before .before .before .before .before .before .before .before .before .before .before .args .types) (c .before .before .before .before .before .before .before .before .before .before .before .before .before .before .before .before .before .before .before .args .book .now) (c .before .before .before .before .before .before .before .before .before .before .before .before .before .before .before .before .before .before .before .args .starts .now)) (c .before .before .before .before .before .before .before .before .before .before .before .before .before .before .before .before .before .before .before .args .deep) (c .before .before .before .before .before .before .before .before .before .before .before .before .before .before .nodes .w) (spent (c .before .before .before .before .before .before .before .before .before .before .before .before .next-candidate .result .left)) (record { vars = c .before .before .before .match-pattern .result .vars; live = c .before .before .before .match-pattern .result .live; top = c .before .before .before .before .before .before .before .before .before .before .before .before .before .before .before .before .before .before .before .args .frame .top }) (c .before .before .before .before .before .before .before .before .before .before .before .before .before .before .before .before .before .before .before .args .plan .first) (c .before .before .before .before .before .before .before .before .before .before .before .before .before .before .before .before .before .before .before .args .plan .count) (x .sound) (x .few) (x .low)))
+seek-loop-holds t c = let s = searching-next (givenOf (c .before .before .before .before .before .before .before .before .before .before .before .before .before .before .before .before .before .before .before .before .args .heads .now) (c .before .before .before .before .before .before .before .before .before .before .before .before .before .before .before .before .before .before .before .before .args .rows .now) (c .before .before .before .before .before .before .before .before .before .before .before .before .before .before .before .before .before .before .before .before .args .types) (c .before .before .before .before .before .before .before .before .before .before .before .before .before .before .before .before .before .before .before .before .args .book .now) (c .before .before .before .before .before .before .before .before .before .before .before .before .before .before .before .before .before .before .before .before .args .starts .now)) (c .before .before .before .before .before .before .before .before .before .before .before .before .before .before .before .before .before .before .before .before .args .w .now) (c .before .before .before .before .before .before .before .before .before .before .before .before .before .before .before .before .before .before .before .before .args .plan) (c .before .before .before .before .before .before .before .before .before .before .before .before .before .before .before .before .before .before .before .before .args .base) (c .before .before .before .before .before .before .before .before .before .before .before .before .before .before .before .before .before .before .before .before .args .n) (c .before .before .before .before .before .before .before .before .before .before .before .before .before .before .before .before .before .before .before .before .args .frame) (c .before .before .before .before .before .before .before .before .before .before .before .before .before .before .before .before .before .before .before .before .args .deep) (c .before .before .before .before .before .before .before .before .before .before .before .before .before .before .before .before .before .before .before .before .args .left) (c .before .before .before .before .before .before .before .before .before .before .before .before .before .before .before .before .before .before .before .before .pre .1 .0) (c .before .before .before .before .before .before .before .before .before .before .before .before .before .before .before .before .before .before .before .before .pre .1 .5) _ (c .before .before .before .before .before .before .before .before .before .before .before .before .before .before .before .before .before .pairs-of .ensures .0) (c .before .before .before .before .before .before .before .before .before .before .before .before .before .before .nodes .w) (c .before .before .before .before .before .before .before .before .before .before .before .before .before .before .nodes .fuel) (c .before .before .before .before .before .before .before .before .before .before .before .before .before .before .nodes .i) (c .before .before .before .before .before .before .before .before .before .before .before .before .before .before .nodes .inv .1) _ _ (c .before .before .before .before .before .before .before .before .before .before .before .before .before .before .before .before .tried .ensures) refl _ (c .before .before .before .before .before .before .before .before .before .before .before .before .next-candidate .ensures) in let h = tried-inside (c .before .before .before .before .before .before .before .before .before .before .before .before .before .before .before .before .before .before .before .before .args .plan .strategy) (c .before .before .before .before .before .before .before .before .before .before .before .before .before .before .before .before .before .before .before .before .args .n) (c .before .before .before .before .before .before .before .before .before .before .before .before .next-candidate .result .node) (c .before .before .before .before .before .before .before .before .before .before .before .before .before .before .before .before .tried .result) (c .before .before .before .before .before .before .before .before .before .before .before .before .before .before .before .before .tried .ensures) (c .before .before .before .before .before .before .before .before .before .before .if1 .left) in let z : c .before .before .before .before .before .before .before .before .before .before .before .before .before .before .before .before .before .before .before .before .args .base + 2 * c .before .before .before .before .before .before .before .before .before .before .before .before .before .before .before .before .before .before .before .before .args .n - (c .before .before .before .before .before .before .before .before .before .before .before .before .before .before .before .before .before .before .before .before .args .base + 2 * c .before .before .before .before .before .before .before .before .before .before .before .before .next-candidate .result .node) ≡ 2 * (c .before .before .before .before .before .before .before .before .before .before .before .before .before .before .before .before .before .before .before .before .args .n - c .before .before .before .before .before .before .before .before .before .before .before .before .next-candidate .result .node) = omega (arith, h) in let x = trying-grown (givenOf (c .before .before .before .before .before .before .before .before .before .before .before .before .before .before .before .before .before .before .before .before .args .heads .now) (c .before .before .before .before .before .before .before .before .before .before .before .before .before .before .before .before .before .before .before .before .args .rows .now) (c .before .before .before .before .before .before .before .before .before .before .before .before .before .before .before .before .before .before .before .before .args .types) (c .before .before .before .before .before .before .before .before .before .before .before .before .before .before .before .before .before .before .before .before .args .book .now) (c .before .before .before .before .before .before .before .before .before .before .before .before .before .before .before .before .before .before .before .before .args .starts .now)) (c .before .before .before .before .before .before .before .before .before .before .before .before .before .before .before .before .before .before .before .before .args .w .now) (c .before .before .before .before .before .before .before .before .before .before .before .before .before .before .before .before .before .before .before .before .args .plan) (c .before .before .before .before .before .before .before .before .before .before .before .before .before .before .before .before .before .before .before .before .args .base) (c .before .before .before .before .before .before .before .before .before .before .before .before .before .before .before .before .before .before .before .before .args .n) (c .before .before .before .before .before .before .before .before .before .before .before .before .before .before .before .before .before .before .before .before .args .frame) (c .before .before .before .before .before .before .before .before .before .before .before .before .before .before .before .before .before .before .before .before .args .deep) (c .before .before .before .before .before .before .before .before .before .before .before .before .before .before .before .before .before .before .before .before .args .left) (c .before .before .before .before .before .before .before .before .before .before .before .before .before .before .before .before .before .before .before .before .pre .1 .0) (c .before .before .before .before .before .before .before .before .before .before .before .before .before .before .nodes .w) (c .before .before .before .before .before .before .before .before .before .before .before .before .next-candidate .result .left) (c .before .before .before .before .before .before .before .before .before .before .before .before .next-candidate .result .node) s (subst (λ x. c .before .before .before .before .before .before .before .before .before .before .before .before .next-candidate .result .node < x) (c .before .before .before .before .before .before .before .before .before .before .before .before .before .before .before .before .tried .ensures) (c .before .before .before .before .before .before .before .before .before .before .if1 .left)) (c .before .before .before .before .before .before .before .before .before .before .before .before .next-candidate .ensures .typed (c .before .before .before .before .before .before .before .before .before .before .if1 .left)) (c .before .before .before .before .before .before .before .before .if2 .left) (c .before .before .before .match-pattern .result) (take (c .before .before .before .before .before .before .before .before .before .before .before .before .before .before .before .before .before .before .before .before .args .frame .top) (c .before .before .before .before .before .before .before .before .before .before .before .before .before .before .nodes .w)) _ _ refl (ap (λ x. take x (drop (c .before .before .before .before .before .before .before .before .before .before .before .before .before .before .before .before .before .before .before .before .args .base + 2 * c .before .before .before .before .before .before .before .before .before .before .before .before .next-candidate .result .node) (take (c .before .before .before .before .before .before .before .before .before .before .before .before .before .before .before .before .before .before .before .before .args .frame .top) (c .before .before .before .before .before .before .before .before .before .before .before .before .before .before .nodes .w)))) z) (c .before .before .before .before .before .before .before .before .before .before .before .before .before .before .before .before .before .pairs-of .ensures .0) (answers-as (c .before .before .before .before .before .before .before .before .before .before .before .before .before .before .nodes .now) (c .before .before .before .before .before .before .before .before .before .before .before .before .before .before .before .before .before .before .before .before .args .frame) (c .before .before .before .before .before .before .before .before .before .before .before .before .before .before .nodes .inv .0) (c .before .before .before .match-pattern .ensures true)) in (refl, rw (c .after-match .ensures) (parting-start (givenOf (c .before .before .before .before .before .before .before .before .before .before .before .before .before .before .before .before .before .before .before .before .args .heads .now) (c .before .before .before .before .before .before .before .before .before .before .before .before .before .before .before .before .before .before .before .before .args .rows .now) (c .before .before .before .before .before .before .before .before .before .before .before .before .before .before .before .before .before .before .before .before .args .types) (c .before .before .before .before .before .before .before .before .before .before .before .before .before .before .before .before .before .before .before .before .args .book .now) (c .before .before .before .before .before .before .before .before .before .before .before .before .before .before .before .before .before .before .before .before .args .starts .now)) (c .before .before .before .before .before .before .before .before .before .before .before .before .before .before .before .before .before .before .before .before .args .deep) (c .before .before .before .before .before .before .before .before .before .before .before .before .before .before .nodes .w) (spent (c .before .before .before .before .before .before .before .before .before .before .before .before .next-candidate .result .left)) (record { vars = c .before .before .before .match-pattern .result .vars; live = c .before .before .before .match-pattern .result .live; top = c .before .before .before .before .before .before .before .before .before .before .before .before .before .before .before .before .before .before .before .before .args .frame .top }) (c .before .before .before .before .before .before .before .before .before .before .before .before .before .before .before .before .before .before .before .before .args .plan .first) (c .before .before .before .before .before .before .before .before .before .before .before .before .before .before .before .before .before .before .before .before .args .plan .count) (x .sound) (x .few) (x .low)))
 
 pub seek-step-requires : (t : ℕ) → seek-lts.Need-step-requires (seek-claims t) (seek-at t) seek.Post seek-Inv-loop seek-μ-loop seek-Inv-nodes seek-μ-nodes
-seek-step-requires t c κs = (omega (arith, c .before .before .before .before .before .before .before .before .before .before .before .before .before .before .before .before .before .before .before .before .before .before .pre .0), (record { sound = (c .before .before .loop .inv .1 .grown) .sound; few = (c .before .before .loop .inv .1 .grown) .few; low = (c .before .before .loop .inv .1 .grown) .low; long = omega (arith, c .before .before .loop .inv .1 .long, c .before .before .before .before .before .before .before .before .before .before .before .before .before .before .before .before .before .nodes .inv .1 .long, c .before .before .before .before .before .before .before .before .before .before .before .before .before .before .before .before .before .before .before .before .before .before .pre .1 .0 .long) }, c .before .before .before .before .before .before .before .before .before .before .before .before .before .before .before .before .before .before .before .before .before .before .pre .1 .1))
+seek-step-requires t c κs = (omega (arith, c .before .before .before .before .before .before .before .before .before .before .before .before .before .before .before .before .before .before .before .before .before .before .before .pre .0), (record { sound = (c .before .before .loop .inv .1 .grown) .sound; few = (c .before .before .loop .inv .1 .grown) .few; low = (c .before .before .loop .inv .1 .grown) .low; long = omega (arith, c .before .before .loop .inv .1 .long, c .before .before .before .before .before .before .before .before .before .before .before .before .before .before .before .before .before .nodes .inv .1 .long, c .before .before .before .before .before .before .before .before .before .before .before .before .before .before .before .before .before .before .before .before .before .before .before .pre .1 .0 .long) }, c .before .before .before .before .before .before .before .before .before .before .before .before .before .before .before .before .before .before .before .before .before .before .before .pre .1 .1))
 
 pub seek-enum-told-3 : (t : ℕ) → seek-lts.Need-enum-told-3 (seek-claims t) (seek-at t) seek.Post seek-Inv-loop seek-μ-loop seek-Inv-nodes seek-μ-nodes
 seek-enum-told-3 t c = search needs
 
 pub seek-add-i-2 : (t : ℕ) → seek-lts.Need-add-i-2 (seek-claims t) (seek-at t) seek.Post seek-Inv-loop seek-μ-loop seek-Inv-nodes seek-μ-nodes
-seek-add-i-2 t c = let s = searching-next (givenOf (c .before .before .before .before .before .before .before .before .before .before .before .before .before .before .before .before .before .before .before .before .before .before .before .before .before .before .before .before .before .args .heads .now) (c .before .before .before .before .before .before .before .before .before .before .before .before .before .before .before .before .before .before .before .before .before .before .before .before .before .before .before .before .before .args .rows .now) (c .before .before .before .before .before .before .before .before .before .before .before .before .before .before .before .before .before .before .before .before .before .before .before .before .before .before .before .before .before .args .types) (c .before .before .before .before .before .before .before .before .before .before .before .before .before .before .before .before .before .before .before .before .before .before .before .before .before .before .before .before .before .args .book .now) (c .before .before .before .before .before .before .before .before .before .before .before .before .before .before .before .before .before .before .before .before .before .before .before .before .before .before .before .before .before .args .starts .now)) (c .before .before .before .before .before .before .before .before .before .before .before .before .before .before .before .before .before .before .before .before .before .before .before .before .before .before .before .before .before .args .w .now) (c .before .before .before .before .before .before .before .before .before .before .before .before .before .before .before .before .before .before .before .before .before .before .before .before .before .before .before .before .before .args .plan) (c .before .before .before .before .before .before .before .before .before .before .before .before .before .before .before .before .before .before .before .before .before .before .before .before .before .before .before .before .before .args .base) (c .before .before .before .before .before .before .before .before .before .before .before .before .before .before .before .before .before .before .before .before .before .before .before .before .before .before .before .before .before .args .n) (c .before .before .before .before .before .before .before .before .before .before .before .before .before .before .before .before .before .before .before .before .before .before .before .before .before .before .before .before .before .args .frame) (c .before .before .before .before .before .before .before .before .before .before .before .before .before .before .before .before .before .before .before .before .before .before .before .before .before .before .before .before .before .args .deep) (c .before .before .before .before .before .before .before .before .before .before .before .before .before .before .before .before .before .before .before .before .before .before .before .before .before .before .before .before .before .args .left) (c .before .before .before .before .before .before .before .before .before .before .before .before .before .before .before .before .before .before .before .before .before .before .before .before .before .before .before .before .before .pre .1 .0) (c .before .before .before .before .before .before .before .before .before .before .before .before .before .before .before .before .before .before .before .before .before .before .before .before .before .before .before .before .before .pre .1 .5) _ (c .before .before .before .before .before .before .before .before .before .before .before .before .before .before .before .before .before .before .before .before .before .before .before .before .before .before .pairs-of .ensures .0) (c .before .before .before .before .before .before .before .before .before .before .before .before .before .before .before .before .before .before .before .before .before .before .before .before .nodes .w) (c .before .before .before .before .before .before .before .before .before .before .before .before .before .before .before .before .before .before .before .before .before .before .before .before .nodes .fuel) (c .before .before .before .before .before .before .before .before .before .before .before .before .before .before .before .before .before .before .before .before .before .before .before .before .nodes .i) (c .before .before .before .before .before .before .before .before .before .before .before .before .before .before .before .before .before .before .before .before .before .before .before .before .nodes .inv .1) _ _ (c .before .before .before .before .before .before .before .before .before .before .before .before .before .before .before .before .before .before .before .before .before .before .before .before .before .tried .ensures) refl _ (c .before .before .before .before .before .before .before .before .before .before .before .before .before .before .before .before .before .before .before .before .before .before .next-candidate .ensures) in let h = tried-inside (c .before .before .before .before .before .before .before .before .before .before .before .before .before .before .before .before .before .before .before .before .before .before .before .before .before .before .before .before .before .args .plan .strategy) (c .before .before .before .before .before .before .before .before .before .before .before .before .before .before .before .before .before .before .before .before .before .before .before .before .before .before .before .before .before .args .n) (c .before .before .before .before .before .before .before .before .before .before .before .before .before .before .before .before .before .before .before .before .before .before .next-candidate .result .node) (c .before .before .before .before .before .before .before .before .before .before .before .before .before .before .before .before .before .before .before .before .before .before .before .before .before .tried .result) (c .before .before .before .before .before .before .before .before .before .before .before .before .before .before .before .before .before .before .before .before .before .before .before .before .before .tried .ensures) (c .before .before .before .before .before .before .before .before .before .before .before .before .before .before .before .before .before .before .before .before .if1 .left) in omega (arith, h, c .before .before .before .before .before .before .before .before .before .loop .inv .0, c .before .before .before .before .before .before .before .before .before .before .before .before .before .before .before .before .before .before .before .before .before .before .before .before .before .before .before .before .before .pre .1 .0 .low, c .before .before .before .before .before .before .before .before .before .before .before .before .before .before .before .before .before .before .before .before .before .before .before .before .before .before .before .before .before .pre .1 .0 .few, c .before .before .before .before .before .before .before .before .before .before .before .before .before .before .before .before .before .before .before .before .before .before .before .before .before .before .before .before .before .pre .1 .0 .long, c .before .before .before .before .before .before .before .before .before .before .before .before .before .before .before .before .before .before .before .before .before .before .before .before .before .before .before .before .before .pre .1 .3, c .before .before .before .before .before .before .before .before .before .before .before .before .before .before .before .before .before .before .before .before .before .before .before .before .before .before .before .before .before .pre .1 .4, s .within, c .before .before .before .before .before .before .before .before .before .before .before .before .before .before .before .before .before .before .before .before .before .before .before .before .nodes .inv .1 .long)
+seek-add-i-2 t c = let s = searching-next (givenOf (c .before .before .before .before .before .before .before .before .before .before .before .before .before .before .before .before .before .before .before .before .before .before .before .before .before .before .before .before .before .before .args .heads .now) (c .before .before .before .before .before .before .before .before .before .before .before .before .before .before .before .before .before .before .before .before .before .before .before .before .before .before .before .before .before .before .args .rows .now) (c .before .before .before .before .before .before .before .before .before .before .before .before .before .before .before .before .before .before .before .before .before .before .before .before .before .before .before .before .before .before .args .types) (c .before .before .before .before .before .before .before .before .before .before .before .before .before .before .before .before .before .before .before .before .before .before .before .before .before .before .before .before .before .before .args .book .now) (c .before .before .before .before .before .before .before .before .before .before .before .before .before .before .before .before .before .before .before .before .before .before .before .before .before .before .before .before .before .before .args .starts .now)) (c .before .before .before .before .before .before .before .before .before .before .before .before .before .before .before .before .before .before .before .before .before .before .before .before .before .before .before .before .before .before .args .w .now) (c .before .before .before .before .before .before .before .before .before .before .before .before .before .before .before .before .before .before .before .before .before .before .before .before .before .before .before .before .before .before .args .plan) (c .before .before .before .before .before .before .before .before .before .before .before .before .before .before .before .before .before .before .before .before .before .before .before .before .before .before .before .before .before .before .args .base) (c .before .before .before .before .before .before .before .before .before .before .before .before .before .before .before .before .before .before .before .before .before .before .before .before .before .before .before .before .before .before .args .n) (c .before .before .before .before .before .before .before .before .before .before .before .before .before .before .before .before .before .before .before .before .before .before .before .before .before .before .before .before .before .before .args .frame) (c .before .before .before .before .before .before .before .before .before .before .before .before .before .before .before .before .before .before .before .before .before .before .before .before .before .before .before .before .before .before .args .deep) (c .before .before .before .before .before .before .before .before .before .before .before .before .before .before .before .before .before .before .before .before .before .before .before .before .before .before .before .before .before .before .args .left) (c .before .before .before .before .before .before .before .before .before .before .before .before .before .before .before .before .before .before .before .before .before .before .before .before .before .before .before .before .before .before .pre .1 .0) (c .before .before .before .before .before .before .before .before .before .before .before .before .before .before .before .before .before .before .before .before .before .before .before .before .before .before .before .before .before .before .pre .1 .5) _ (c .before .before .before .before .before .before .before .before .before .before .before .before .before .before .before .before .before .before .before .before .before .before .before .before .before .before .before .pairs-of .ensures .0) (c .before .before .before .before .before .before .before .before .before .before .before .before .before .before .before .before .before .before .before .before .before .before .before .before .nodes .w) (c .before .before .before .before .before .before .before .before .before .before .before .before .before .before .before .before .before .before .before .before .before .before .before .before .nodes .fuel) (c .before .before .before .before .before .before .before .before .before .before .before .before .before .before .before .before .before .before .before .before .before .before .before .before .nodes .i) (c .before .before .before .before .before .before .before .before .before .before .before .before .before .before .before .before .before .before .before .before .before .before .before .before .nodes .inv .1) _ _ (c .before .before .before .before .before .before .before .before .before .before .before .before .before .before .before .before .before .before .before .before .before .before .before .before .before .before .tried .ensures) refl _ (c .before .before .before .before .before .before .before .before .before .before .before .before .before .before .before .before .before .before .before .before .before .before .next-candidate .ensures) in let h = tried-inside (c .before .before .before .before .before .before .before .before .before .before .before .before .before .before .before .before .before .before .before .before .before .before .before .before .before .before .before .before .before .before .args .plan .strategy) (c .before .before .before .before .before .before .before .before .before .before .before .before .before .before .before .before .before .before .before .before .before .before .before .before .before .before .before .before .before .before .args .n) (c .before .before .before .before .before .before .before .before .before .before .before .before .before .before .before .before .before .before .before .before .before .before .next-candidate .result .node) (c .before .before .before .before .before .before .before .before .before .before .before .before .before .before .before .before .before .before .before .before .before .before .before .before .before .before .tried .result) (c .before .before .before .before .before .before .before .before .before .before .before .before .before .before .before .before .before .before .before .before .before .before .before .before .before .before .tried .ensures) (c .before .before .before .before .before .before .before .before .before .before .before .before .before .before .before .before .before .before .before .before .if1 .left) in omega (arith, h, c .before .before .before .before .before .before .before .before .before .loop .inv .0, c .before .before .before .before .before .before .before .before .before .before .before .before .before .before .before .before .before .before .before .before .before .before .before .before .before .before .before .before .before .before .pre .1 .0 .low, c .before .before .before .before .before .before .before .before .before .before .before .before .before .before .before .before .before .before .before .before .before .before .before .before .before .before .before .before .before .before .pre .1 .0 .few, c .before .before .before .before .before .before .before .before .before .before .before .before .before .before .before .before .before .before .before .before .before .before .before .before .before .before .before .before .before .before .pre .1 .0 .long, c .before .before .before .before .before .before .before .before .before .before .before .before .before .before .before .before .before .before .before .before .before .before .before .before .before .before .before .before .before .before .pre .1 .3, c .before .before .before .before .before .before .before .before .before .before .before .before .before .before .before .before .before .before .before .before .before .before .before .before .before .before .before .before .before .before .pre .1 .4, s .within, c .before .before .before .before .before .before .before .before .before .before .before .before .before .before .before .before .before .before .before .before .before .before .before .before .nodes .inv .1 .long)
 
 pub seek-nodes-less-2 : (t : ℕ) → seek-lts.Need-nodes-less-2 (seek-claims t) (seek-at t) seek.Post seek-Inv-loop seek-μ-loop seek-Inv-nodes seek-μ-nodes
-seek-nodes-less-2 t c = let h = tried-inside (c .before .before .before .before .before .before .before .before .before .before .before .before .before .before .before .before .before .before .before .before .before .before .before .before .before .before .before .before .before .args .plan .strategy) (c .before .before .before .before .before .before .before .before .before .before .before .before .before .before .before .before .before .before .before .before .before .before .before .before .before .before .before .before .before .args .n) (c .before .before .before .before .before .before .before .before .before .before .before .before .before .before .before .before .before .before .before .before .before .before .next-candidate .result .node) (c .before .before .before .before .before .before .before .before .before .before .before .before .before .before .before .before .before .before .before .before .before .before .before .before .before .tried .result) (c .before .before .before .before .before .before .before .before .before .before .before .before .before .before .before .before .before .before .before .before .before .before .before .before .before .tried .ensures) (c .before .before .before .before .before .before .before .before .before .before .before .before .before .before .before .before .before .before .before .before .if1 .left) in omega (arith, h, c .before .before .before .before .before .before .before .before .before .before .before .before .before .before .before .before .before .before .before .before .before .before .next-candidate .ensures .node-is, c .before .before .before .before .before .before .before .before .before .loop .inv .0)
+seek-nodes-less-2 t c = let h = tried-inside (c .before .before .before .before .before .before .before .before .before .before .before .before .before .before .before .before .before .before .before .before .before .before .before .before .before .before .before .before .before .before .args .plan .strategy) (c .before .before .before .before .before .before .before .before .before .before .before .before .before .before .before .before .before .before .before .before .before .before .before .before .before .before .before .before .before .before .args .n) (c .before .before .before .before .before .before .before .before .before .before .before .before .before .before .before .before .before .before .before .before .before .before .next-candidate .result .node) (c .before .before .before .before .before .before .before .before .before .before .before .before .before .before .before .before .before .before .before .before .before .before .before .before .before .before .tried .result) (c .before .before .before .before .before .before .before .before .before .before .before .before .before .before .before .before .before .before .before .before .before .before .before .before .before .before .tried .ensures) (c .before .before .before .before .before .before .before .before .before .before .before .before .before .before .before .before .before .before .before .before .if1 .left) in omega (arith, h, c .before .before .before .before .before .before .before .before .before .before .before .before .before .before .before .before .before .before .before .before .before .before .next-candidate .ensures .node-is, c .before .before .before .before .before .before .before .before .before .loop .inv .0)
 
 pub seek-nodes-again-2 : (t : ℕ) → seek-lts.Need-nodes-again-2 (seek-claims t) (seek-at t) seek.Post seek-Inv-loop seek-μ-loop seek-Inv-nodes seek-μ-nodes
-seek-nodes-again-2 t c = let s = searching-next (givenOf (c .before .before .before .before .before .before .before .before .before .before .before .before .before .before .before .before .before .before .before .before .before .before .before .before .before .before .before .before .before .args .heads .now) (c .before .before .before .before .before .before .before .before .before .before .before .before .before .before .before .before .before .before .before .before .before .before .before .before .before .before .before .before .before .args .rows .now) (c .before .before .before .before .before .before .before .before .before .before .before .before .before .before .before .before .before .before .before .before .before .before .before .before .before .before .before .before .before .args .types) (c .before .before .before .before .before .before .before .before .before .before .before .before .before .before .before .before .before .before .before .before .before .before .before .before .before .before .before .before .before .args .book .now) (c .before .before .before .before .before .before .before .before .before .before .before .before .before .before .before .before .before .before .before .before .before .before .before .before .before .before .before .before .before .args .starts .now)) (c .before .before .before .before .before .before .before .before .before .before .before .before .before .before .before .before .before .before .before .before .before .before .before .before .before .before .before .before .before .args .w .now) (c .before .before .before .before .before .before .before .before .before .before .before .before .before .before .before .before .before .before .before .before .before .before .before .before .before .before .before .before .before .args .plan) (c .before .before .before .before .before .before .before .before .before .before .before .before .before .before .before .before .before .before .before .before .before .before .before .before .before .before .before .before .before .args .base) (c .before .before .before .before .before .before .before .before .before .before .before .before .before .before .before .before .before .before .before .before .before .before .before .before .before .before .before .before .before .args .n) (c .before .before .before .before .before .before .before .before .before .before .before .before .before .before .before .before .before .before .before .before .before .before .before .before .before .before .before .before .before .args .frame) (c .before .before .before .before .before .before .before .before .before .before .before .before .before .before .before .before .before .before .before .before .before .before .before .before .before .before .before .before .before .args .deep) (c .before .before .before .before .before .before .before .before .before .before .before .before .before .before .before .before .before .before .before .before .before .before .before .before .before .before .before .before .before .args .left) (c .before .before .before .before .before .before .before .before .before .before .before .before .before .before .before .before .before .before .before .before .before .before .before .before .before .before .before .before .before .pre .1 .0) (c .before .before .before .before .before .before .before .before .before .before .before .before .before .before .before .before .before .before .before .before .before .before .before .before .before .before .before .before .before .pre .1 .5) _ (c .before .before .before .before .before .before .before .before .before .before .before .before .before .before .before .before .before .before .before .before .before .before .before .before .before .before .pairs-of .ensures .0) (c .before .before .before .before .before .before .before .before .before .before .before .before .before .before .before .before .before .before .before .before .before .before .before .before .nodes .w) (c .before .before .before .before .before .before .before .before .before .before .before .before .before .before .before .before .before .before .before .before .before .before .before .before .nodes .fuel) (c .before .before .before .before .before .before .before .before .before .before .before .before .before .before .before .before .before .before .before .before .before .before .before .before .nodes .i) (c .before .before .before .before .before .before .before .before .before .before .before .before .before .before .before .before .before .before .before .before .before .before .before .before .nodes .inv .1) _ _ (c .before .before .before .before .before .before .before .before .before .before .before .before .before .before .before .before .before .before .before .before .before .before .before .before .before .tried .ensures) refl _ (c .before .before .before .before .before .before .before .before .before .before .before .before .before .before .before .before .before .before .before .before .before .before .next-candidate .ensures) in let h = tried-inside (c .before .before .before .before .before .before .before .before .before .before .before .before .before .before .before .before .before .before .before .before .before .before .before .before .before .before .before .before .before .args .plan .strategy) (c .before .before .before .before .before .before .before .before .before .before .before .before .before .before .before .before .before .before .before .before .before .before .before .before .before .before .before .before .before .args .n) (c .before .before .before .before .before .before .before .before .before .before .before .before .before .before .before .before .before .before .before .before .before .before .next-candidate .result .node) (c .before .before .before .before .before .before .before .before .before .before .before .before .before .before .before .before .before .before .before .before .before .before .before .before .before .tried .result) (c .before .before .before .before .before .before .before .before .before .before .before .before .before .before .before .before .before .before .before .before .before .before .before .before .before .tried .ensures) (c .before .before .before .before .before .before .before .before .before .before .before .before .before .before .before .before .before .before .before .before .if1 .left) in let z : c .before .before .before .before .before .before .before .before .before .before .before .before .before .before .before .before .before .before .before .before .before .before .before .before .before .before .before .before .before .args .base + 2 * c .before .before .before .before .before .before .before .before .before .before .before .before .before .before .before .before .before .before .before .before .before .before .before .before .before .before .before .before .before .args .n - (c .before .before .before .before .before .before .before .before .before .before .before .before .before .before .before .before .before .before .before .before .before .before .before .before .before .before .before .before .before .args .base + 2 * c .before .before .before .before .before .before .before .before .before .before .before .before .before .before .before .before .before .before .before .before .before .before .next-candidate .result .node) ≡ 2 * (c .before .before .before .before .before .before .before .before .before .before .before .before .before .before .before .before .before .before .before .before .before .before .before .before .before .before .before .before .before .args .n - c .before .before .before .before .before .before .before .before .before .before .before .before .before .before .before .before .before .before .before .before .before .before .next-candidate .result .node) = omega (arith, h) in (refl, rw (c .before .before .before .before .before .before .before .before .before .loop .inv .0) (trying-differs (givenOf (c .before .before .before .before .before .before .before .before .before .before .before .before .before .before .before .before .before .before .before .before .before .before .before .before .before .before .before .before .before .args .heads .now) (c .before .before .before .before .before .before .before .before .before .before .before .before .before .before .before .before .before .before .before .before .before .before .before .before .before .before .before .before .before .args .rows .now) (c .before .before .before .before .before .before .before .before .before .before .before .before .before .before .before .before .before .before .before .before .before .before .before .before .before .before .before .before .before .args .types) (c .before .before .before .before .before .before .before .before .before .before .before .before .before .before .before .before .before .before .before .before .before .before .before .before .before .before .before .before .before .args .book .now) (c .before .before .before .before .before .before .before .before .before .before .before .before .before .before .before .before .before .before .before .before .before .before .before .before .before .before .before .before .before .args .starts .now)) (c .before .before .before .before .before .before .before .before .before .before .before .before .before .before .before .before .before .before .before .before .before .before .before .before .before .before .before .before .before .args .w .now) (c .before .before .before .before .before .before .before .before .before .before .before .before .before .before .before .before .before .before .before .before .before .before .before .before .before .before .before .before .before .args .plan) (c .before .before .before .before .before .before .before .before .before .before .before .before .before .before .before .before .before .before .before .before .before .before .before .before .before .before .before .before .before .args .base) (c .before .before .before .before .before .before .before .before .before .before .before .before .before .before .before .before .before .before .before .before .before .before .before .before .before .before .before .before .before .args .n) (c .before .before .before .before .before .before .before .before .before .before .before .before .before .before .before .before .before .before .before .before .before .before .before .before .before .before .before .before .before .args .frame) (c .before .before .before .before .before .before .before .before .before .before .before .before .before .before .before .before .before .before .before .before .before .before .before .before .before .before .before .before .before .args .deep) (c .before .before .before .before .before .before .before .before .before .before .before .before .before .before .before .before .before .before .before .before .before .before .before .before .before .before .before .before .before .args .left) (c .before .before .before .before .before .before .before .before .before .before .before .before .before .before .before .before .before .before .before .before .before .before .before .before .before .before .before .before .before .pre .1 .0) (c .before .before .before .before .before .before .before .before .before .before .before .before .before .before .before .before .before .before .before .before .before .before .before .before .nodes .w) (c .before .before .before .before .before .before .before .before .before .before .before .before .before .before .before .before .before .before .before .before .before .before .next-candidate .result .left) (c .before .before .before .before .before .before .before .before .before .before .before .before .before .before .before .before .before .before .before .before .before .before .next-candidate .result .node) s (subst (λ x. c .before .before .before .before .before .before .before .before .before .before .before .before .before .before .before .before .before .before .before .before .before .before .next-candidate .result .node < x) (c .before .before .before .before .before .before .before .before .before .before .before .before .before .before .before .before .before .before .before .before .before .before .before .before .before .tried .ensures) (c .before .before .before .before .before .before .before .before .before .before .before .before .before .before .before .before .before .before .before .before .if1 .left)) (c .before .before .before .before .before .before .before .before .before .before .before .before .before .before .before .before .before .before .before .before .before .before .next-candidate .ensures .typed (c .before .before .before .before .before .before .before .before .before .before .before .before .before .before .before .before .before .before .before .before .if1 .left)) (c .before .before .before .before .before .before .before .before .before .before .before .before .before .before .before .before .before .before .if2 .left) (c .before .before .before .before .before .before .before .before .before .before .before .before .before .match-pattern .result) (take (c .before .before .before .before .before .before .before .before .before .before .before .before .before .before .before .before .before .before .before .before .before .before .before .before .before .before .before .before .before .args .frame .top) (c .before .before .before .before .before .before .before .before .before .before .before .before .before .before .before .before .before .before .before .before .before .before .before .before .nodes .w)) _ _ refl (ap (λ x. take x (drop (c .before .before .before .before .before .before .before .before .before .before .before .before .before .before .before .before .before .before .before .before .before .before .before .before .before .before .before .before .before .args .base + 2 * c .before .before .before .before .before .before .before .before .before .before .before .before .before .before .before .before .before .before .before .before .before .before .next-candidate .result .node) (take (c .before .before .before .before .before .before .before .before .before .before .before .before .before .before .before .before .before .before .before .before .before .before .before .before .before .before .before .before .before .args .frame .top) (c .before .before .before .before .before .before .before .before .before .before .before .before .before .before .before .before .before .before .before .before .before .before .before .before .nodes .w)))) z) (c .before .before .before .before .before .before .before .before .before .before .before .before .before .before .before .before .before .before .before .before .before .before .before .before .before .before .pairs-of .ensures .0) (answers-as (c .before .before .before .before .before .before .before .before .before .before .before .before .before .before .before .before .before .before .before .before .before .before .before .before .nodes .now) (c .before .before .before .before .before .before .before .before .before .before .before .before .before .before .before .before .before .before .before .before .before .before .before .before .before .before .before .before .before .args .frame) (c .before .before .before .before .before .before .before .before .before .before .before .before .before .before .before .before .before .before .before .before .before .before .before .before .nodes .inv .0) (c .before .before .before .before .before .before .before .before .before .before .before .before .before .match-pattern .ensures true)) (c .before .before .before .before .before .before .before .before .before .loop .w) (c .before .before .before .before .before .before .before .before .before .loop .fuel) (c .before .before .before .before .before .before .before .before .before .loop .now) (c .before .before .before .before .before .before .before .before .before .loop .at) (c .before .before .before .before .before .before .before .before .before .loop .k) (trying-run (givenOf (c .before .before .before .before .before .before .before .before .before .before .before .before .before .before .before .before .before .before .before .before .before .before .before .before .before .before .before .before .before .args .heads .now) (c .before .before .before .before .before .before .before .before .before .before .before .before .before .before .before .before .before .before .before .before .before .before .before .before .before .before .before .before .before .args .rows .now) (c .before .before .before .before .before .before .before .before .before .before .before .before .before .before .before .before .before .before .before .before .before .before .before .before .before .before .before .before .before .args .types) (c .before .before .before .before .before .before .before .before .before .before .before .before .before .before .before .before .before .before .before .before .before .before .before .before .before .before .before .before .before .args .book .now) (c .before .before .before .before .before .before .before .before .before .before .before .before .before .before .before .before .before .before .before .before .before .before .before .before .before .before .before .before .before .args .starts .now)) (c .before .before .before .before .before .before .before .before .before .before .before .before .before .before .before .before .before .before .before .before .before .before .before .before .before .before .before .before .before .args .w .now) (c .before .before .before .before .before .before .before .before .before .before .before .before .before .before .before .before .before .before .before .before .before .before .before .before .before .before .before .before .before .args .plan) (c .before .before .before .before .before .before .before .before .before .before .before .before .before .before .before .before .before .before .before .before .before .before .before .before .before .before .before .before .before .args .base) (c .before .before .before .before .before .before .before .before .before .before .before .before .before .before .before .before .before .before .before .before .before .before .before .before .before .before .before .before .before .args .n) (c .before .before .before .before .before .before .before .before .before .before .before .before .before .before .before .before .before .before .before .before .before .before .before .before .before .before .before .before .before .args .frame) (c .before .before .before .before .before .before .before .before .before .before .before .before .before .before .before .before .before .before .before .before .before .before .before .before .before .before .before .before .before .args .deep) (c .before .before .before .before .before .before .before .before .before .before .before .before .before .before .before .before .before .before .before .before .before .before .before .before .before .before .before .before .before .args .left) (c .before .before .before .before .before .before .before .before .before .before .before .before .before .before .before .before .before .before .before .before .before .before .before .before .before .before .before .before .before .pre .1 .0) (c .before .before .before .before .before .before .before .before .before .before .before .before .before .before .before .before .before .before .before .before .before .before .before .before .nodes .w) (c .before .before .before .before .before .before .before .before .before .before .before .before .before .before .before .before .before .before .before .before .before .before .next-candidate .result .left) (c .before .before .before .before .before .before .before .before .before .before .before .before .before .before .before .before .before .before .before .before .before .before .next-candidate .result .node) s (subst (λ x. c .before .before .before .before .before .before .before .before .before .before .before .before .before .before .before .before .before .before .before .before .before .before .next-candidate .result .node < x) (c .before .before .before .before .before .before .before .before .before .before .before .before .before .before .before .before .before .before .before .before .before .before .before .before .before .tried .ensures) (c .before .before .before .before .before .before .before .before .before .before .before .before .before .before .before .before .before .before .before .before .if1 .left)) (c .before .before .before .before .before .before .before .before .before .before .before .before .before .before .before .before .before .before .before .before .before .before .next-candidate .ensures .typed (c .before .before .before .before .before .before .before .before .before .before .before .before .before .before .before .before .before .before .before .before .if1 .left)) (c .before .before .before .before .before .before .before .before .before .before .before .before .before .before .before .before .before .before .if2 .left) (c .before .before .before .before .before .before .before .before .before .before .before .before .before .match-pattern .result) (take (c .before .before .before .before .before .before .before .before .before .before .before .before .before .before .before .before .before .before .before .before .before .before .before .before .before .before .before .before .before .args .frame .top) (c .before .before .before .before .before .before .before .before .before .before .before .before .before .before .before .before .before .before .before .before .before .before .before .before .nodes .w)) _ _ refl (ap (λ x. take x (drop (c .before .before .before .before .before .before .before .before .before .before .before .before .before .before .before .before .before .before .before .before .before .before .before .before .before .before .before .before .before .args .base + 2 * c .before .before .before .before .before .before .before .before .before .before .before .before .before .before .before .before .before .before .before .before .before .before .next-candidate .result .node) (take (c .before .before .before .before .before .before .before .before .before .before .before .before .before .before .before .before .before .before .before .before .before .before .before .before .before .before .before .before .before .args .frame .top) (c .before .before .before .before .before .before .before .before .before .before .before .before .before .before .before .before .before .before .before .before .before .before .before .before .nodes .w)))) z) (c .before .before .before .before .before .before .before .before .before .before .before .before .before .before .before .before .before .before .before .before .before .before .before .before .before .before .pairs-of .ensures .0) (answers-as (c .before .before .before .before .before .before .before .before .before .before .before .before .before .before .before .before .before .before .before .before .before .before .before .before .nodes .now) (c .before .before .before .before .before .before .before .before .before .before .before .before .before .before .before .before .before .before .before .before .before .before .before .before .before .before .before .before .before .args .frame) (c .before .before .before .before .before .before .before .before .before .before .before .before .before .before .before .before .before .before .before .before .before .before .before .before .nodes .inv .0) (c .before .before .before .before .before .before .before .before .before .before .before .before .before .match-pattern .ensures true)) (c .before .before .before .before .before .before .before .before .before .before .before .enum-told2 .given .1) (c .before .before .before .before .before .before .before .before .before .before .before .before .before .before .before .before .before .before .before .before .before .before .before .before .before .before .before .before .before .pre .1 .2) (c .before .before .before .before .before .before .before .before .before .loop .w) (c .before .before .before .before .before .before .before .before .before .loop .fuel) (c .before .before .before .before .before .before .before .before .before .loop .now) (c .before .before .before .before .before .before .before .before .before .loop .at) (c .before .before .before .before .before .before .before .before .before .loop .k) (subst (λ x. Parting (givenOf (c .before .before .before .before .before .before .before .before .before .before .before .before .before .before .before .before .before .before .before .before .before .before .before .before .before .before .before .before .before .args .heads .now) (c .before .before .before .before .before .before .before .before .before .before .before .before .before .before .before .before .before .before .before .before .before .before .before .before .before .before .before .before .before .args .rows .now) (c .before .before .before .before .before .before .before .before .before .before .before .before .before .before .before .before .before .before .before .before .before .before .before .before .before .before .before .before .before .args .types) (c .before .before .before .before .before .before .before .before .before .before .before .before .before .before .before .before .before .before .before .before .before .before .before .before .before .before .before .before .before .args .book .now) (c .before .before .before .before .before .before .before .before .before .before .before .before .before .before .before .before .before .before .before .before .before .before .before .before .before .before .before .before .before .args .starts .now)) (c .before .before .before .before .before .before .before .before .before .before .before .before .before .before .before .before .before .before .before .before .before .before .before .before .before .before .before .before .before .args .deep) (c .before .before .before .before .before .before .before .before .before .before .before .before .before .before .before .before .before .before .before .before .before .before .before .before .nodes .w) (spent (c .before .before .before .before .before .before .before .before .before .before .before .before .before .before .before .before .before .before .before .before .before .before .next-candidate .result .left)) x (c .before .before .before .before .before .before .before .before .before .before .before .before .before .before .before .before .before .before .before .before .before .before .before .before .before .before .before .before .before .args .plan .first) (c .before .before .before .before .before .before .before .before .before .before .before .before .before .before .before .before .before .before .before .before .before .before .before .before .before .before .before .before .before .args .plan .count) (c .before .before .before .before .before .before .before .before .before .loop .w) (c .before .before .before .before .before .before .before .before .before .loop .fuel) (c .before .before .before .before .before .before .before .before .before .loop .now) (c .before .before .before .before .before .before .before .before .before .loop .at) (c .before .before .before .before .before .before .before .before .before .loop .k)) (c .before .before .before .before .before .before .before .before .before .before .after-match .ensures) (c .before .before .before .before .before .before .before .before .before .loop .inv .1))) (c .before .before .before .before .before .before .before .before .loop-test .taken) _ (c .before .before .before .before .before .before .step .result) (c .before .before .before .before .before .before .step .ensures) (c .before .enum-told3 .given .1)))
+seek-nodes-again-2 t c = let s = searching-next (givenOf (c .before .before .before .before .before .before .before .before .before .before .before .before .before .before .before .before .before .before .before .before .before .before .before .before .before .before .before .before .before .before .args .heads .now) (c .before .before .before .before .before .before .before .before .before .before .before .before .before .before .before .before .before .before .before .before .before .before .before .before .before .before .before .before .before .before .args .rows .now) (c .before .before .before .before .before .before .before .before .before .before .before .before .before .before .before .before .before .before .before .before .before .before .before .before .before .before .before .before .before .before .args .types) (c .before .before .before .before .before .before .before .before .before .before .before .before .before .before .before .before .before .before .before .before .before .before .before .before .before .before .before .before .before .before .args .book .now) (c .before .before .before .before .before .before .before .before .before .before .before .before .before .before .before .before .before .before .before .before .before .before .before .before .before .before .before .before .before .before .args .starts .now)) (c .before .before .before .before .before .before .before .before .before .before .before .before .before .before .before .before .before .before .before .before .before .before .before .before .before .before .before .before .before .before .args .w .now) (c .before .before .before .before .before .before .before .before .before .before .before .before .before .before .before .before .before .before .before .before .before .before .before .before .before .before .before .before .before .before .args .plan) (c .before .before .before .before .before .before .before .before .before .before .before .before .before .before .before .before .before .before .before .before .before .before .before .before .before .before .before .before .before .before .args .base) (c .before .before .before .before .before .before .before .before .before .before .before .before .before .before .before .before .before .before .before .before .before .before .before .before .before .before .before .before .before .before .args .n) (c .before .before .before .before .before .before .before .before .before .before .before .before .before .before .before .before .before .before .before .before .before .before .before .before .before .before .before .before .before .before .args .frame) (c .before .before .before .before .before .before .before .before .before .before .before .before .before .before .before .before .before .before .before .before .before .before .before .before .before .before .before .before .before .before .args .deep) (c .before .before .before .before .before .before .before .before .before .before .before .before .before .before .before .before .before .before .before .before .before .before .before .before .before .before .before .before .before .before .args .left) (c .before .before .before .before .before .before .before .before .before .before .before .before .before .before .before .before .before .before .before .before .before .before .before .before .before .before .before .before .before .before .pre .1 .0) (c .before .before .before .before .before .before .before .before .before .before .before .before .before .before .before .before .before .before .before .before .before .before .before .before .before .before .before .before .before .before .pre .1 .5) _ (c .before .before .before .before .before .before .before .before .before .before .before .before .before .before .before .before .before .before .before .before .before .before .before .before .before .before .before .pairs-of .ensures .0) (c .before .before .before .before .before .before .before .before .before .before .before .before .before .before .before .before .before .before .before .before .before .before .before .before .nodes .w) (c .before .before .before .before .before .before .before .before .before .before .before .before .before .before .before .before .before .before .before .before .before .before .before .before .nodes .fuel) (c .before .before .before .before .before .before .before .before .before .before .before .before .before .before .before .before .before .before .before .before .before .before .before .before .nodes .i) (c .before .before .before .before .before .before .before .before .before .before .before .before .before .before .before .before .before .before .before .before .before .before .before .before .nodes .inv .1) _ _ (c .before .before .before .before .before .before .before .before .before .before .before .before .before .before .before .before .before .before .before .before .before .before .before .before .before .before .tried .ensures) refl _ (c .before .before .before .before .before .before .before .before .before .before .before .before .before .before .before .before .before .before .before .before .before .before .next-candidate .ensures) in let h = tried-inside (c .before .before .before .before .before .before .before .before .before .before .before .before .before .before .before .before .before .before .before .before .before .before .before .before .before .before .before .before .before .before .args .plan .strategy) (c .before .before .before .before .before .before .before .before .before .before .before .before .before .before .before .before .before .before .before .before .before .before .before .before .before .before .before .before .before .before .args .n) (c .before .before .before .before .before .before .before .before .before .before .before .before .before .before .before .before .before .before .before .before .before .before .next-candidate .result .node) (c .before .before .before .before .before .before .before .before .before .before .before .before .before .before .before .before .before .before .before .before .before .before .before .before .before .before .tried .result) (c .before .before .before .before .before .before .before .before .before .before .before .before .before .before .before .before .before .before .before .before .before .before .before .before .before .before .tried .ensures) (c .before .before .before .before .before .before .before .before .before .before .before .before .before .before .before .before .before .before .before .before .if1 .left) in let z : c .before .before .before .before .before .before .before .before .before .before .before .before .before .before .before .before .before .before .before .before .before .before .before .before .before .before .before .before .before .before .args .base + 2 * c .before .before .before .before .before .before .before .before .before .before .before .before .before .before .before .before .before .before .before .before .before .before .before .before .before .before .before .before .before .before .args .n - (c .before .before .before .before .before .before .before .before .before .before .before .before .before .before .before .before .before .before .before .before .before .before .before .before .before .before .before .before .before .before .args .base + 2 * c .before .before .before .before .before .before .before .before .before .before .before .before .before .before .before .before .before .before .before .before .before .before .next-candidate .result .node) ≡ 2 * (c .before .before .before .before .before .before .before .before .before .before .before .before .before .before .before .before .before .before .before .before .before .before .before .before .before .before .before .before .before .before .args .n - c .before .before .before .before .before .before .before .before .before .before .before .before .before .before .before .before .before .before .before .before .before .before .next-candidate .result .node) = omega (arith, h) in (refl, rw (c .before .before .before .before .before .before .before .before .before .loop .inv .0) (trying-differs (givenOf (c .before .before .before .before .before .before .before .before .before .before .before .before .before .before .before .before .before .before .before .before .before .before .before .before .before .before .before .before .before .before .args .heads .now) (c .before .before .before .before .before .before .before .before .before .before .before .before .before .before .before .before .before .before .before .before .before .before .before .before .before .before .before .before .before .before .args .rows .now) (c .before .before .before .before .before .before .before .before .before .before .before .before .before .before .before .before .before .before .before .before .before .before .before .before .before .before .before .before .before .before .args .types) (c .before .before .before .before .before .before .before .before .before .before .before .before .before .before .before .before .before .before .before .before .before .before .before .before .before .before .before .before .before .before .args .book .now) (c .before .before .before .before .before .before .before .before .before .before .before .before .before .before .before .before .before .before .before .before .before .before .before .before .before .before .before .before .before .before .args .starts .now)) (c .before .before .before .before .before .before .before .before .before .before .before .before .before .before .before .before .before .before .before .before .before .before .before .before .before .before .before .before .before .before .args .w .now) (c .before .before .before .before .before .before .before .before .before .before .before .before .before .before .before .before .before .before .before .before .before .before .before .before .before .before .before .before .before .before .args .plan) (c .before .before .before .before .before .before .before .before .before .before .before .before .before .before .before .before .before .before .before .before .before .before .before .before .before .before .before .before .before .before .args .base) (c .before .before .before .before .before .before .before .before .before .before .before .before .before .before .before .before .before .before .before .before .before .before .before .before .before .before .before .before .before .before .args .n) (c .before .before .before .before .before .before .before .before .before .before .before .before .before .before .before .before .before .before .before .before .before .before .before .before .before .before .before .before .before .before .args .frame) (c .before .before .before .before .before .before .before .before .before .before .before .before .before .before .before .before .before .before .before .before .before .before .before .before .before .before .before .before .before .before .args .deep) (c .before .before .before .before .before .before .before .before .before .before .before .before .before .before .before .before .before .before .before .before .before .before .before .before .before .before .before .before .before .before .args .left) (c .before .before .before .before .before .before .before .before .before .before .before .before .before .before .before .before .before .before .before .before .before .before .before .before .before .before .before .before .before .before .pre .1 .0) (c .before .before .before .before .before .before .before .before .before .before .before .before .before .before .before .before .before .before .before .before .before .before .before .before .nodes .w) (c .before .before .before .before .before .before .before .before .before .before .before .before .before .before .before .before .before .before .before .before .before .before .next-candidate .result .left) (c .before .before .before .before .before .before .before .before .before .before .before .before .before .before .before .before .before .before .before .before .before .before .next-candidate .result .node) s (subst (λ x. c .before .before .before .before .before .before .before .before .before .before .before .before .before .before .before .before .before .before .before .before .before .before .next-candidate .result .node < x) (c .before .before .before .before .before .before .before .before .before .before .before .before .before .before .before .before .before .before .before .before .before .before .before .before .before .before .tried .ensures) (c .before .before .before .before .before .before .before .before .before .before .before .before .before .before .before .before .before .before .before .before .if1 .left)) (c .before .before .before .before .before .before .before .before .before .before .before .before .before .before .before .before .before .before .before .before .before .before .next-candidate .ensures .typed (c .before .before .before .before .before .before .before .before .before .before .before .before .before .before .before .before .before .before .before .before .if1 .left)) (c .before .before .before .before .before .before .before .before .before .before .before .before .before .before .before .before .before .before .if2 .left) (c .before .before .before .before .before .before .before .before .before .before .before .before .before .match-pattern .result) (take (c .before .before .before .before .before .before .before .before .before .before .before .before .before .before .before .before .before .before .before .before .before .before .before .before .before .before .before .before .before .before .args .frame .top) (c .before .before .before .before .before .before .before .before .before .before .before .before .before .before .before .before .before .before .before .before .before .before .before .before .nodes .w)) _ _ refl (ap (λ x. take x (drop (c .before .before .before .before .before .before .before .before .before .before .before .before .before .before .before .before .before .before .before .before .before .before .before .before .before .before .before .before .before .before .args .base + 2 * c .before .before .before .before .before .before .before .before .before .before .before .before .before .before .before .before .before .before .before .before .before .before .next-candidate .result .node) (take (c .before .before .before .before .before .before .before .before .before .before .before .before .before .before .before .before .before .before .before .before .before .before .before .before .before .before .before .before .before .before .args .frame .top) (c .before .before .before .before .before .before .before .before .before .before .before .before .before .before .before .before .before .before .before .before .before .before .before .before .nodes .w)))) z) (c .before .before .before .before .before .before .before .before .before .before .before .before .before .before .before .before .before .before .before .before .before .before .before .before .before .before .before .pairs-of .ensures .0) (answers-as (c .before .before .before .before .before .before .before .before .before .before .before .before .before .before .before .before .before .before .before .before .before .before .before .before .nodes .now) (c .before .before .before .before .before .before .before .before .before .before .before .before .before .before .before .before .before .before .before .before .before .before .before .before .before .before .before .before .before .before .args .frame) (c .before .before .before .before .before .before .before .before .before .before .before .before .before .before .before .before .before .before .before .before .before .before .before .before .nodes .inv .0) (c .before .before .before .before .before .before .before .before .before .before .before .before .before .match-pattern .ensures true)) (c .before .before .before .before .before .before .before .before .before .loop .w) (c .before .before .before .before .before .before .before .before .before .loop .fuel) (c .before .before .before .before .before .before .before .before .before .loop .now) (c .before .before .before .before .before .before .before .before .before .loop .at) (c .before .before .before .before .before .before .before .before .before .loop .k) (trying-run (givenOf (c .before .before .before .before .before .before .before .before .before .before .before .before .before .before .before .before .before .before .before .before .before .before .before .before .before .before .before .before .before .before .args .heads .now) (c .before .before .before .before .before .before .before .before .before .before .before .before .before .before .before .before .before .before .before .before .before .before .before .before .before .before .before .before .before .before .args .rows .now) (c .before .before .before .before .before .before .before .before .before .before .before .before .before .before .before .before .before .before .before .before .before .before .before .before .before .before .before .before .before .before .args .types) (c .before .before .before .before .before .before .before .before .before .before .before .before .before .before .before .before .before .before .before .before .before .before .before .before .before .before .before .before .before .before .args .book .now) (c .before .before .before .before .before .before .before .before .before .before .before .before .before .before .before .before .before .before .before .before .before .before .before .before .before .before .before .before .before .before .args .starts .now)) (c .before .before .before .before .before .before .before .before .before .before .before .before .before .before .before .before .before .before .before .before .before .before .before .before .before .before .before .before .before .before .args .w .now) (c .before .before .before .before .before .before .before .before .before .before .before .before .before .before .before .before .before .before .before .before .before .before .before .before .before .before .before .before .before .before .args .plan) (c .before .before .before .before .before .before .before .before .before .before .before .before .before .before .before .before .before .before .before .before .before .before .before .before .before .before .before .before .before .before .args .base) (c .before .before .before .before .before .before .before .before .before .before .before .before .before .before .before .before .before .before .before .before .before .before .before .before .before .before .before .before .before .before .args .n) (c .before .before .before .before .before .before .before .before .before .before .before .before .before .before .before .before .before .before .before .before .before .before .before .before .before .before .before .before .before .before .args .frame) (c .before .before .before .before .before .before .before .before .before .before .before .before .before .before .before .before .before .before .before .before .before .before .before .before .before .before .before .before .before .before .args .deep) (c .before .before .before .before .before .before .before .before .before .before .before .before .before .before .before .before .before .before .before .before .before .before .before .before .before .before .before .before .before .before .args .left) (c .before .before .before .before .before .before .before .before .before .before .before .before .before .before .before .before .before .before .before .before .before .before .before .before .before .before .before .before .before .before .pre .1 .0) (c .before .before .before .before .before .before .before .before .before .before .before .before .before .before .before .before .before .before .before .before .before .before .before .before .nodes .w) (c .before .before .before .before .before .before .before .before .before .before .before .before .before .before .before .before .before .before .before .before .before .before .next-candidate .result .left) (c .before .before .before .before .before .before .before .before .before .before .before .before .before .before .before .before .before .before .before .before .before .before .next-candidate .result .node) s (subst (λ x. c .before .before .before .before .before .before .before .before .before .before .before .before .before .before .before .before .before .before .before .before .before .before .next-candidate .result .node < x) (c .before .before .before .before .before .before .before .before .before .before .before .before .before .before .before .before .before .before .before .before .before .before .before .before .before .before .tried .ensures) (c .before .before .before .before .before .before .before .before .before .before .before .before .before .before .before .before .before .before .before .before .if1 .left)) (c .before .before .before .before .before .before .before .before .before .before .before .before .before .before .before .before .before .before .before .before .before .before .next-candidate .ensures .typed (c .before .before .before .before .before .before .before .before .before .before .before .before .before .before .before .before .before .before .before .before .if1 .left)) (c .before .before .before .before .before .before .before .before .before .before .before .before .before .before .before .before .before .before .if2 .left) (c .before .before .before .before .before .before .before .before .before .before .before .before .before .match-pattern .result) (take (c .before .before .before .before .before .before .before .before .before .before .before .before .before .before .before .before .before .before .before .before .before .before .before .before .before .before .before .before .before .before .args .frame .top) (c .before .before .before .before .before .before .before .before .before .before .before .before .before .before .before .before .before .before .before .before .before .before .before .before .nodes .w)) _ _ refl (ap (λ x. take x (drop (c .before .before .before .before .before .before .before .before .before .before .before .before .before .before .before .before .before .before .before .before .before .before .before .before .before .before .before .before .before .before .args .base + 2 * c .before .before .before .before .before .before .before .before .before .before .before .before .before .before .before .before .before .before .before .before .before .before .next-candidate .result .node) (take (c .before .before .before .before .before .before .before .before .before .before .before .before .before .before .before .before .before .before .before .before .before .before .before .before .before .before .before .before .before .before .args .frame .top) (c .before .before .before .before .before .before .before .before .before .before .before .before .before .before .before .before .before .before .before .before .before .before .before .before .nodes .w)))) z) (c .before .before .before .before .before .before .before .before .before .before .before .before .before .before .before .before .before .before .before .before .before .before .before .before .before .before .before .pairs-of .ensures .0) (answers-as (c .before .before .before .before .before .before .before .before .before .before .before .before .before .before .before .before .before .before .before .before .before .before .before .before .nodes .now) (c .before .before .before .before .before .before .before .before .before .before .before .before .before .before .before .before .before .before .before .before .before .before .before .before .before .before .before .before .before .before .args .frame) (c .before .before .before .before .before .before .before .before .before .before .before .before .before .before .before .before .before .before .before .before .before .before .before .before .nodes .inv .0) (c .before .before .before .before .before .before .before .before .before .before .before .before .before .match-pattern .ensures true)) (c .before .before .before .before .before .before .before .before .before .before .before .enum-told2 .given .1) (c .before .before .before .before .before .before .before .before .before .before .before .before .before .before .before .before .before .before .before .before .before .before .before .before .before .before .before .before .before .before .pre .1 .2) (c .before .before .before .before .before .before .before .before .before .loop .w) (c .before .before .before .before .before .before .before .before .before .loop .fuel) (c .before .before .before .before .before .before .before .before .before .loop .now) (c .before .before .before .before .before .before .before .before .before .loop .at) (c .before .before .before .before .before .before .before .before .before .loop .k) (subst (λ x. Parting (givenOf (c .before .before .before .before .before .before .before .before .before .before .before .before .before .before .before .before .before .before .before .before .before .before .before .before .before .before .before .before .before .before .args .heads .now) (c .before .before .before .before .before .before .before .before .before .before .before .before .before .before .before .before .before .before .before .before .before .before .before .before .before .before .before .before .before .before .args .rows .now) (c .before .before .before .before .before .before .before .before .before .before .before .before .before .before .before .before .before .before .before .before .before .before .before .before .before .before .before .before .before .before .args .types) (c .before .before .before .before .before .before .before .before .before .before .before .before .before .before .before .before .before .before .before .before .before .before .before .before .before .before .before .before .before .before .args .book .now) (c .before .before .before .before .before .before .before .before .before .before .before .before .before .before .before .before .before .before .before .before .before .before .before .before .before .before .before .before .before .before .args .starts .now)) (c .before .before .before .before .before .before .before .before .before .before .before .before .before .before .before .before .before .before .before .before .before .before .before .before .before .before .before .before .before .before .args .deep) (c .before .before .before .before .before .before .before .before .before .before .before .before .before .before .before .before .before .before .before .before .before .before .before .before .nodes .w) (spent (c .before .before .before .before .before .before .before .before .before .before .before .before .before .before .before .before .before .before .before .before .before .before .next-candidate .result .left)) x (c .before .before .before .before .before .before .before .before .before .before .before .before .before .before .before .before .before .before .before .before .before .before .before .before .before .before .before .before .before .before .args .plan .first) (c .before .before .before .before .before .before .before .before .before .before .before .before .before .before .before .before .before .before .before .before .before .before .before .before .before .before .before .before .before .before .args .plan .count) (c .before .before .before .before .before .before .before .before .before .loop .w) (c .before .before .before .before .before .before .before .before .before .loop .fuel) (c .before .before .before .before .before .before .before .before .before .loop .now) (c .before .before .before .before .before .before .before .before .before .loop .at) (c .before .before .before .before .before .before .before .before .before .loop .k)) (c .before .before .before .before .before .before .before .before .before .before .after-match .ensures) (c .before .before .before .before .before .before .before .before .before .loop .inv .1))) (c .before .before .before .before .before .before .before .before .loop-test .taken) _ (c .before .before .before .before .before .before .step .result) (c .before .before .before .before .before .before .step .ensures) (c .before .enum-told3 .given .1)))
 
 pub seek-enum-known-verdict-2 : (t : ℕ) → seek-lts.Need-enum-known-verdict-2 (seek-claims t) (seek-at t) seek.Post seek-Inv-loop seek-μ-loop seek-Inv-nodes seek-μ-nodes
 seek-enum-known-verdict-2 t c = search needs
@@ -151,7 +155,7 @@ pub seek-loop-less : (t : ℕ) → seek-lts.Need-loop-less (seek-claims t) (seek
 seek-loop-less t c = omega (arith, c .before .before .before .before .before .before .before .before .loop-test .taken)
 
 pub seek-loop-again : (t : ℕ) → seek-lts.Need-loop-again (seek-claims t) (seek-at t) seek.Post seek-Inv-loop seek-μ-loop seek-Inv-nodes seek-μ-nodes
-seek-loop-again t c = (c .before .before .before .before .before .before .before .before .before .loop .inv .0, parting-on (givenOf (c .before .before .before .before .before .before .before .before .before .before .before .before .before .before .before .before .before .before .before .before .before .before .before .before .before .before .before .before .before .args .heads .now) (c .before .before .before .before .before .before .before .before .before .before .before .before .before .before .before .before .before .before .before .before .before .before .before .before .before .before .before .before .before .args .rows .now) (c .before .before .before .before .before .before .before .before .before .before .before .before .before .before .before .before .before .before .before .before .before .before .before .before .before .before .before .before .before .args .types) (c .before .before .before .before .before .before .before .before .before .before .before .before .before .before .before .before .before .before .before .before .before .before .before .before .before .before .before .before .before .args .book .now) (c .before .before .before .before .before .before .before .before .before .before .before .before .before .before .before .before .before .before .before .before .before .before .before .before .before .before .before .before .before .args .starts .now)) (c .before .before .before .before .before .before .before .before .before .before .before .before .before .before .before .before .before .before .before .before .before .before .before .before .before .before .before .before .before .args .deep) (c .before .before .before .before .before .before .before .before .before .before .before .before .before .before .before .before .before .before .before .before .before .before .before .before .nodes .w) (spent (c .before .before .before .before .before .before .before .before .before .before .before .before .before .before .before .before .before .before .before .before .before .before .next-candidate .result .left)) (c .before .before .before .before .before .before .before .before .before .before .after-match .result) (c .before .before .before .before .before .before .before .before .before .before .before .before .before .before .before .before .before .before .before .before .before .before .before .before .before .before .before .before .before .args .plan .first) (c .before .before .before .before .before .before .before .before .before .before .before .before .before .before .before .before .before .before .before .before .before .before .before .before .before .before .before .before .before .args .plan .count) (c .before .before .before .before .before .before .before .before .before .loop .w) (c .before .before .before .before .before .before .before .before .before .loop .fuel) (c .before .before .before .before .before .before .before .before .before .loop .now) (c .before .before .before .before .before .before .before .before .before .loop .at) (c .before .before .before .before .before .before .before .before .before .loop .k) (c .before .before .before .before .before .before .before .before .before .loop .inv .1) (c .before .before .before .before .before .before .before .before .loop-test .taken) _ (c .before .before .before .before .before .before .step .result) (c .before .before .before .before .before .before .step .ensures) (c .before .enum-told4 .given .1))
+seek-loop-again t c = (c .before .before .before .before .before .before .before .before .before .loop .inv .0, parting-on (givenOf (c .before .before .before .before .before .before .before .before .before .before .before .before .before .before .before .before .before .before .before .before .before .before .before .before .before .before .before .before .before .before .args .heads .now) (c .before .before .before .before .before .before .before .before .before .before .before .before .before .before .before .before .before .before .before .before .before .before .before .before .before .before .before .before .before .before .args .rows .now) (c .before .before .before .before .before .before .before .before .before .before .before .before .before .before .before .before .before .before .before .before .before .before .before .before .before .before .before .before .before .before .args .types) (c .before .before .before .before .before .before .before .before .before .before .before .before .before .before .before .before .before .before .before .before .before .before .before .before .before .before .before .before .before .before .args .book .now) (c .before .before .before .before .before .before .before .before .before .before .before .before .before .before .before .before .before .before .before .before .before .before .before .before .before .before .before .before .before .before .args .starts .now)) (c .before .before .before .before .before .before .before .before .before .before .before .before .before .before .before .before .before .before .before .before .before .before .before .before .before .before .before .before .before .before .args .deep) (c .before .before .before .before .before .before .before .before .before .before .before .before .before .before .before .before .before .before .before .before .before .before .before .before .nodes .w) (spent (c .before .before .before .before .before .before .before .before .before .before .before .before .before .before .before .before .before .before .before .before .before .before .next-candidate .result .left)) (c .before .before .before .before .before .before .before .before .before .before .after-match .result) (c .before .before .before .before .before .before .before .before .before .before .before .before .before .before .before .before .before .before .before .before .before .before .before .before .before .before .before .before .before .before .args .plan .first) (c .before .before .before .before .before .before .before .before .before .before .before .before .before .before .before .before .before .before .before .before .before .before .before .before .before .before .before .before .before .before .args .plan .count) (c .before .before .before .before .before .before .before .before .before .loop .w) (c .before .before .before .before .before .before .before .before .before .loop .fuel) (c .before .before .before .before .before .before .before .before .before .loop .now) (c .before .before .before .before .before .before .before .before .before .loop .at) (c .before .before .before .before .before .before .before .before .before .loop .k) (c .before .before .before .before .before .before .before .before .before .loop .inv .1) (c .before .before .before .before .before .before .before .before .loop-test .taken) _ (c .before .before .before .before .before .before .step .result) (c .before .before .before .before .before .before .step .ensures) (c .before .enum-told4 .given .1))
 
 pub seek-seeking-requires-5 : (t : ℕ) → seek-lts.Need-seeking-requires-5 (seek-claims t) (seek-at t) seek.Post seek-Inv-loop seek-μ-loop seek-Inv-nodes seek-μ-nodes
 seek-seeking-requires-5 t c κs = search needs
@@ -160,28 +164,28 @@ pub seek-same-length : (t : ℕ) → seek-lts.Need-same-length (seek-claims t) (
 seek-same-length t c = c .before .before .before .before .before .nodes .inv .1 .long
 
 pub seek-returns : (t : ℕ) → seek-lts.Need-returns (seek-claims t) (seek-at t) seek.Post seek-Inv-loop seek-μ-loop seek-Inv-nodes seek-μ-nodes
-seek-returns t c = let s = searching-next (givenOf (c .before .before .before .before .before .before .before .before .before .before .args .heads .now) (c .before .before .before .before .before .before .before .before .before .before .args .rows .now) (c .before .before .before .before .before .before .before .before .before .before .args .types) (c .before .before .before .before .before .before .before .before .before .before .args .book .now) (c .before .before .before .before .before .before .before .before .before .before .args .starts .now)) (c .before .before .before .before .before .before .before .before .before .before .args .w .now) (c .before .before .before .before .before .before .before .before .before .before .args .plan) (c .before .before .before .before .before .before .before .before .before .before .args .base) (c .before .before .before .before .before .before .before .before .before .before .args .n) (c .before .before .before .before .before .before .before .before .before .before .args .frame) (c .before .before .before .before .before .before .before .before .before .before .args .deep) (c .before .before .before .before .before .before .before .before .before .before .args .left) (c .before .before .before .before .before .before .before .before .before .before .pre .1 .0) (c .before .before .before .before .before .before .before .before .before .before .pre .1 .5) _ (c .before .before .before .before .before .before .before .pairs-of .ensures .0) (c .before .before .before .before .before .nodes .w) (c .before .before .before .before .before .nodes .fuel) (c .before .before .before .before .before .nodes .i) (c .before .before .before .before .before .nodes .inv .1) _ _ (c .before .before .before .before .before .before .tried .ensures) refl _ (c .before .before .before .next-candidate .ensures) in rw (c .seeking .ensures) (searching-none (givenOf (c .before .before .before .before .before .before .before .before .before .before .args .heads .now) (c .before .before .before .before .before .before .before .before .before .before .args .rows .now) (c .before .before .before .before .before .before .before .before .before .before .args .types) (c .before .before .before .before .before .before .before .before .before .before .args .book .now) (c .before .before .before .before .before .before .before .before .before .before .args .starts .now)) (c .before .before .before .before .before .before .before .before .before .before .args .w .now) (c .before .before .before .before .before .before .before .before .before .before .args .plan) (c .before .before .before .before .before .before .before .before .before .before .args .base) (c .before .before .before .before .before .before .before .before .before .before .args .n) (c .before .before .before .before .before .before .before .before .before .before .args .frame) (c .before .before .before .before .before .before .before .before .before .before .args .deep) (c .before .before .before .before .before .before .before .before .before .before .args .left) (c .before .before .before .before .before .before .before .before .before .before .pre .1 .0) (c .before .before .before .before .before .nodes .w) (c .before .before .before .next-candidate .result .left) (c .before .before .before .next-candidate .result .node) s (omega (arith, c .before .before .before .before .before .before .tried .ensures, c .before .if1 .taken)))
+seek-returns t c = let s = searching-next (givenOf (c .before .before .before .before .before .before .before .before .before .before .before .args .heads .now) (c .before .before .before .before .before .before .before .before .before .before .before .args .rows .now) (c .before .before .before .before .before .before .before .before .before .before .before .args .types) (c .before .before .before .before .before .before .before .before .before .before .before .args .book .now) (c .before .before .before .before .before .before .before .before .before .before .before .args .starts .now)) (c .before .before .before .before .before .before .before .before .before .before .before .args .w .now) (c .before .before .before .before .before .before .before .before .before .before .before .args .plan) (c .before .before .before .before .before .before .before .before .before .before .before .args .base) (c .before .before .before .before .before .before .before .before .before .before .before .args .n) (c .before .before .before .before .before .before .before .before .before .before .before .args .frame) (c .before .before .before .before .before .before .before .before .before .before .before .args .deep) (c .before .before .before .before .before .before .before .before .before .before .before .args .left) (c .before .before .before .before .before .before .before .before .before .before .before .pre .1 .0) (c .before .before .before .before .before .before .before .before .before .before .before .pre .1 .5) _ (c .before .before .before .before .before .before .before .before .pairs-of .ensures .0) (c .before .before .before .before .before .nodes .w) (c .before .before .before .before .before .nodes .fuel) (c .before .before .before .before .before .nodes .i) (c .before .before .before .before .before .nodes .inv .1) _ _ (c .before .before .before .before .before .before .before .tried .ensures) refl _ (c .before .before .before .next-candidate .ensures) in rw (c .seeking .ensures) (searching-none (givenOf (c .before .before .before .before .before .before .before .before .before .before .before .args .heads .now) (c .before .before .before .before .before .before .before .before .before .before .before .args .rows .now) (c .before .before .before .before .before .before .before .before .before .before .before .args .types) (c .before .before .before .before .before .before .before .before .before .before .before .args .book .now) (c .before .before .before .before .before .before .before .before .before .before .before .args .starts .now)) (c .before .before .before .before .before .before .before .before .before .before .before .args .w .now) (c .before .before .before .before .before .before .before .before .before .before .before .args .plan) (c .before .before .before .before .before .before .before .before .before .before .before .args .base) (c .before .before .before .before .before .before .before .before .before .before .before .args .n) (c .before .before .before .before .before .before .before .before .before .before .before .args .frame) (c .before .before .before .before .before .before .before .before .before .before .before .args .deep) (c .before .before .before .before .before .before .before .before .before .before .before .args .left) (c .before .before .before .before .before .before .before .before .before .before .before .pre .1 .0) (c .before .before .before .before .before .nodes .w) (c .before .before .before .next-candidate .result .left) (c .before .before .before .next-candidate .result .node) s (omega (arith, c .before .before .before .before .before .before .before .tried .ensures, c .before .if1 .taken)))
 
 pub seek-same-length-2 : (t : ℕ) → seek-lts.Need-same-length-2 (seek-claims t) (seek-at t) seek.Post seek-Inv-loop seek-μ-loop seek-Inv-nodes seek-μ-nodes
 seek-same-length-2 t c = c .before .before .before .before .before .before .before .nodes .inv .1 .long
 
 pub seek-returns-2 : (t : ℕ) → seek-lts.Need-returns-2 (seek-claims t) (seek-at t) seek.Post seek-Inv-loop seek-μ-loop seek-Inv-nodes seek-μ-nodes
-seek-returns-2 t c = let s = searching-next (givenOf (c .before .before .before .before .before .before .before .before .before .before .before .before .args .heads .now) (c .before .before .before .before .before .before .before .before .before .before .before .before .args .rows .now) (c .before .before .before .before .before .before .before .before .before .before .before .before .args .types) (c .before .before .before .before .before .before .before .before .before .before .before .before .args .book .now) (c .before .before .before .before .before .before .before .before .before .before .before .before .args .starts .now)) (c .before .before .before .before .before .before .before .before .before .before .before .before .args .w .now) (c .before .before .before .before .before .before .before .before .before .before .before .before .args .plan) (c .before .before .before .before .before .before .before .before .before .before .before .before .args .base) (c .before .before .before .before .before .before .before .before .before .before .before .before .args .n) (c .before .before .before .before .before .before .before .before .before .before .before .before .args .frame) (c .before .before .before .before .before .before .before .before .before .before .before .before .args .deep) (c .before .before .before .before .before .before .before .before .before .before .before .before .args .left) (c .before .before .before .before .before .before .before .before .before .before .before .before .pre .1 .0) (c .before .before .before .before .before .before .before .before .before .before .before .before .pre .1 .5) _ (c .before .before .before .before .before .before .before .before .before .pairs-of .ensures .0) (c .before .before .before .before .before .before .before .nodes .w) (c .before .before .before .before .before .before .before .nodes .fuel) (c .before .before .before .before .before .before .before .nodes .i) (c .before .before .before .before .before .before .before .nodes .inv .1) _ _ (c .before .before .before .before .before .before .before .before .tried .ensures) refl _ (c .before .before .before .before .before .next-candidate .ensures) in rw (c .seeking2 .ensures) (searching-spent (givenOf (c .before .before .before .before .before .before .before .before .before .before .before .before .args .heads .now) (c .before .before .before .before .before .before .before .before .before .before .before .before .args .rows .now) (c .before .before .before .before .before .before .before .before .before .before .before .before .args .types) (c .before .before .before .before .before .before .before .before .before .before .before .before .args .book .now) (c .before .before .before .before .before .before .before .before .before .before .before .before .args .starts .now)) (c .before .before .before .before .before .before .before .before .before .before .before .before .args .w .now) (c .before .before .before .before .before .before .before .before .before .before .before .before .args .plan) (c .before .before .before .before .before .before .before .before .before .before .before .before .args .base) (c .before .before .before .before .before .before .before .before .before .before .before .before .args .n) (c .before .before .before .before .before .before .before .before .before .before .before .before .args .frame) (c .before .before .before .before .before .before .before .before .before .before .before .before .args .deep) (c .before .before .before .before .before .before .before .before .before .before .before .before .args .left) (c .before .before .before .before .before .before .before .before .before .before .before .before .pre .1 .0) (c .before .before .before .before .before .before .before .nodes .w) (c .before .before .before .before .before .next-candidate .result .left) (c .before .before .before .before .before .next-candidate .result .node) s (subst (λ x. c .before .before .before .before .before .next-candidate .result .node < x) (c .before .before .before .before .before .before .before .before .tried .ensures) (c .before .before .before .if1 .left)) (c .before .before .before .before .before .next-candidate .ensures .typed (c .before .before .before .if1 .left)) (c .before .if2 .taken))
+seek-returns-2 t c = let s = searching-next (givenOf (c .before .before .before .before .before .before .before .before .before .before .before .before .before .args .heads .now) (c .before .before .before .before .before .before .before .before .before .before .before .before .before .args .rows .now) (c .before .before .before .before .before .before .before .before .before .before .before .before .before .args .types) (c .before .before .before .before .before .before .before .before .before .before .before .before .before .args .book .now) (c .before .before .before .before .before .before .before .before .before .before .before .before .before .args .starts .now)) (c .before .before .before .before .before .before .before .before .before .before .before .before .before .args .w .now) (c .before .before .before .before .before .before .before .before .before .before .before .before .before .args .plan) (c .before .before .before .before .before .before .before .before .before .before .before .before .before .args .base) (c .before .before .before .before .before .before .before .before .before .before .before .before .before .args .n) (c .before .before .before .before .before .before .before .before .before .before .before .before .before .args .frame) (c .before .before .before .before .before .before .before .before .before .before .before .before .before .args .deep) (c .before .before .before .before .before .before .before .before .before .before .before .before .before .args .left) (c .before .before .before .before .before .before .before .before .before .before .before .before .before .pre .1 .0) (c .before .before .before .before .before .before .before .before .before .before .before .before .before .pre .1 .5) _ (c .before .before .before .before .before .before .before .before .before .before .pairs-of .ensures .0) (c .before .before .before .before .before .before .before .nodes .w) (c .before .before .before .before .before .before .before .nodes .fuel) (c .before .before .before .before .before .before .before .nodes .i) (c .before .before .before .before .before .before .before .nodes .inv .1) _ _ (c .before .before .before .before .before .before .before .before .before .tried .ensures) refl _ (c .before .before .before .before .before .next-candidate .ensures) in rw (c .seeking2 .ensures) (searching-spent (givenOf (c .before .before .before .before .before .before .before .before .before .before .before .before .before .args .heads .now) (c .before .before .before .before .before .before .before .before .before .before .before .before .before .args .rows .now) (c .before .before .before .before .before .before .before .before .before .before .before .before .before .args .types) (c .before .before .before .before .before .before .before .before .before .before .before .before .before .args .book .now) (c .before .before .before .before .before .before .before .before .before .before .before .before .before .args .starts .now)) (c .before .before .before .before .before .before .before .before .before .before .before .before .before .args .w .now) (c .before .before .before .before .before .before .before .before .before .before .before .before .before .args .plan) (c .before .before .before .before .before .before .before .before .before .before .before .before .before .args .base) (c .before .before .before .before .before .before .before .before .before .before .before .before .before .args .n) (c .before .before .before .before .before .before .before .before .before .before .before .before .before .args .frame) (c .before .before .before .before .before .before .before .before .before .before .before .before .before .args .deep) (c .before .before .before .before .before .before .before .before .before .before .before .before .before .args .left) (c .before .before .before .before .before .before .before .before .before .before .before .before .before .pre .1 .0) (c .before .before .before .before .before .before .before .nodes .w) (c .before .before .before .before .before .next-candidate .result .left) (c .before .before .before .before .before .next-candidate .result .node) s (subst (λ x. c .before .before .before .before .before .next-candidate .result .node < x) (c .before .before .before .before .before .before .before .before .before .tried .ensures) (c .before .before .before .if1 .left)) (c .before .before .before .before .before .next-candidate .ensures .typed (c .before .before .before .if1 .left)) (c .before .if2 .taken))
 
 pub seek-same-length-3 : (t : ℕ) → seek-lts.Need-same-length-3 (seek-claims t) (seek-at t) seek.Post seek-Inv-loop seek-μ-loop seek-Inv-nodes seek-μ-nodes
 seek-same-length-3 t c = c .before .before .before .before .before .before .before .before .before .before .before .before .before .before .before .nodes .inv .1 .long
 
 pub seek-returns-3 : (t : ℕ) → seek-lts.Need-returns-3 (seek-claims t) (seek-at t) seek.Post seek-Inv-loop seek-μ-loop seek-Inv-nodes seek-μ-nodes
-seek-returns-3 t c = let s = searching-next (givenOf (c .before .before .before .before .before .before .before .before .before .before .before .before .before .before .before .before .before .before .before .before .args .heads .now) (c .before .before .before .before .before .before .before .before .before .before .before .before .before .before .before .before .before .before .before .before .args .rows .now) (c .before .before .before .before .before .before .before .before .before .before .before .before .before .before .before .before .before .before .before .before .args .types) (c .before .before .before .before .before .before .before .before .before .before .before .before .before .before .before .before .before .before .before .before .args .book .now) (c .before .before .before .before .before .before .before .before .before .before .before .before .before .before .before .before .before .before .before .before .args .starts .now)) (c .before .before .before .before .before .before .before .before .before .before .before .before .before .before .before .before .before .before .before .before .args .w .now) (c .before .before .before .before .before .before .before .before .before .before .before .before .before .before .before .before .before .before .before .before .args .plan) (c .before .before .before .before .before .before .before .before .before .before .before .before .before .before .before .before .before .before .before .before .args .base) (c .before .before .before .before .before .before .before .before .before .before .before .before .before .before .before .before .before .before .before .before .args .n) (c .before .before .before .before .before .before .before .before .before .before .before .before .before .before .before .before .before .before .before .before .args .frame) (c .before .before .before .before .before .before .before .before .before .before .before .before .before .before .before .before .before .before .before .before .args .deep) (c .before .before .before .before .before .before .before .before .before .before .before .before .before .before .before .before .before .before .before .before .args .left) (c .before .before .before .before .before .before .before .before .before .before .before .before .before .before .before .before .before .before .before .before .pre .1 .0) (c .before .before .before .before .before .before .before .before .before .before .before .before .before .before .before .before .before .before .before .before .pre .1 .5) _ (c .before .before .before .before .before .before .before .before .before .before .before .before .before .before .before .before .before .pairs-of .ensures .0) (c .before .before .before .before .before .before .before .before .before .before .before .before .before .before .before .nodes .w) (c .before .before .before .before .before .before .before .before .before .before .before .before .before .before .before .nodes .fuel) (c .before .before .before .before .before .before .before .before .before .before .before .before .before .before .before .nodes .i) (c .before .before .before .before .before .before .before .before .before .before .before .before .before .before .before .nodes .inv .1) _ _ (c .before .before .before .before .before .before .before .before .before .before .before .before .before .before .before .before .tried .ensures) refl _ (c .before .before .before .before .before .before .before .before .before .before .before .before .before .next-candidate .ensures) in let h = tried-inside (c .before .before .before .before .before .before .before .before .before .before .before .before .before .before .before .before .before .before .before .before .args .plan .strategy) (c .before .before .before .before .before .before .before .before .before .before .before .before .before .before .before .before .before .before .before .before .args .n) (c .before .before .before .before .before .before .before .before .before .before .before .before .before .next-candidate .result .node) (c .before .before .before .before .before .before .before .before .before .before .before .before .before .before .before .before .tried .result) (c .before .before .before .before .before .before .before .before .before .before .before .before .before .before .before .before .tried .ensures) (c .before .before .before .before .before .before .before .before .before .before .before .if1 .left) in let z : c .before .before .before .before .before .before .before .before .before .before .before .before .before .before .before .before .before .before .before .before .args .base + 2 * c .before .before .before .before .before .before .before .before .before .before .before .before .before .before .before .before .before .before .before .before .args .n - (c .before .before .before .before .before .before .before .before .before .before .before .before .before .before .before .before .before .before .before .before .args .base + 2 * c .before .before .before .before .before .before .before .before .before .before .before .before .before .next-candidate .result .node) ≡ 2 * (c .before .before .before .before .before .before .before .before .before .before .before .before .before .before .before .before .before .before .before .before .args .n - c .before .before .before .before .before .before .before .before .before .before .before .before .before .next-candidate .result .node) = omega (arith, h) in rw (c .seeking3 .ensures) (searching-stops (givenOf (c .before .before .before .before .before .before .before .before .before .before .before .before .before .before .before .before .before .before .before .before .args .heads .now) (c .before .before .before .before .before .before .before .before .before .before .before .before .before .before .before .before .before .before .before .before .args .rows .now) (c .before .before .before .before .before .before .before .before .before .before .before .before .before .before .before .before .before .before .before .before .args .types) (c .before .before .before .before .before .before .before .before .before .before .before .before .before .before .before .before .before .before .before .before .args .book .now) (c .before .before .before .before .before .before .before .before .before .before .before .before .before .before .before .before .before .before .before .before .args .starts .now)) (c .before .before .before .before .before .before .before .before .before .before .before .before .before .before .before .before .before .before .before .before .args .w .now) (c .before .before .before .before .before .before .before .before .before .before .before .before .before .before .before .before .before .before .before .before .args .plan) (c .before .before .before .before .before .before .before .before .before .before .before .before .before .before .before .before .before .before .before .before .args .base) (c .before .before .before .before .before .before .before .before .before .before .before .before .before .before .before .before .before .before .before .before .args .n) (c .before .before .before .before .before .before .before .before .before .before .before .before .before .before .before .before .before .before .before .before .args .frame) (c .before .before .before .before .before .before .before .before .before .before .before .before .before .before .before .before .before .before .before .before .args .deep) (c .before .before .before .before .before .before .before .before .before .before .before .before .before .before .before .before .before .before .before .before .args .left) (c .before .before .before .before .before .before .before .before .before .before .before .before .before .before .before .before .before .before .before .before .pre .1 .0) (c .before .before .before .before .before .before .before .before .before .before .before .before .before .before .before .nodes .w) (c .before .before .before .before .before .before .before .before .before .before .before .before .before .next-candidate .result .left) (c .before .before .before .before .before .before .before .before .before .before .before .before .before .next-candidate .result .node) s (subst (λ x. c .before .before .before .before .before .before .before .before .before .before .before .before .before .next-candidate .result .node < x) (c .before .before .before .before .before .before .before .before .before .before .before .before .before .before .before .before .tried .ensures) (c .before .before .before .before .before .before .before .before .before .before .before .if1 .left)) (c .before .before .before .before .before .before .before .before .before .before .before .before .before .next-candidate .ensures .typed (c .before .before .before .before .before .before .before .before .before .before .before .if1 .left)) (c .before .before .before .before .before .before .before .before .before .if2 .left) (c .before .before .before .before .match-pattern .result) (take (c .before .before .before .before .before .before .before .before .before .before .before .before .before .before .before .before .before .before .before .before .args .frame .top) (c .before .before .before .before .before .before .before .before .before .before .before .before .before .before .before .nodes .w)) _ _ refl (ap (λ x. take x (drop (c .before .before .before .before .before .before .before .before .before .before .before .before .before .before .before .before .before .before .before .before .args .base + 2 * c .before .before .before .before .before .before .before .before .before .before .before .before .before .next-candidate .result .node) (take (c .before .before .before .before .before .before .before .before .before .before .before .before .before .before .before .before .before .before .before .before .args .frame .top) (c .before .before .before .before .before .before .before .before .before .before .before .before .before .before .before .nodes .w)))) z) (c .before .before .before .before .before .before .before .before .before .before .before .before .before .before .before .before .before .pairs-of .ensures .0) (answers-as (c .before .before .before .before .before .before .before .before .before .before .before .before .before .before .before .nodes .now) (c .before .before .before .before .before .before .before .before .before .before .before .before .before .before .before .before .before .before .before .before .args .frame) (c .before .before .before .before .before .before .before .before .before .before .before .before .before .before .before .nodes .inv .0) (c .before .before .before .before .match-pattern .ensures true)) (c .before .before .verdict .given .1))
+seek-returns-3 t c = let s = searching-next (givenOf (c .before .before .before .before .before .before .before .before .before .before .before .before .before .before .before .before .before .before .before .before .before .args .heads .now) (c .before .before .before .before .before .before .before .before .before .before .before .before .before .before .before .before .before .before .before .before .before .args .rows .now) (c .before .before .before .before .before .before .before .before .before .before .before .before .before .before .before .before .before .before .before .before .before .args .types) (c .before .before .before .before .before .before .before .before .before .before .before .before .before .before .before .before .before .before .before .before .before .args .book .now) (c .before .before .before .before .before .before .before .before .before .before .before .before .before .before .before .before .before .before .before .before .before .args .starts .now)) (c .before .before .before .before .before .before .before .before .before .before .before .before .before .before .before .before .before .before .before .before .before .args .w .now) (c .before .before .before .before .before .before .before .before .before .before .before .before .before .before .before .before .before .before .before .before .before .args .plan) (c .before .before .before .before .before .before .before .before .before .before .before .before .before .before .before .before .before .before .before .before .before .args .base) (c .before .before .before .before .before .before .before .before .before .before .before .before .before .before .before .before .before .before .before .before .before .args .n) (c .before .before .before .before .before .before .before .before .before .before .before .before .before .before .before .before .before .before .before .before .before .args .frame) (c .before .before .before .before .before .before .before .before .before .before .before .before .before .before .before .before .before .before .before .before .before .args .deep) (c .before .before .before .before .before .before .before .before .before .before .before .before .before .before .before .before .before .before .before .before .before .args .left) (c .before .before .before .before .before .before .before .before .before .before .before .before .before .before .before .before .before .before .before .before .before .pre .1 .0) (c .before .before .before .before .before .before .before .before .before .before .before .before .before .before .before .before .before .before .before .before .before .pre .1 .5) _ (c .before .before .before .before .before .before .before .before .before .before .before .before .before .before .before .before .before .before .pairs-of .ensures .0) (c .before .before .before .before .before .before .before .before .before .before .before .before .before .before .before .nodes .w) (c .before .before .before .before .before .before .before .before .before .before .before .before .before .before .before .nodes .fuel) (c .before .before .before .before .before .before .before .before .before .before .before .before .before .before .before .nodes .i) (c .before .before .before .before .before .before .before .before .before .before .before .before .before .before .before .nodes .inv .1) _ _ (c .before .before .before .before .before .before .before .before .before .before .before .before .before .before .before .before .before .tried .ensures) refl _ (c .before .before .before .before .before .before .before .before .before .before .before .before .before .next-candidate .ensures) in let h = tried-inside (c .before .before .before .before .before .before .before .before .before .before .before .before .before .before .before .before .before .before .before .before .before .args .plan .strategy) (c .before .before .before .before .before .before .before .before .before .before .before .before .before .before .before .before .before .before .before .before .before .args .n) (c .before .before .before .before .before .before .before .before .before .before .before .before .before .next-candidate .result .node) (c .before .before .before .before .before .before .before .before .before .before .before .before .before .before .before .before .before .tried .result) (c .before .before .before .before .before .before .before .before .before .before .before .before .before .before .before .before .before .tried .ensures) (c .before .before .before .before .before .before .before .before .before .before .before .if1 .left) in let z : c .before .before .before .before .before .before .before .before .before .before .before .before .before .before .before .before .before .before .before .before .before .args .base + 2 * c .before .before .before .before .before .before .before .before .before .before .before .before .before .before .before .before .before .before .before .before .before .args .n - (c .before .before .before .before .before .before .before .before .before .before .before .before .before .before .before .before .before .before .before .before .before .args .base + 2 * c .before .before .before .before .before .before .before .before .before .before .before .before .before .next-candidate .result .node) ≡ 2 * (c .before .before .before .before .before .before .before .before .before .before .before .before .before .before .before .before .before .before .before .before .before .args .n - c .before .before .before .before .before .before .before .before .before .before .before .before .before .next-candidate .result .node) = omega (arith, h) in rw (c .seeking3 .ensures) (searching-stops (givenOf (c .before .before .before .before .before .before .before .before .before .before .before .before .before .before .before .before .before .before .before .before .before .args .heads .now) (c .before .before .before .before .before .before .before .before .before .before .before .before .before .before .before .before .before .before .before .before .before .args .rows .now) (c .before .before .before .before .before .before .before .before .before .before .before .before .before .before .before .before .before .before .before .before .before .args .types) (c .before .before .before .before .before .before .before .before .before .before .before .before .before .before .before .before .before .before .before .before .before .args .book .now) (c .before .before .before .before .before .before .before .before .before .before .before .before .before .before .before .before .before .before .before .before .before .args .starts .now)) (c .before .before .before .before .before .before .before .before .before .before .before .before .before .before .before .before .before .before .before .before .before .args .w .now) (c .before .before .before .before .before .before .before .before .before .before .before .before .before .before .before .before .before .before .before .before .before .args .plan) (c .before .before .before .before .before .before .before .before .before .before .before .before .before .before .before .before .before .before .before .before .before .args .base) (c .before .before .before .before .before .before .before .before .before .before .before .before .before .before .before .before .before .before .before .before .before .args .n) (c .before .before .before .before .before .before .before .before .before .before .before .before .before .before .before .before .before .before .before .before .before .args .frame) (c .before .before .before .before .before .before .before .before .before .before .before .before .before .before .before .before .before .before .before .before .before .args .deep) (c .before .before .before .before .before .before .before .before .before .before .before .before .before .before .before .before .before .before .before .before .before .args .left) (c .before .before .before .before .before .before .before .before .before .before .before .before .before .before .before .before .before .before .before .before .before .pre .1 .0) (c .before .before .before .before .before .before .before .before .before .before .before .before .before .before .before .nodes .w) (c .before .before .before .before .before .before .before .before .before .before .before .before .before .next-candidate .result .left) (c .before .before .before .before .before .before .before .before .before .before .before .before .before .next-candidate .result .node) s (subst (λ x. c .before .before .before .before .before .before .before .before .before .before .before .before .before .next-candidate .result .node < x) (c .before .before .before .before .before .before .before .before .before .before .before .before .before .before .before .before .before .tried .ensures) (c .before .before .before .before .before .before .before .before .before .before .before .if1 .left)) (c .before .before .before .before .before .before .before .before .before .before .before .before .before .next-candidate .ensures .typed (c .before .before .before .before .before .before .before .before .before .before .before .if1 .left)) (c .before .before .before .before .before .before .before .before .before .if2 .left) (c .before .before .before .before .match-pattern .result) (take (c .before .before .before .before .before .before .before .before .before .before .before .before .before .before .before .before .before .before .before .before .before .args .frame .top) (c .before .before .before .before .before .before .before .before .before .before .before .before .before .before .before .nodes .w)) _ _ refl (ap (λ x. take x (drop (c .before .before .before .before .before .before .before .before .before .before .before .before .before .before .before .before .before .before .before .before .before .args .base + 2 * c .before .before .before .before .before .before .before .before .before .before .before .before .before .next-candidate .result .node) (take (c .before .before .before .before .before .before .before .before .before .before .before .before .before .before .before .before .before .before .before .before .before .args .frame .top) (c .before .before .before .before .before .before .before .before .before .before .before .before .before .before .before .nodes .w)))) z) (c .before .before .before .before .before .before .before .before .before .before .before .before .before .before .before .before .before .before .pairs-of .ensures .0) (answers-as (c .before .before .before .before .before .before .before .before .before .before .before .before .before .before .before .nodes .now) (c .before .before .before .before .before .before .before .before .before .before .before .before .before .before .before .before .before .before .before .before .before .args .frame) (c .before .before .before .before .before .before .before .before .before .before .before .before .before .before .before .nodes .inv .0) (c .before .before .before .before .match-pattern .ensures true)) (c .before .before .verdict .given .1))
 
 pub seek-same-length-4 : (t : ℕ) → seek-lts.Need-same-length-4 (seek-claims t) (seek-at t) seek.Post seek-Inv-loop seek-μ-loop seek-Inv-nodes seek-μ-nodes
 seek-same-length-4 t c = omega (arith, c .before .before .before .before .before .before .before .step .ensures .takes .long, c .before .before .before .before .before .before .before .before .before .before .loop .inv .1 .long, c .before .before .before .before .before .before .before .before .before .before .before .before .before .before .before .before .before .before .before .before .before .before .before .before .before .nodes .inv .1 .long)
 
 pub seek-returns-4 : (t : ℕ) → seek-lts.Need-returns-4 (seek-claims t) (seek-at t) seek.Post seek-Inv-loop seek-μ-loop seek-Inv-nodes seek-μ-nodes
-seek-returns-4 t c = let s = searching-next (givenOf (c .before .before .before .before .before .before .before .before .before .before .before .before .before .before .before .before .before .before .before .before .before .before .before .before .before .before .before .before .before .before .args .heads .now) (c .before .before .before .before .before .before .before .before .before .before .before .before .before .before .before .before .before .before .before .before .before .before .before .before .before .before .before .before .before .before .args .rows .now) (c .before .before .before .before .before .before .before .before .before .before .before .before .before .before .before .before .before .before .before .before .before .before .before .before .before .before .before .before .before .before .args .types) (c .before .before .before .before .before .before .before .before .before .before .before .before .before .before .before .before .before .before .before .before .before .before .before .before .before .before .before .before .before .before .args .book .now) (c .before .before .before .before .before .before .before .before .before .before .before .before .before .before .before .before .before .before .before .before .before .before .before .before .before .before .before .before .before .before .args .starts .now)) (c .before .before .before .before .before .before .before .before .before .before .before .before .before .before .before .before .before .before .before .before .before .before .before .before .before .before .before .before .before .before .args .w .now) (c .before .before .before .before .before .before .before .before .before .before .before .before .before .before .before .before .before .before .before .before .before .before .before .before .before .before .before .before .before .before .args .plan) (c .before .before .before .before .before .before .before .before .before .before .before .before .before .before .before .before .before .before .before .before .before .before .before .before .before .before .before .before .before .before .args .base) (c .before .before .before .before .before .before .before .before .before .before .before .before .before .before .before .before .before .before .before .before .before .before .before .before .before .before .before .before .before .before .args .n) (c .before .before .before .before .before .before .before .before .before .before .before .before .before .before .before .before .before .before .before .before .before .before .before .before .before .before .before .before .before .before .args .frame) (c .before .before .before .before .before .before .before .before .before .before .before .before .before .before .before .before .before .before .before .before .before .before .before .before .before .before .before .before .before .before .args .deep) (c .before .before .before .before .before .before .before .before .before .before .before .before .before .before .before .before .before .before .before .before .before .before .before .before .before .before .before .before .before .before .args .left) (c .before .before .before .before .before .before .before .before .before .before .before .before .before .before .before .before .before .before .before .before .before .before .before .before .before .before .before .before .before .before .pre .1 .0) (c .before .before .before .before .before .before .before .before .before .before .before .before .before .before .before .before .before .before .before .before .before .before .before .before .before .before .before .before .before .before .pre .1 .5) _ (c .before .before .before .before .before .before .before .before .before .before .before .before .before .before .before .before .before .before .before .before .before .before .before .before .before .before .before .pairs-of .ensures .0) (c .before .before .before .before .before .before .before .before .before .before .before .before .before .before .before .before .before .before .before .before .before .before .before .before .before .nodes .w) (c .before .before .before .before .before .before .before .before .before .before .before .before .before .before .before .before .before .before .before .before .before .before .before .before .before .nodes .fuel) (c .before .before .before .before .before .before .before .before .before .before .before .before .before .before .before .before .before .before .before .before .before .before .before .before .before .nodes .i) (c .before .before .before .before .before .before .before .before .before .before .before .before .before .before .before .before .before .before .before .before .before .before .before .before .before .nodes .inv .1) _ _ (c .before .before .before .before .before .before .before .before .before .before .before .before .before .before .before .before .before .before .before .before .before .before .before .before .before .before .tried .ensures) refl _ (c .before .before .before .before .before .before .before .before .before .before .before .before .before .before .before .before .before .before .before .before .before .before .before .next-candidate .ensures) in let h = tried-inside (c .before .before .before .before .before .before .before .before .before .before .before .before .before .before .before .before .before .before .before .before .before .before .before .before .before .before .before .before .before .before .args .plan .strategy) (c .before .before .before .before .before .before .before .before .before .before .before .before .before .before .before .before .before .before .before .before .before .before .before .before .before .before .before .before .before .before .args .n) (c .before .before .before .before .before .before .before .before .before .before .before .before .before .before .before .before .before .before .before .before .before .before .before .next-candidate .result .node) (c .before .before .before .before .before .before .before .before .before .before .before .before .before .before .before .before .before .before .before .before .before .before .before .before .before .before .tried .result) (c .before .before .before .before .before .before .before .before .before .before .before .before .before .before .before .before .before .before .before .before .before .before .before .before .before .before .tried .ensures) (c .before .before .before .before .before .before .before .before .before .before .before .before .before .before .before .before .before .before .before .before .before .if1 .left) in let z : c .before .before .before .before .before .before .before .before .before .before .before .before .before .before .before .before .before .before .before .before .before .before .before .before .before .before .before .before .before .before .args .base + 2 * c .before .before .before .before .before .before .before .before .before .before .before .before .before .before .before .before .before .before .before .before .before .before .before .before .before .before .before .before .before .before .args .n - (c .before .before .before .before .before .before .before .before .before .before .before .before .before .before .before .before .before .before .before .before .before .before .before .before .before .before .before .before .before .before .args .base + 2 * c .before .before .before .before .before .before .before .before .before .before .before .before .before .before .before .before .before .before .before .before .before .before .before .next-candidate .result .node) ≡ 2 * (c .before .before .before .before .before .before .before .before .before .before .before .before .before .before .before .before .before .before .before .before .before .before .before .before .before .before .before .before .before .before .args .n - c .before .before .before .before .before .before .before .before .before .before .before .before .before .before .before .before .before .before .before .before .before .before .before .next-candidate .result .node) = omega (arith, h) in rw (c .seeking4 .ensures) (trying-stops (givenOf (c .before .before .before .before .before .before .before .before .before .before .before .before .before .before .before .before .before .before .before .before .before .before .before .before .before .before .before .before .before .before .args .heads .now) (c .before .before .before .before .before .before .before .before .before .before .before .before .before .before .before .before .before .before .before .before .before .before .before .before .before .before .before .before .before .before .args .rows .now) (c .before .before .before .before .before .before .before .before .before .before .before .before .before .before .before .before .before .before .before .before .before .before .before .before .before .before .before .before .before .before .args .types) (c .before .before .before .before .before .before .before .before .before .before .before .before .before .before .before .before .before .before .before .before .before .before .before .before .before .before .before .before .before .before .args .book .now) (c .before .before .before .before .before .before .before .before .before .before .before .before .before .before .before .before .before .before .before .before .before .before .before .before .before .before .before .before .before .before .args .starts .now)) (c .before .before .before .before .before .before .before .before .before .before .before .before .before .before .before .before .before .before .before .before .before .before .before .before .before .before .before .before .before .before .args .w .now) (c .before .before .before .before .before .before .before .before .before .before .before .before .before .before .before .before .before .before .before .before .before .before .before .before .before .before .before .before .before .before .args .plan) (c .before .before .before .before .before .before .before .before .before .before .before .before .before .before .before .before .before .before .before .before .before .before .before .before .before .before .before .before .before .before .args .base) (c .before .before .before .before .before .before .before .before .before .before .before .before .before .before .before .before .before .before .before .before .before .before .before .before .before .before .before .before .before .before .args .n) (c .before .before .before .before .before .before .before .before .before .before .before .before .before .before .before .before .before .before .before .before .before .before .before .before .before .before .before .before .before .before .args .frame) (c .before .before .before .before .before .before .before .before .before .before .before .before .before .before .before .before .before .before .before .before .before .before .before .before .before .before .before .before .before .before .args .deep) (c .before .before .before .before .before .before .before .before .before .before .before .before .before .before .before .before .before .before .before .before .before .before .before .before .before .before .before .before .before .before .args .left) (c .before .before .before .before .before .before .before .before .before .before .before .before .before .before .before .before .before .before .before .before .before .before .before .before .before .before .before .before .before .before .pre .1 .0) (c .before .before .before .before .before .before .before .before .before .before .before .before .before .before .before .before .before .before .before .before .before .before .before .before .before .nodes .w) (c .before .before .before .before .before .before .before .before .before .before .before .before .before .before .before .before .before .before .before .before .before .before .before .next-candidate .result .left) (c .before .before .before .before .before .before .before .before .before .before .before .before .before .before .before .before .before .before .before .before .before .before .before .next-candidate .result .node) s (subst (λ x. c .before .before .before .before .before .before .before .before .before .before .before .before .before .before .before .before .before .before .before .before .before .before .before .next-candidate .result .node < x) (c .before .before .before .before .before .before .before .before .before .before .before .before .before .before .before .before .before .before .before .before .before .before .before .before .before .before .tried .ensures) (c .before .before .before .before .before .before .before .before .before .before .before .before .before .before .before .before .before .before .before .before .before .if1 .left)) (c .before .before .before .before .before .before .before .before .before .before .before .before .before .before .before .before .before .before .before .before .before .before .before .next-candidate .ensures .typed (c .before .before .before .before .before .before .before .before .before .before .before .before .before .before .before .before .before .before .before .before .before .if1 .left)) (c .before .before .before .before .before .before .before .before .before .before .before .before .before .before .before .before .before .before .before .if2 .left) (c .before .before .before .before .before .before .before .before .before .before .before .before .before .before .match-pattern .result) (take (c .before .before .before .before .before .before .before .before .before .before .before .before .before .before .before .before .before .before .before .before .before .before .before .before .before .before .before .before .before .before .args .frame .top) (c .before .before .before .before .before .before .before .before .before .before .before .before .before .before .before .before .before .before .before .before .before .before .before .before .before .nodes .w)) _ _ refl (ap (λ x. take x (drop (c .before .before .before .before .before .before .before .before .before .before .before .before .before .before .before .before .before .before .before .before .before .before .before .before .before .before .before .before .before .before .args .base + 2 * c .before .before .before .before .before .before .before .before .before .before .before .before .before .before .before .before .before .before .before .before .before .before .before .next-candidate .result .node) (take (c .before .before .before .before .before .before .before .before .before .before .before .before .before .before .before .before .before .before .before .before .before .before .before .before .before .before .before .before .before .before .args .frame .top) (c .before .before .before .before .before .before .before .before .before .before .before .before .before .before .before .before .before .before .before .before .before .before .before .before .before .nodes .w)))) z) (c .before .before .before .before .before .before .before .before .before .before .before .before .before .before .before .before .before .before .before .before .before .before .before .before .before .before .before .pairs-of .ensures .0) (answers-as (c .before .before .before .before .before .before .before .before .before .before .before .before .before .before .before .before .before .before .before .before .before .before .before .before .before .nodes .now) (c .before .before .before .before .before .before .before .before .before .before .before .before .before .before .before .before .before .before .before .before .before .before .before .before .before .before .before .before .before .before .args .frame) (c .before .before .before .before .before .before .before .before .before .before .before .before .before .before .before .before .before .before .before .before .before .before .before .before .before .nodes .inv .0) (c .before .before .before .before .before .before .before .before .before .before .before .before .before .before .match-pattern .ensures true)) (c .before .before .before .before .before .before .before .before .before .before .loop .w) (c .before .before .before .before .before .before .before .before .before .before .loop .fuel) (c .before .before .before .before .before .before .before .before .before .before .loop .now) (c .before .before .before .before .before .before .before .before .before .before .loop .at) (c .before .before .before .before .before .before .before .before .before .before .loop .k) (trying-run (givenOf (c .before .before .before .before .before .before .before .before .before .before .before .before .before .before .before .before .before .before .before .before .before .before .before .before .before .before .before .before .before .before .args .heads .now) (c .before .before .before .before .before .before .before .before .before .before .before .before .before .before .before .before .before .before .before .before .before .before .before .before .before .before .before .before .before .before .args .rows .now) (c .before .before .before .before .before .before .before .before .before .before .before .before .before .before .before .before .before .before .before .before .before .before .before .before .before .before .before .before .before .before .args .types) (c .before .before .before .before .before .before .before .before .before .before .before .before .before .before .before .before .before .before .before .before .before .before .before .before .before .before .before .before .before .before .args .book .now) (c .before .before .before .before .before .before .before .before .before .before .before .before .before .before .before .before .before .before .before .before .before .before .before .before .before .before .before .before .before .before .args .starts .now)) (c .before .before .before .before .before .before .before .before .before .before .before .before .before .before .before .before .before .before .before .before .before .before .before .before .before .before .before .before .before .before .args .w .now) (c .before .before .before .before .before .before .before .before .before .before .before .before .before .before .before .before .before .before .before .before .before .before .before .before .before .before .before .before .before .before .args .plan) (c .before .before .before .before .before .before .before .before .before .before .before .before .before .before .before .before .before .before .before .before .before .before .before .before .before .before .before .before .before .before .args .base) (c .before .before .before .before .before .before .before .before .before .before .before .before .before .before .before .before .before .before .before .before .before .before .before .before .before .before .before .before .before .before .args .n) (c .before .before .before .before .before .before .before .before .before .before .before .before .before .before .before .before .before .before .before .before .before .before .before .before .before .before .before .before .before .before .args .frame) (c .before .before .before .before .before .before .before .before .before .before .before .before .before .before .before .before .before .before .before .before .before .before .before .before .before .before .before .before .before .before .args .deep) (c .before .before .before .before .before .before .before .before .before .before .before .before .before .before .before .before .before .before .before .before .before .before .before .before .before .before .before .before .before .before .args .left) (c .before .before .before .before .before .before .before .before .before .before .before .before .before .before .before .before .before .before .before .before .before .before .before .before .before .before .before .before .before .before .pre .1 .0) (c .before .before .before .before .before .before .before .before .before .before .before .before .before .before .before .before .before .before .before .before .before .before .before .before .before .nodes .w) (c .before .before .before .before .before .before .before .before .before .before .before .before .before .before .before .before .before .before .before .before .before .before .before .next-candidate .result .left) (c .before .before .before .before .before .before .before .before .before .before .before .before .before .before .before .before .before .before .before .before .before .before .before .next-candidate .result .node) s (subst (λ x. c .before .before .before .before .before .before .before .before .before .before .before .before .before .before .before .before .before .before .before .before .before .before .before .next-candidate .result .node < x) (c .before .before .before .before .before .before .before .before .before .before .before .before .before .before .before .before .before .before .before .before .before .before .before .before .before .before .tried .ensures) (c .before .before .before .before .before .before .before .before .before .before .before .before .before .before .before .before .before .before .before .before .before .if1 .left)) (c .before .before .before .before .before .before .before .before .before .before .before .before .before .before .before .before .before .before .before .before .before .before .before .next-candidate .ensures .typed (c .before .before .before .before .before .before .before .before .before .before .before .before .before .before .before .before .before .before .before .before .before .if1 .left)) (c .before .before .before .before .before .before .before .before .before .before .before .before .before .before .before .before .before .before .before .if2 .left) (c .before .before .before .before .before .before .before .before .before .before .before .before .before .before .match-pattern .result) (take (c .before .before .before .before .before .before .before .before .before .before .before .before .before .before .before .before .before .before .before .before .before .before .before .before .before .before .before .before .before .before .args .frame .top) (c .before .before .before .before .before .before .before .before .before .before .before .before .before .before .before .before .before .before .before .before .before .before .before .before .before .nodes .w)) _ _ refl (ap (λ x. take x (drop (c .before .before .before .before .before .before .before .before .before .before .before .before .before .before .before .before .before .before .before .before .before .before .before .before .before .before .before .before .before .before .args .base + 2 * c .before .before .before .before .before .before .before .before .before .before .before .before .before .before .before .before .before .before .before .before .before .before .before .next-candidate .result .node) (take (c .before .before .before .before .before .before .before .before .before .before .before .before .before .before .before .before .before .before .before .before .before .before .before .before .before .before .before .before .before .before .args .frame .top) (c .before .before .before .before .before .before .before .before .before .before .before .before .before .before .before .before .before .before .before .before .before .before .before .before .before .nodes .w)))) z) (c .before .before .before .before .before .before .before .before .before .before .before .before .before .before .before .before .before .before .before .before .before .before .before .before .before .before .before .pairs-of .ensures .0) (answers-as (c .before .before .before .before .before .before .before .before .before .before .before .before .before .before .before .before .before .before .before .before .before .before .before .before .before .nodes .now) (c .before .before .before .before .before .before .before .before .before .before .before .before .before .before .before .before .before .before .before .before .before .before .before .before .before .before .before .before .before .before .args .frame) (c .before .before .before .before .before .before .before .before .before .before .before .before .before .before .before .before .before .before .before .before .before .before .before .before .before .nodes .inv .0) (c .before .before .before .before .before .before .before .before .before .before .before .before .before .before .match-pattern .ensures true)) (c .before .before .before .before .before .before .before .before .before .before .before .before .enum-told2 .given .1) (c .before .before .before .before .before .before .before .before .before .before .before .before .before .before .before .before .before .before .before .before .before .before .before .before .before .before .before .before .before .before .pre .1 .2) (c .before .before .before .before .before .before .before .before .before .before .loop .w) (c .before .before .before .before .before .before .before .before .before .before .loop .fuel) (c .before .before .before .before .before .before .before .before .before .before .loop .now) (c .before .before .before .before .before .before .before .before .before .before .loop .at) (c .before .before .before .before .before .before .before .before .before .before .loop .k) (subst (λ x. Parting (givenOf (c .before .before .before .before .before .before .before .before .before .before .before .before .before .before .before .before .before .before .before .before .before .before .before .before .before .before .before .before .before .before .args .heads .now) (c .before .before .before .before .before .before .before .before .before .before .before .before .before .before .before .before .before .before .before .before .before .before .before .before .before .before .before .before .before .before .args .rows .now) (c .before .before .before .before .before .before .before .before .before .before .before .before .before .before .before .before .before .before .before .before .before .before .before .before .before .before .before .before .before .before .args .types) (c .before .before .before .before .before .before .before .before .before .before .before .before .before .before .before .before .before .before .before .before .before .before .before .before .before .before .before .before .before .before .args .book .now) (c .before .before .before .before .before .before .before .before .before .before .before .before .before .before .before .before .before .before .before .before .before .before .before .before .before .before .before .before .before .before .args .starts .now)) (c .before .before .before .before .before .before .before .before .before .before .before .before .before .before .before .before .before .before .before .before .before .before .before .before .before .before .before .before .before .before .args .deep) (c .before .before .before .before .before .before .before .before .before .before .before .before .before .before .before .before .before .before .before .before .before .before .before .before .before .nodes .w) (spent (c .before .before .before .before .before .before .before .before .before .before .before .before .before .before .before .before .before .before .before .before .before .before .before .next-candidate .result .left)) x (c .before .before .before .before .before .before .before .before .before .before .before .before .before .before .before .before .before .before .before .before .before .before .before .before .before .before .before .before .before .before .args .plan .first) (c .before .before .before .before .before .before .before .before .before .before .before .before .before .before .before .before .before .before .before .before .before .before .before .before .before .before .before .before .before .before .args .plan .count) (c .before .before .before .before .before .before .before .before .before .before .loop .w) (c .before .before .before .before .before .before .before .before .before .before .loop .fuel) (c .before .before .before .before .before .before .before .before .before .before .loop .now) (c .before .before .before .before .before .before .before .before .before .before .loop .at) (c .before .before .before .before .before .before .before .before .before .before .loop .k)) (c .before .before .before .before .before .before .before .before .before .before .before .after-match .ensures) (c .before .before .before .before .before .before .before .before .before .before .loop .inv .1))) (c .before .before .before .before .before .before .before .before .before .loop-test .taken) _ (c .before .before .before .before .before .before .before .step .result) (c .before .before .before .before .before .before .before .step .ensures) (c .before .before .verdict2 .given .1))
+seek-returns-4 t c = let s = searching-next (givenOf (c .before .before .before .before .before .before .before .before .before .before .before .before .before .before .before .before .before .before .before .before .before .before .before .before .before .before .before .before .before .before .before .args .heads .now) (c .before .before .before .before .before .before .before .before .before .before .before .before .before .before .before .before .before .before .before .before .before .before .before .before .before .before .before .before .before .before .before .args .rows .now) (c .before .before .before .before .before .before .before .before .before .before .before .before .before .before .before .before .before .before .before .before .before .before .before .before .before .before .before .before .before .before .before .args .types) (c .before .before .before .before .before .before .before .before .before .before .before .before .before .before .before .before .before .before .before .before .before .before .before .before .before .before .before .before .before .before .before .args .book .now) (c .before .before .before .before .before .before .before .before .before .before .before .before .before .before .before .before .before .before .before .before .before .before .before .before .before .before .before .before .before .before .before .args .starts .now)) (c .before .before .before .before .before .before .before .before .before .before .before .before .before .before .before .before .before .before .before .before .before .before .before .before .before .before .before .before .before .before .before .args .w .now) (c .before .before .before .before .before .before .before .before .before .before .before .before .before .before .before .before .before .before .before .before .before .before .before .before .before .before .before .before .before .before .before .args .plan) (c .before .before .before .before .before .before .before .before .before .before .before .before .before .before .before .before .before .before .before .before .before .before .before .before .before .before .before .before .before .before .before .args .base) (c .before .before .before .before .before .before .before .before .before .before .before .before .before .before .before .before .before .before .before .before .before .before .before .before .before .before .before .before .before .before .before .args .n) (c .before .before .before .before .before .before .before .before .before .before .before .before .before .before .before .before .before .before .before .before .before .before .before .before .before .before .before .before .before .before .before .args .frame) (c .before .before .before .before .before .before .before .before .before .before .before .before .before .before .before .before .before .before .before .before .before .before .before .before .before .before .before .before .before .before .before .args .deep) (c .before .before .before .before .before .before .before .before .before .before .before .before .before .before .before .before .before .before .before .before .before .before .before .before .before .before .before .before .before .before .before .args .left) (c .before .before .before .before .before .before .before .before .before .before .before .before .before .before .before .before .before .before .before .before .before .before .before .before .before .before .before .before .before .before .before .pre .1 .0) (c .before .before .before .before .before .before .before .before .before .before .before .before .before .before .before .before .before .before .before .before .before .before .before .before .before .before .before .before .before .before .before .pre .1 .5) _ (c .before .before .before .before .before .before .before .before .before .before .before .before .before .before .before .before .before .before .before .before .before .before .before .before .before .before .before .before .pairs-of .ensures .0) (c .before .before .before .before .before .before .before .before .before .before .before .before .before .before .before .before .before .before .before .before .before .before .before .before .before .nodes .w) (c .before .before .before .before .before .before .before .before .before .before .before .before .before .before .before .before .before .before .before .before .before .before .before .before .before .nodes .fuel) (c .before .before .before .before .before .before .before .before .before .before .before .before .before .before .before .before .before .before .before .before .before .before .before .before .before .nodes .i) (c .before .before .before .before .before .before .before .before .before .before .before .before .before .before .before .before .before .before .before .before .before .before .before .before .before .nodes .inv .1) _ _ (c .before .before .before .before .before .before .before .before .before .before .before .before .before .before .before .before .before .before .before .before .before .before .before .before .before .before .before .tried .ensures) refl _ (c .before .before .before .before .before .before .before .before .before .before .before .before .before .before .before .before .before .before .before .before .before .before .before .next-candidate .ensures) in let h = tried-inside (c .before .before .before .before .before .before .before .before .before .before .before .before .before .before .before .before .before .before .before .before .before .before .before .before .before .before .before .before .before .before .before .args .plan .strategy) (c .before .before .before .before .before .before .before .before .before .before .before .before .before .before .before .before .before .before .before .before .before .before .before .before .before .before .before .before .before .before .before .args .n) (c .before .before .before .before .before .before .before .before .before .before .before .before .before .before .before .before .before .before .before .before .before .before .before .next-candidate .result .node) (c .before .before .before .before .before .before .before .before .before .before .before .before .before .before .before .before .before .before .before .before .before .before .before .before .before .before .before .tried .result) (c .before .before .before .before .before .before .before .before .before .before .before .before .before .before .before .before .before .before .before .before .before .before .before .before .before .before .before .tried .ensures) (c .before .before .before .before .before .before .before .before .before .before .before .before .before .before .before .before .before .before .before .before .before .if1 .left) in let z : c .before .before .before .before .before .before .before .before .before .before .before .before .before .before .before .before .before .before .before .before .before .before .before .before .before .before .before .before .before .before .before .args .base + 2 * c .before .before .before .before .before .before .before .before .before .before .before .before .before .before .before .before .before .before .before .before .before .before .before .before .before .before .before .before .before .before .before .args .n - (c .before .before .before .before .before .before .before .before .before .before .before .before .before .before .before .before .before .before .before .before .before .before .before .before .before .before .before .before .before .before .before .args .base + 2 * c .before .before .before .before .before .before .before .before .before .before .before .before .before .before .before .before .before .before .before .before .before .before .before .next-candidate .result .node) ≡ 2 * (c .before .before .before .before .before .before .before .before .before .before .before .before .before .before .before .before .before .before .before .before .before .before .before .before .before .before .before .before .before .before .before .args .n - c .before .before .before .before .before .before .before .before .before .before .before .before .before .before .before .before .before .before .before .before .before .before .before .next-candidate .result .node) = omega (arith, h) in rw (c .seeking4 .ensures) (trying-stops (givenOf (c .before .before .before .before .before .before .before .before .before .before .before .before .before .before .before .before .before .before .before .before .before .before .before .before .before .before .before .before .before .before .before .args .heads .now) (c .before .before .before .before .before .before .before .before .before .before .before .before .before .before .before .before .before .before .before .before .before .before .before .before .before .before .before .before .before .before .before .args .rows .now) (c .before .before .before .before .before .before .before .before .before .before .before .before .before .before .before .before .before .before .before .before .before .before .before .before .before .before .before .before .before .before .before .args .types) (c .before .before .before .before .before .before .before .before .before .before .before .before .before .before .before .before .before .before .before .before .before .before .before .before .before .before .before .before .before .before .before .args .book .now) (c .before .before .before .before .before .before .before .before .before .before .before .before .before .before .before .before .before .before .before .before .before .before .before .before .before .before .before .before .before .before .before .args .starts .now)) (c .before .before .before .before .before .before .before .before .before .before .before .before .before .before .before .before .before .before .before .before .before .before .before .before .before .before .before .before .before .before .before .args .w .now) (c .before .before .before .before .before .before .before .before .before .before .before .before .before .before .before .before .before .before .before .before .before .before .before .before .before .before .before .before .before .before .before .args .plan) (c .before .before .before .before .before .before .before .before .before .before .before .before .before .before .before .before .before .before .before .before .before .before .before .before .before .before .before .before .before .before .before .args .base) (c .before .before .before .before .before .before .before .before .before .before .before .before .before .before .before .before .before .before .before .before .before .before .before .before .before .before .before .before .before .before .before .args .n) (c .before .before .before .before .before .before .before .before .before .before .before .before .before .before .before .before .before .before .before .before .before .before .before .before .before .before .before .before .before .before .before .args .frame) (c .before .before .before .before .before .before .before .before .before .before .before .before .before .before .before .before .before .before .before .before .before .before .before .before .before .before .before .before .before .before .before .args .deep) (c .before .before .before .before .before .before .before .before .before .before .before .before .before .before .before .before .before .before .before .before .before .before .before .before .before .before .before .before .before .before .before .args .left) (c .before .before .before .before .before .before .before .before .before .before .before .before .before .before .before .before .before .before .before .before .before .before .before .before .before .before .before .before .before .before .before .pre .1 .0) (c .before .before .before .before .before .before .before .before .before .before .before .before .before .before .before .before .before .before .before .before .before .before .before .before .before .nodes .w) (c .before .before .before .before .before .before .before .before .before .before .before .before .before .before .before .before .before .before .before .before .before .before .before .next-candidate .result .left) (c .before .before .before .before .before .before .before .before .before .before .before .before .before .before .before .before .before .before .before .before .before .before .before .next-candidate .result .node) s (subst (λ x. c .before .before .before .before .before .before .before .before .before .before .before .before .before .before .before .before .before .before .before .before .before .before .before .next-candidate .result .node < x) (c .before .before .before .before .before .before .before .before .before .before .before .before .before .before .before .before .before .before .before .before .before .before .before .before .before .before .before .tried .ensures) (c .before .before .before .before .before .before .before .before .before .before .before .before .before .before .before .before .before .before .before .before .before .if1 .left)) (c .before .before .before .before .before .before .before .before .before .before .before .before .before .before .before .before .before .before .before .before .before .before .before .next-candidate .ensures .typed (c .before .before .before .before .before .before .before .before .before .before .before .before .before .before .before .before .before .before .before .before .before .if1 .left)) (c .before .before .before .before .before .before .before .before .before .before .before .before .before .before .before .before .before .before .before .if2 .left) (c .before .before .before .before .before .before .before .before .before .before .before .before .before .before .match-pattern .result) (take (c .before .before .before .before .before .before .before .before .before .before .before .before .before .before .before .before .before .before .before .before .before .before .before .before .before .before .before .before .before .before .before .args .frame .top) (c .before .before .before .before .before .before .before .before .before .before .before .before .before .before .before .before .before .before .before .before .before .before .before .before .before .nodes .w)) _ _ refl (ap (λ x. take x (drop (c .before .before .before .before .before .before .before .before .before .before .before .before .before .before .before .before .before .before .before .before .before .before .before .before .before .before .before .before .before .before .before .args .base + 2 * c .before .before .before .before .before .before .before .before .before .before .before .before .before .before .before .before .before .before .before .before .before .before .before .next-candidate .result .node) (take (c .before .before .before .before .before .before .before .before .before .before .before .before .before .before .before .before .before .before .before .before .before .before .before .before .before .before .before .before .before .before .before .args .frame .top) (c .before .before .before .before .before .before .before .before .before .before .before .before .before .before .before .before .before .before .before .before .before .before .before .before .before .nodes .w)))) z) (c .before .before .before .before .before .before .before .before .before .before .before .before .before .before .before .before .before .before .before .before .before .before .before .before .before .before .before .before .pairs-of .ensures .0) (answers-as (c .before .before .before .before .before .before .before .before .before .before .before .before .before .before .before .before .before .before .before .before .before .before .before .before .before .nodes .now) (c .before .before .before .before .before .before .before .before .before .before .before .before .before .before .before .before .before .before .before .before .before .before .before .before .before .before .before .before .before .before .before .args .frame) (c .before .before .before .before .before .before .before .before .before .before .before .before .before .before .before .before .before .before .before .before .before .before .before .before .before .nodes .inv .0) (c .before .before .before .before .before .before .before .before .before .before .before .before .before .before .match-pattern .ensures true)) (c .before .before .before .before .before .before .before .before .before .before .loop .w) (c .before .before .before .before .before .before .before .before .before .before .loop .fuel) (c .before .before .before .before .before .before .before .before .before .before .loop .now) (c .before .before .before .before .before .before .before .before .before .before .loop .at) (c .before .before .before .before .before .before .before .before .before .before .loop .k) (trying-run (givenOf (c .before .before .before .before .before .before .before .before .before .before .before .before .before .before .before .before .before .before .before .before .before .before .before .before .before .before .before .before .before .before .before .args .heads .now) (c .before .before .before .before .before .before .before .before .before .before .before .before .before .before .before .before .before .before .before .before .before .before .before .before .before .before .before .before .before .before .before .args .rows .now) (c .before .before .before .before .before .before .before .before .before .before .before .before .before .before .before .before .before .before .before .before .before .before .before .before .before .before .before .before .before .before .before .args .types) (c .before .before .before .before .before .before .before .before .before .before .before .before .before .before .before .before .before .before .before .before .before .before .before .before .before .before .before .before .before .before .before .args .book .now) (c .before .before .before .before .before .before .before .before .before .before .before .before .before .before .before .before .before .before .before .before .before .before .before .before .before .before .before .before .before .before .before .args .starts .now)) (c .before .before .before .before .before .before .before .before .before .before .before .before .before .before .before .before .before .before .before .before .before .before .before .before .before .before .before .before .before .before .before .args .w .now) (c .before .before .before .before .before .before .before .before .before .before .before .before .before .before .before .before .before .before .before .before .before .before .before .before .before .before .before .before .before .before .before .args .plan) (c .before .before .before .before .before .before .before .before .before .before .before .before .before .before .before .before .before .before .before .before .before .before .before .before .before .before .before .before .before .before .before .args .base) (c .before .before .before .before .before .before .before .before .before .before .before .before .before .before .before .before .before .before .before .before .before .before .before .before .before .before .before .before .before .before .before .args .n) (c .before .before .before .before .before .before .before .before .before .before .before .before .before .before .before .before .before .before .before .before .before .before .before .before .before .before .before .before .before .before .before .args .frame) (c .before .before .before .before .before .before .before .before .before .before .before .before .before .before .before .before .before .before .before .before .before .before .before .before .before .before .before .before .before .before .before .args .deep) (c .before .before .before .before .before .before .before .before .before .before .before .before .before .before .before .before .before .before .before .before .before .before .before .before .before .before .before .before .before .before .before .args .left) (c .before .before .before .before .before .before .before .before .before .before .before .before .before .before .before .before .before .before .before .before .before .before .before .before .before .before .before .before .before .before .before .pre .1 .0) (c .before .before .before .before .before .before .before .before .before .before .before .before .before .before .before .before .before .before .before .before .before .before .before .before .before .nodes .w) (c .before .before .before .before .before .before .before .before .before .before .before .before .before .before .before .before .before .before .before .before .before .before .before .next-candidate .result .left) (c .before .before .before .before .before .before .before .before .before .before .before .before .before .before .before .before .before .before .before .before .before .before .before .next-candidate .result .node) s (subst (λ x. c .before .before .before .before .before .before .before .before .before .before .before .before .before .before .before .before .before .before .before .before .before .before .before .next-candidate .result .node < x) (c .before .before .before .before .before .before .before .before .before .before .before .before .before .before .before .before .before .before .before .before .before .before .before .before .before .before .before .tried .ensures) (c .before .before .before .before .before .before .before .before .before .before .before .before .before .before .before .before .before .before .before .before .before .if1 .left)) (c .before .before .before .before .before .before .before .before .before .before .before .before .before .before .before .before .before .before .before .before .before .before .before .next-candidate .ensures .typed (c .before .before .before .before .before .before .before .before .before .before .before .before .before .before .before .before .before .before .before .before .before .if1 .left)) (c .before .before .before .before .before .before .before .before .before .before .before .before .before .before .before .before .before .before .before .if2 .left) (c .before .before .before .before .before .before .before .before .before .before .before .before .before .before .match-pattern .result) (take (c .before .before .before .before .before .before .before .before .before .before .before .before .before .before .before .before .before .before .before .before .before .before .before .before .before .before .before .before .before .before .before .args .frame .top) (c .before .before .before .before .before .before .before .before .before .before .before .before .before .before .before .before .before .before .before .before .before .before .before .before .before .nodes .w)) _ _ refl (ap (λ x. take x (drop (c .before .before .before .before .before .before .before .before .before .before .before .before .before .before .before .before .before .before .before .before .before .before .before .before .before .before .before .before .before .before .before .args .base + 2 * c .before .before .before .before .before .before .before .before .before .before .before .before .before .before .before .before .before .before .before .before .before .before .before .next-candidate .result .node) (take (c .before .before .before .before .before .before .before .before .before .before .before .before .before .before .before .before .before .before .before .before .before .before .before .before .before .before .before .before .before .before .before .args .frame .top) (c .before .before .before .before .before .before .before .before .before .before .before .before .before .before .before .before .before .before .before .before .before .before .before .before .before .nodes .w)))) z) (c .before .before .before .before .before .before .before .before .before .before .before .before .before .before .before .before .before .before .before .before .before .before .before .before .before .before .before .before .pairs-of .ensures .0) (answers-as (c .before .before .before .before .before .before .before .before .before .before .before .before .before .before .before .before .before .before .before .before .before .before .before .before .before .nodes .now) (c .before .before .before .before .before .before .before .before .before .before .before .before .before .before .before .before .before .before .before .before .before .before .before .before .before .before .before .before .before .before .before .args .frame) (c .before .before .before .before .before .before .before .before .before .before .before .before .before .before .before .before .before .before .before .before .before .before .before .before .before .nodes .inv .0) (c .before .before .before .before .before .before .before .before .before .before .before .before .before .before .match-pattern .ensures true)) (c .before .before .before .before .before .before .before .before .before .before .before .before .enum-told2 .given .1) (c .before .before .before .before .before .before .before .before .before .before .before .before .before .before .before .before .before .before .before .before .before .before .before .before .before .before .before .before .before .before .before .pre .1 .2) (c .before .before .before .before .before .before .before .before .before .before .loop .w) (c .before .before .before .before .before .before .before .before .before .before .loop .fuel) (c .before .before .before .before .before .before .before .before .before .before .loop .now) (c .before .before .before .before .before .before .before .before .before .before .loop .at) (c .before .before .before .before .before .before .before .before .before .before .loop .k) (subst (λ x. Parting (givenOf (c .before .before .before .before .before .before .before .before .before .before .before .before .before .before .before .before .before .before .before .before .before .before .before .before .before .before .before .before .before .before .before .args .heads .now) (c .before .before .before .before .before .before .before .before .before .before .before .before .before .before .before .before .before .before .before .before .before .before .before .before .before .before .before .before .before .before .before .args .rows .now) (c .before .before .before .before .before .before .before .before .before .before .before .before .before .before .before .before .before .before .before .before .before .before .before .before .before .before .before .before .before .before .before .args .types) (c .before .before .before .before .before .before .before .before .before .before .before .before .before .before .before .before .before .before .before .before .before .before .before .before .before .before .before .before .before .before .before .args .book .now) (c .before .before .before .before .before .before .before .before .before .before .before .before .before .before .before .before .before .before .before .before .before .before .before .before .before .before .before .before .before .before .before .args .starts .now)) (c .before .before .before .before .before .before .before .before .before .before .before .before .before .before .before .before .before .before .before .before .before .before .before .before .before .before .before .before .before .before .before .args .deep) (c .before .before .before .before .before .before .before .before .before .before .before .before .before .before .before .before .before .before .before .before .before .before .before .before .before .nodes .w) (spent (c .before .before .before .before .before .before .before .before .before .before .before .before .before .before .before .before .before .before .before .before .before .before .before .next-candidate .result .left)) x (c .before .before .before .before .before .before .before .before .before .before .before .before .before .before .before .before .before .before .before .before .before .before .before .before .before .before .before .before .before .before .before .args .plan .first) (c .before .before .before .before .before .before .before .before .before .before .before .before .before .before .before .before .before .before .before .before .before .before .before .before .before .before .before .before .before .before .before .args .plan .count) (c .before .before .before .before .before .before .before .before .before .before .loop .w) (c .before .before .before .before .before .before .before .before .before .before .loop .fuel) (c .before .before .before .before .before .before .before .before .before .before .loop .now) (c .before .before .before .before .before .before .before .before .before .before .loop .at) (c .before .before .before .before .before .before .before .before .before .before .loop .k)) (c .before .before .before .before .before .before .before .before .before .before .before .after-match .ensures) (c .before .before .before .before .before .before .before .before .before .before .loop .inv .1))) (c .before .before .before .before .before .before .before .before .before .loop-test .taken) _ (c .before .before .before .before .before .before .before .step .result) (c .before .before .before .before .before .before .before .step .ensures) (c .before .before .verdict2 .given .1))
 
 pub seek-same-length-5 : (t : ℕ) → seek-lts.Need-same-length-5 (seek-claims t) (seek-at t) seek.Post seek-Inv-loop seek-μ-loop seek-Inv-nodes seek-μ-nodes
 seek-same-length-5 t c = omega (arith, c .before .before .loop .inv .1 .long, c .before .before .before .before .before .before .before .before .before .before .before .before .before .before .before .before .before .nodes .inv .1 .long)
 
 pub seek-returns-5 : (t : ℕ) → seek-lts.Need-returns-5 (seek-claims t) (seek-at t) seek.Post seek-Inv-loop seek-μ-loop seek-Inv-nodes seek-μ-nodes
-seek-returns-5 t c = let s = searching-next (givenOf (c .before .before .before .before .before .before .before .before .before .before .before .before .before .before .before .before .before .before .before .before .before .before .args .heads .now) (c .before .before .before .before .before .before .before .before .before .before .before .before .before .before .before .before .before .before .before .before .before .before .args .rows .now) (c .before .before .before .before .before .before .before .before .before .before .before .before .before .before .before .before .before .before .before .before .before .before .args .types) (c .before .before .before .before .before .before .before .before .before .before .before .before .before .before .before .before .before .before .before .before .before .before .args .book .now) (c .before .before .before .before .before .before .before .before .before .before .before .before .before .before .before .before .before .before .before .before .before .before .args .starts .now)) (c .before .before .before .before .before .before .before .before .before .before .before .before .before .before .before .before .before .before .before .before .before .before .args .w .now) (c .before .before .before .before .before .before .before .before .before .before .before .before .before .before .before .before .before .before .before .before .before .before .args .plan) (c .before .before .before .before .before .before .before .before .before .before .before .before .before .before .before .before .before .before .before .before .before .before .args .base) (c .before .before .before .before .before .before .before .before .before .before .before .before .before .before .before .before .before .before .before .before .before .before .args .n) (c .before .before .before .before .before .before .before .before .before .before .before .before .before .before .before .before .before .before .before .before .before .before .args .frame) (c .before .before .before .before .before .before .before .before .before .before .before .before .before .before .before .before .before .before .before .before .before .before .args .deep) (c .before .before .before .before .before .before .before .before .before .before .before .before .before .before .before .before .before .before .before .before .before .before .args .left) (c .before .before .before .before .before .before .before .before .before .before .before .before .before .before .before .before .before .before .before .before .before .before .pre .1 .0) (c .before .before .before .before .before .before .before .before .before .before .before .before .before .before .before .before .before .before .before .before .before .before .pre .1 .5) _ (c .before .before .before .before .before .before .before .before .before .before .before .before .before .before .before .before .before .before .before .pairs-of .ensures .0) (c .before .before .before .before .before .before .before .before .before .before .before .before .before .before .before .before .before .nodes .w) (c .before .before .before .before .before .before .before .before .before .before .before .before .before .before .before .before .before .nodes .fuel) (c .before .before .before .before .before .before .before .before .before .before .before .before .before .before .before .before .before .nodes .i) (c .before .before .before .before .before .before .before .before .before .before .before .before .before .before .before .before .before .nodes .inv .1) _ _ (c .before .before .before .before .before .before .before .before .before .before .before .before .before .before .before .before .before .before .tried .ensures) refl _ (c .before .before .before .before .before .before .before .before .before .before .before .before .before .before .before .next-candidate .ensures) in let h = tried-inside (c .before .before .before .before .before .before .before .before .before .before .before .before .before .before .before .before .before .before .before .before .before .before .args .plan .strategy) (c .before .before .before .before .before .before .before .before .before .before .before .before .before .before .before .before .before .before .before .before .before .before .args .n) (c .before .before .before .before .before .before .before .before .before .before .before .before .before .before .before .next-candidate .result .node) (c .before .before .before .before .before .before .before .before .before .before .before .before .before .before .before .before .before .before .tried .result) (c .before .before .before .before .before .before .before .before .before .before .before .before .before .before .before .before .before .before .tried .ensures) (c .before .before .before .before .before .before .before .before .before .before .before .before .before .if1 .left) in let z : c .before .before .before .before .before .before .before .before .before .before .before .before .before .before .before .before .before .before .before .before .before .before .args .base + 2 * c .before .before .before .before .before .before .before .before .before .before .before .before .before .before .before .before .before .before .before .before .before .before .args .n - (c .before .before .before .before .before .before .before .before .before .before .before .before .before .before .before .before .before .before .before .before .before .before .args .base + 2 * c .before .before .before .before .before .before .before .before .before .before .before .before .before .before .before .next-candidate .result .node) ≡ 2 * (c .before .before .before .before .before .before .before .before .before .before .before .before .before .before .before .before .before .before .before .before .before .before .args .n - c .before .before .before .before .before .before .before .before .before .before .before .before .before .before .before .next-candidate .result .node) = omega (arith, h) in rw (c .seeking5 .ensures, c .before .before .loop .inv .0) (trying-done (givenOf (c .before .before .before .before .before .before .before .before .before .before .before .before .before .before .before .before .before .before .before .before .before .before .args .heads .now) (c .before .before .before .before .before .before .before .before .before .before .before .before .before .before .before .before .before .before .before .before .before .before .args .rows .now) (c .before .before .before .before .before .before .before .before .before .before .before .before .before .before .before .before .before .before .before .before .before .before .args .types) (c .before .before .before .before .before .before .before .before .before .before .before .before .before .before .before .before .before .before .before .before .before .before .args .book .now) (c .before .before .before .before .before .before .before .before .before .before .before .before .before .before .before .before .before .before .before .before .before .before .args .starts .now)) (c .before .before .before .before .before .before .before .before .before .before .before .before .before .before .before .before .before .before .before .before .before .before .args .w .now) (c .before .before .before .before .before .before .before .before .before .before .before .before .before .before .before .before .before .before .before .before .before .before .args .plan) (c .before .before .before .before .before .before .before .before .before .before .before .before .before .before .before .before .before .before .before .before .before .before .args .base) (c .before .before .before .before .before .before .before .before .before .before .before .before .before .before .before .before .before .before .before .before .before .before .args .n) (c .before .before .before .before .before .before .before .before .before .before .before .before .before .before .before .before .before .before .before .before .before .before .args .frame) (c .before .before .before .before .before .before .before .before .before .before .before .before .before .before .before .before .before .before .before .before .before .before .args .deep) (c .before .before .before .before .before .before .before .before .before .before .before .before .before .before .before .before .before .before .before .before .before .before .args .left) (c .before .before .before .before .before .before .before .before .before .before .before .before .before .before .before .before .before .before .before .before .before .before .pre .1 .0) (c .before .before .before .before .before .before .before .before .before .before .before .before .before .before .before .before .before .nodes .w) (c .before .before .before .before .before .before .before .before .before .before .before .before .before .before .before .next-candidate .result .left) (c .before .before .before .before .before .before .before .before .before .before .before .before .before .before .before .next-candidate .result .node) s (subst (λ x. c .before .before .before .before .before .before .before .before .before .before .before .before .before .before .before .next-candidate .result .node < x) (c .before .before .before .before .before .before .before .before .before .before .before .before .before .before .before .before .before .before .tried .ensures) (c .before .before .before .before .before .before .before .before .before .before .before .before .before .if1 .left)) (c .before .before .before .before .before .before .before .before .before .before .before .before .before .before .before .next-candidate .ensures .typed (c .before .before .before .before .before .before .before .before .before .before .before .before .before .if1 .left)) (c .before .before .before .before .before .before .before .before .before .before .before .if2 .left) (c .before .before .before .before .before .before .match-pattern .result) (take (c .before .before .before .before .before .before .before .before .before .before .before .before .before .before .before .before .before .before .before .before .before .before .args .frame .top) (c .before .before .before .before .before .before .before .before .before .before .before .before .before .before .before .before .before .nodes .w)) _ _ refl (ap (λ x. take x (drop (c .before .before .before .before .before .before .before .before .before .before .before .before .before .before .before .before .before .before .before .before .before .before .args .base + 2 * c .before .before .before .before .before .before .before .before .before .before .before .before .before .before .before .next-candidate .result .node) (take (c .before .before .before .before .before .before .before .before .before .before .before .before .before .before .before .before .before .before .before .before .before .before .args .frame .top) (c .before .before .before .before .before .before .before .before .before .before .before .before .before .before .before .before .before .nodes .w)))) z) (c .before .before .before .before .before .before .before .before .before .before .before .before .before .before .before .before .before .before .before .pairs-of .ensures .0) (answers-as (c .before .before .before .before .before .before .before .before .before .before .before .before .before .before .before .before .before .nodes .now) (c .before .before .before .before .before .before .before .before .before .before .before .before .before .before .before .before .before .before .before .before .before .before .args .frame) (c .before .before .before .before .before .before .before .before .before .before .before .before .before .before .before .before .before .nodes .inv .0) (c .before .before .before .before .before .before .match-pattern .ensures true)) (c .before .before .loop .w) (c .before .before .loop .fuel) (c .before .before .loop .now) (c .before .before .loop .at) (c .before .before .loop .k) (trying-run (givenOf (c .before .before .before .before .before .before .before .before .before .before .before .before .before .before .before .before .before .before .before .before .before .before .args .heads .now) (c .before .before .before .before .before .before .before .before .before .before .before .before .before .before .before .before .before .before .before .before .before .before .args .rows .now) (c .before .before .before .before .before .before .before .before .before .before .before .before .before .before .before .before .before .before .before .before .before .before .args .types) (c .before .before .before .before .before .before .before .before .before .before .before .before .before .before .before .before .before .before .before .before .before .before .args .book .now) (c .before .before .before .before .before .before .before .before .before .before .before .before .before .before .before .before .before .before .before .before .before .before .args .starts .now)) (c .before .before .before .before .before .before .before .before .before .before .before .before .before .before .before .before .before .before .before .before .before .before .args .w .now) (c .before .before .before .before .before .before .before .before .before .before .before .before .before .before .before .before .before .before .before .before .before .before .args .plan) (c .before .before .before .before .before .before .before .before .before .before .before .before .before .before .before .before .before .before .before .before .before .before .args .base) (c .before .before .before .before .before .before .before .before .before .before .before .before .before .before .before .before .before .before .before .before .before .before .args .n) (c .before .before .before .before .before .before .before .before .before .before .before .before .before .before .before .before .before .before .before .before .before .before .args .frame) (c .before .before .before .before .before .before .before .before .before .before .before .before .before .before .before .before .before .before .before .before .before .before .args .deep) (c .before .before .before .before .before .before .before .before .before .before .before .before .before .before .before .before .before .before .before .before .before .before .args .left) (c .before .before .before .before .before .before .before .before .before .before .before .before .before .before .before .before .before .before .before .before .before .before .pre .1 .0) (c .before .before .before .before .before .before .before .before .before .before .before .before .before .before .before .before .before .nodes .w) (c .before .before .before .before .before .before .before .before .before .before .before .before .before .before .before .next-candidate .result .left) (c .before .before .before .before .before .before .before .before .before .before .before .before .before .before .before .next-candidate .result .node) s (subst (λ x. c .before .before .before .before .before .before .before .before .before .before .before .before .before .before .before .next-candidate .result .node < x) (c .before .before .before .before .before .before .before .before .before .before .before .before .before .before .before .before .before .before .tried .ensures) (c .before .before .before .before .before .before .before .before .before .before .before .before .before .if1 .left)) (c .before .before .before .before .before .before .before .before .before .before .before .before .before .before .before .next-candidate .ensures .typed (c .before .before .before .before .before .before .before .before .before .before .before .before .before .if1 .left)) (c .before .before .before .before .before .before .before .before .before .before .before .if2 .left) (c .before .before .before .before .before .before .match-pattern .result) (take (c .before .before .before .before .before .before .before .before .before .before .before .before .before .before .before .before .before .before .before .before .before .before .args .frame .top) (c .before .before .before .before .before .before .before .before .before .before .before .before .before .before .before .before .before .nodes .w)) _ _ refl (ap (λ x. take x (drop (c .before .before .before .before .before .before .before .before .before .before .before .before .before .before .before .before .before .before .before .before .before .before .args .base + 2 * c .before .before .before .before .before .before .before .before .before .before .before .before .before .before .before .next-candidate .result .node) (take (c .before .before .before .before .before .before .before .before .before .before .before .before .before .before .before .before .before .before .before .before .before .before .args .frame .top) (c .before .before .before .before .before .before .before .before .before .before .before .before .before .before .before .before .before .nodes .w)))) z) (c .before .before .before .before .before .before .before .before .before .before .before .before .before .before .before .before .before .before .before .pairs-of .ensures .0) (answers-as (c .before .before .before .before .before .before .before .before .before .before .before .before .before .before .before .before .before .nodes .now) (c .before .before .before .before .before .before .before .before .before .before .before .before .before .before .before .before .before .before .before .before .before .before .args .frame) (c .before .before .before .before .before .before .before .before .before .before .before .before .before .before .before .before .before .nodes .inv .0) (c .before .before .before .before .before .before .match-pattern .ensures true)) (c .before .before .before .before .enum-told2 .given .1) (c .before .before .before .before .before .before .before .before .before .before .before .before .before .before .before .before .before .before .before .before .before .before .pre .1 .2) (c .before .before .loop .w) (c .before .before .loop .fuel) (c .before .before .loop .now) (c .before .before .loop .at) (c .before .before .loop .k) (subst (λ x. Parting (givenOf (c .before .before .before .before .before .before .before .before .before .before .before .before .before .before .before .before .before .before .before .before .before .before .args .heads .now) (c .before .before .before .before .before .before .before .before .before .before .before .before .before .before .before .before .before .before .before .before .before .before .args .rows .now) (c .before .before .before .before .before .before .before .before .before .before .before .before .before .before .before .before .before .before .before .before .before .before .args .types) (c .before .before .before .before .before .before .before .before .before .before .before .before .before .before .before .before .before .before .before .before .before .before .args .book .now) (c .before .before .before .before .before .before .before .before .before .before .before .before .before .before .before .before .before .before .before .before .before .before .args .starts .now)) (c .before .before .before .before .before .before .before .before .before .before .before .before .before .before .before .before .before .before .before .before .before .before .args .deep) (c .before .before .before .before .before .before .before .before .before .before .before .before .before .before .before .before .before .nodes .w) (spent (c .before .before .before .before .before .before .before .before .before .before .before .before .before .before .before .next-candidate .result .left)) x (c .before .before .before .before .before .before .before .before .before .before .before .before .before .before .before .before .before .before .before .before .before .before .args .plan .first) (c .before .before .before .before .before .before .before .before .before .before .before .before .before .before .before .before .before .before .before .before .before .before .args .plan .count) (c .before .before .loop .w) (c .before .before .loop .fuel) (c .before .before .loop .now) (c .before .before .loop .at) (c .before .before .loop .k)) (c .before .before .before .after-match .ensures) (c .before .before .loop .inv .1))) (omega (arith, c .before .loop-test .left)))
+seek-returns-5 t c = let s = searching-next (givenOf (c .before .before .before .before .before .before .before .before .before .before .before .before .before .before .before .before .before .before .before .before .before .before .before .args .heads .now) (c .before .before .before .before .before .before .before .before .before .before .before .before .before .before .before .before .before .before .before .before .before .before .before .args .rows .now) (c .before .before .before .before .before .before .before .before .before .before .before .before .before .before .before .before .before .before .before .before .before .before .before .args .types) (c .before .before .before .before .before .before .before .before .before .before .before .before .before .before .before .before .before .before .before .before .before .before .before .args .book .now) (c .before .before .before .before .before .before .before .before .before .before .before .before .before .before .before .before .before .before .before .before .before .before .before .args .starts .now)) (c .before .before .before .before .before .before .before .before .before .before .before .before .before .before .before .before .before .before .before .before .before .before .before .args .w .now) (c .before .before .before .before .before .before .before .before .before .before .before .before .before .before .before .before .before .before .before .before .before .before .before .args .plan) (c .before .before .before .before .before .before .before .before .before .before .before .before .before .before .before .before .before .before .before .before .before .before .before .args .base) (c .before .before .before .before .before .before .before .before .before .before .before .before .before .before .before .before .before .before .before .before .before .before .before .args .n) (c .before .before .before .before .before .before .before .before .before .before .before .before .before .before .before .before .before .before .before .before .before .before .before .args .frame) (c .before .before .before .before .before .before .before .before .before .before .before .before .before .before .before .before .before .before .before .before .before .before .before .args .deep) (c .before .before .before .before .before .before .before .before .before .before .before .before .before .before .before .before .before .before .before .before .before .before .before .args .left) (c .before .before .before .before .before .before .before .before .before .before .before .before .before .before .before .before .before .before .before .before .before .before .before .pre .1 .0) (c .before .before .before .before .before .before .before .before .before .before .before .before .before .before .before .before .before .before .before .before .before .before .before .pre .1 .5) _ (c .before .before .before .before .before .before .before .before .before .before .before .before .before .before .before .before .before .before .before .before .pairs-of .ensures .0) (c .before .before .before .before .before .before .before .before .before .before .before .before .before .before .before .before .before .nodes .w) (c .before .before .before .before .before .before .before .before .before .before .before .before .before .before .before .before .before .nodes .fuel) (c .before .before .before .before .before .before .before .before .before .before .before .before .before .before .before .before .before .nodes .i) (c .before .before .before .before .before .before .before .before .before .before .before .before .before .before .before .before .before .nodes .inv .1) _ _ (c .before .before .before .before .before .before .before .before .before .before .before .before .before .before .before .before .before .before .before .tried .ensures) refl _ (c .before .before .before .before .before .before .before .before .before .before .before .before .before .before .before .next-candidate .ensures) in let h = tried-inside (c .before .before .before .before .before .before .before .before .before .before .before .before .before .before .before .before .before .before .before .before .before .before .before .args .plan .strategy) (c .before .before .before .before .before .before .before .before .before .before .before .before .before .before .before .before .before .before .before .before .before .before .before .args .n) (c .before .before .before .before .before .before .before .before .before .before .before .before .before .before .before .next-candidate .result .node) (c .before .before .before .before .before .before .before .before .before .before .before .before .before .before .before .before .before .before .before .tried .result) (c .before .before .before .before .before .before .before .before .before .before .before .before .before .before .before .before .before .before .before .tried .ensures) (c .before .before .before .before .before .before .before .before .before .before .before .before .before .if1 .left) in let z : c .before .before .before .before .before .before .before .before .before .before .before .before .before .before .before .before .before .before .before .before .before .before .before .args .base + 2 * c .before .before .before .before .before .before .before .before .before .before .before .before .before .before .before .before .before .before .before .before .before .before .before .args .n - (c .before .before .before .before .before .before .before .before .before .before .before .before .before .before .before .before .before .before .before .before .before .before .before .args .base + 2 * c .before .before .before .before .before .before .before .before .before .before .before .before .before .before .before .next-candidate .result .node) ≡ 2 * (c .before .before .before .before .before .before .before .before .before .before .before .before .before .before .before .before .before .before .before .before .before .before .before .args .n - c .before .before .before .before .before .before .before .before .before .before .before .before .before .before .before .next-candidate .result .node) = omega (arith, h) in rw (c .seeking5 .ensures, c .before .before .loop .inv .0) (trying-done (givenOf (c .before .before .before .before .before .before .before .before .before .before .before .before .before .before .before .before .before .before .before .before .before .before .before .args .heads .now) (c .before .before .before .before .before .before .before .before .before .before .before .before .before .before .before .before .before .before .before .before .before .before .before .args .rows .now) (c .before .before .before .before .before .before .before .before .before .before .before .before .before .before .before .before .before .before .before .before .before .before .before .args .types) (c .before .before .before .before .before .before .before .before .before .before .before .before .before .before .before .before .before .before .before .before .before .before .before .args .book .now) (c .before .before .before .before .before .before .before .before .before .before .before .before .before .before .before .before .before .before .before .before .before .before .before .args .starts .now)) (c .before .before .before .before .before .before .before .before .before .before .before .before .before .before .before .before .before .before .before .before .before .before .before .args .w .now) (c .before .before .before .before .before .before .before .before .before .before .before .before .before .before .before .before .before .before .before .before .before .before .before .args .plan) (c .before .before .before .before .before .before .before .before .before .before .before .before .before .before .before .before .before .before .before .before .before .before .before .args .base) (c .before .before .before .before .before .before .before .before .before .before .before .before .before .before .before .before .before .before .before .before .before .before .before .args .n) (c .before .before .before .before .before .before .before .before .before .before .before .before .before .before .before .before .before .before .before .before .before .before .before .args .frame) (c .before .before .before .before .before .before .before .before .before .before .before .before .before .before .before .before .before .before .before .before .before .before .before .args .deep) (c .before .before .before .before .before .before .before .before .before .before .before .before .before .before .before .before .before .before .before .before .before .before .before .args .left) (c .before .before .before .before .before .before .before .before .before .before .before .before .before .before .before .before .before .before .before .before .before .before .before .pre .1 .0) (c .before .before .before .before .before .before .before .before .before .before .before .before .before .before .before .before .before .nodes .w) (c .before .before .before .before .before .before .before .before .before .before .before .before .before .before .before .next-candidate .result .left) (c .before .before .before .before .before .before .before .before .before .before .before .before .before .before .before .next-candidate .result .node) s (subst (λ x. c .before .before .before .before .before .before .before .before .before .before .before .before .before .before .before .next-candidate .result .node < x) (c .before .before .before .before .before .before .before .before .before .before .before .before .before .before .before .before .before .before .before .tried .ensures) (c .before .before .before .before .before .before .before .before .before .before .before .before .before .if1 .left)) (c .before .before .before .before .before .before .before .before .before .before .before .before .before .before .before .next-candidate .ensures .typed (c .before .before .before .before .before .before .before .before .before .before .before .before .before .if1 .left)) (c .before .before .before .before .before .before .before .before .before .before .before .if2 .left) (c .before .before .before .before .before .before .match-pattern .result) (take (c .before .before .before .before .before .before .before .before .before .before .before .before .before .before .before .before .before .before .before .before .before .before .before .args .frame .top) (c .before .before .before .before .before .before .before .before .before .before .before .before .before .before .before .before .before .nodes .w)) _ _ refl (ap (λ x. take x (drop (c .before .before .before .before .before .before .before .before .before .before .before .before .before .before .before .before .before .before .before .before .before .before .before .args .base + 2 * c .before .before .before .before .before .before .before .before .before .before .before .before .before .before .before .next-candidate .result .node) (take (c .before .before .before .before .before .before .before .before .before .before .before .before .before .before .before .before .before .before .before .before .before .before .before .args .frame .top) (c .before .before .before .before .before .before .before .before .before .before .before .before .before .before .before .before .before .nodes .w)))) z) (c .before .before .before .before .before .before .before .before .before .before .before .before .before .before .before .before .before .before .before .before .pairs-of .ensures .0) (answers-as (c .before .before .before .before .before .before .before .before .before .before .before .before .before .before .before .before .before .nodes .now) (c .before .before .before .before .before .before .before .before .before .before .before .before .before .before .before .before .before .before .before .before .before .before .before .args .frame) (c .before .before .before .before .before .before .before .before .before .before .before .before .before .before .before .before .before .nodes .inv .0) (c .before .before .before .before .before .before .match-pattern .ensures true)) (c .before .before .loop .w) (c .before .before .loop .fuel) (c .before .before .loop .now) (c .before .before .loop .at) (c .before .before .loop .k) (trying-run (givenOf (c .before .before .before .before .before .before .before .before .before .before .before .before .before .before .before .before .before .before .before .before .before .before .before .args .heads .now) (c .before .before .before .before .before .before .before .before .before .before .before .before .before .before .before .before .before .before .before .before .before .before .before .args .rows .now) (c .before .before .before .before .before .before .before .before .before .before .before .before .before .before .before .before .before .before .before .before .before .before .before .args .types) (c .before .before .before .before .before .before .before .before .before .before .before .before .before .before .before .before .before .before .before .before .before .before .before .args .book .now) (c .before .before .before .before .before .before .before .before .before .before .before .before .before .before .before .before .before .before .before .before .before .before .before .args .starts .now)) (c .before .before .before .before .before .before .before .before .before .before .before .before .before .before .before .before .before .before .before .before .before .before .before .args .w .now) (c .before .before .before .before .before .before .before .before .before .before .before .before .before .before .before .before .before .before .before .before .before .before .before .args .plan) (c .before .before .before .before .before .before .before .before .before .before .before .before .before .before .before .before .before .before .before .before .before .before .before .args .base) (c .before .before .before .before .before .before .before .before .before .before .before .before .before .before .before .before .before .before .before .before .before .before .before .args .n) (c .before .before .before .before .before .before .before .before .before .before .before .before .before .before .before .before .before .before .before .before .before .before .before .args .frame) (c .before .before .before .before .before .before .before .before .before .before .before .before .before .before .before .before .before .before .before .before .before .before .before .args .deep) (c .before .before .before .before .before .before .before .before .before .before .before .before .before .before .before .before .before .before .before .before .before .before .before .args .left) (c .before .before .before .before .before .before .before .before .before .before .before .before .before .before .before .before .before .before .before .before .before .before .before .pre .1 .0) (c .before .before .before .before .before .before .before .before .before .before .before .before .before .before .before .before .before .nodes .w) (c .before .before .before .before .before .before .before .before .before .before .before .before .before .before .before .next-candidate .result .left) (c .before .before .before .before .before .before .before .before .before .before .before .before .before .before .before .next-candidate .result .node) s (subst (λ x. c .before .before .before .before .before .before .before .before .before .before .before .before .before .before .before .next-candidate .result .node < x) (c .before .before .before .before .before .before .before .before .before .before .before .before .before .before .before .before .before .before .before .tried .ensures) (c .before .before .before .before .before .before .before .before .before .before .before .before .before .if1 .left)) (c .before .before .before .before .before .before .before .before .before .before .before .before .before .before .before .next-candidate .ensures .typed (c .before .before .before .before .before .before .before .before .before .before .before .before .before .if1 .left)) (c .before .before .before .before .before .before .before .before .before .before .before .if2 .left) (c .before .before .before .before .before .before .match-pattern .result) (take (c .before .before .before .before .before .before .before .before .before .before .before .before .before .before .before .before .before .before .before .before .before .before .before .args .frame .top) (c .before .before .before .before .before .before .before .before .before .before .before .before .before .before .before .before .before .nodes .w)) _ _ refl (ap (λ x. take x (drop (c .before .before .before .before .before .before .before .before .before .before .before .before .before .before .before .before .before .before .before .before .before .before .before .args .base + 2 * c .before .before .before .before .before .before .before .before .before .before .before .before .before .before .before .next-candidate .result .node) (take (c .before .before .before .before .before .before .before .before .before .before .before .before .before .before .before .before .before .before .before .before .before .before .before .args .frame .top) (c .before .before .before .before .before .before .before .before .before .before .before .before .before .before .before .before .before .nodes .w)))) z) (c .before .before .before .before .before .before .before .before .before .before .before .before .before .before .before .before .before .before .before .before .pairs-of .ensures .0) (answers-as (c .before .before .before .before .before .before .before .before .before .before .before .before .before .before .before .before .before .nodes .now) (c .before .before .before .before .before .before .before .before .before .before .before .before .before .before .before .before .before .before .before .before .before .before .before .args .frame) (c .before .before .before .before .before .before .before .before .before .before .before .before .before .before .before .before .before .nodes .inv .0) (c .before .before .before .before .before .before .match-pattern .ensures true)) (c .before .before .before .before .enum-told2 .given .1) (c .before .before .before .before .before .before .before .before .before .before .before .before .before .before .before .before .before .before .before .before .before .before .before .pre .1 .2) (c .before .before .loop .w) (c .before .before .loop .fuel) (c .before .before .loop .now) (c .before .before .loop .at) (c .before .before .loop .k) (subst (λ x. Parting (givenOf (c .before .before .before .before .before .before .before .before .before .before .before .before .before .before .before .before .before .before .before .before .before .before .before .args .heads .now) (c .before .before .before .before .before .before .before .before .before .before .before .before .before .before .before .before .before .before .before .before .before .before .before .args .rows .now) (c .before .before .before .before .before .before .before .before .before .before .before .before .before .before .before .before .before .before .before .before .before .before .before .args .types) (c .before .before .before .before .before .before .before .before .before .before .before .before .before .before .before .before .before .before .before .before .before .before .before .args .book .now) (c .before .before .before .before .before .before .before .before .before .before .before .before .before .before .before .before .before .before .before .before .before .before .before .args .starts .now)) (c .before .before .before .before .before .before .before .before .before .before .before .before .before .before .before .before .before .before .before .before .before .before .before .args .deep) (c .before .before .before .before .before .before .before .before .before .before .before .before .before .before .before .before .before .nodes .w) (spent (c .before .before .before .before .before .before .before .before .before .before .before .before .before .before .before .next-candidate .result .left)) x (c .before .before .before .before .before .before .before .before .before .before .before .before .before .before .before .before .before .before .before .before .before .before .before .args .plan .first) (c .before .before .before .before .before .before .before .before .before .before .before .before .before .before .before .before .before .before .before .before .before .before .before .args .plan .count) (c .before .before .loop .w) (c .before .before .loop .fuel) (c .before .before .loop .now) (c .before .before .loop .at) (c .before .before .loop .k)) (c .before .before .before .after-match .ensures) (c .before .before .loop .inv .1))) (omega (arith, c .before .loop-test .left)))

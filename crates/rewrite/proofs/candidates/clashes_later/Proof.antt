@@ -1,14 +1,14 @@
--- `rewrite::candidates::clashes` meets its contract. Assumes nothing.
-use Rattle.rewrite.proofs.Clashing.{Clashing, clashing-start, clashing-type, clashing-value, clashing-node, clashing-other, clashing-new}
+-- `rewrite::candidates::clashes_later` meets its contract. Assumes nothing.
+use Rattle.rewrite.proofs.Clashing.{Clashing, clashing-begun, clashing-type, clashing-value, clashing-node, clashing-other, clashing-new}
 use mathlib.Core.Path.{_≡_, refl, sym, _∙_}
 use Prim.Native.Nat.{ℕ, _-_}
 use lib.ListN.{length}
 use native.Mathlib.Omega.{arith}
 use borrow.Author.Needs.{needs}
-use Rattle.rewrite.proofs.candidates.clashes.Statement.{statement}
-use Rattle.rewrite.proofs.candidates.clashes.Tie as tie
-use Rattle.rewrite.proofs.candidates.clashes.Reads as reads
-use Rattle.rewrite.proofs.candidates.clashes.Lts as lts
+use Rattle.rewrite.proofs.candidates.clashes_later.Statement.{statement}
+use Rattle.rewrite.proofs.candidates.clashes_later.Tie as tie
+use Rattle.rewrite.proofs.candidates.clashes_later.Reads as reads
+use Rattle.rewrite.proofs.candidates.clashes_later.Lts as lts
 use Rattle.marks.proofs.size_in.Reads as size-in-reads
 use Rattle.marks.proofs.type_in.Reads as type-in-reads
 
@@ -19,7 +19,7 @@ abbrev μ-loop : tie.MeasureT-loop
 μ-loop pairs part live total₀ i₀ p₀ total i p = length pairs - i
 
 loop-holds : tie.Need-loop-holds Inv-loop μ-loop
-loop-holds c = clashing-start (c .before .before .args .pairs .now) (c .before .before .args .part .now) (c .before .before .args .live) (c .before .before .pre .1)
+loop-holds c = let p = c .before .before .pre in clashing-begun (c .before .before .args .pairs .now) (c .before .before .args .part .now) (c .before .before .args .live) (p .1) (p .2 .0) (p .2 .1) (p .2 .2)
 
 sub-loop : tie.Need-sub-loop Inv-loop μ-loop
 sub-loop c = omega (arith, c .loop .inv .read)
@@ -120,8 +120,8 @@ loop-again-2 c = clashing-node (c .before .before .before .before .before .befor
 returns-7 : tie.Need-returns-7 Inv-loop μ-loop
 returns-7 c = λ e. let z : _≡_ {A = ℕ} 0 1 = cc in absurd (omega arith)
 
-pub clashes-spec : {M : Type 1} → statement M
-clashes-spec =
+pub clashes-later-spec : {M : Type 1} → statement M
+clashes-later-spec =
     tie.close
     (tie.spec
     Inv-loop
