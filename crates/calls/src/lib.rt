@@ -425,7 +425,10 @@ fn seek(
         now = after_match(m, frame.top);
         let mut at = plan.first;
         let mut k = plan.count;
-        while 0 < k {
+        loop {
+            if k == 0 {
+                break 'nodes seeking(Found::At(i), now, fuel, at);
+            }
             let t = step(heads, rows, types, book, starts, w, at, now, deep, fuel);
             fuel = t.left;
             let verdict = t.verdict;
@@ -451,7 +454,6 @@ fn seek(
                 }
             }
         }
-        break 'nodes seeking(Found::At(i), now, fuel, at);
     };
     found
 }
