@@ -1,6 +1,6 @@
 -- Laws of answering an input, over plain variables. Assumes nothing.
 use Prim.Native.Nat.{ℕ, _+_, _-_, _*_, _≤_, min}
-use mathlib.Core.Path.{_≡_, refl, sym, subst}
+use mathlib.Core.Path.{_≡_, refl, sym, ap, _∙_, subst}
 use mathlib.Core.Option.{Option, none, some}
 use native.Mathlib.Omega.{arith}
 use lib.ListN.{length, getD, take, drop, length-take}
@@ -14,8 +14,8 @@ use Rattle.tamarind.specs.declared.Outcome as Code
 use Rattle.tamarind.specs.declared.Outcome.the-variants.{Refused, Done, Stopped}
 use Rattle.tamarind.specs.declared.Counts.{Counts}
 use Rattle.tamarind.specs.declared.Stop.{Stop}
-use Rattle.decimal.specs.Numbers.{Bytes}
-use Rattle.decimal.specs.Input.{input, inputAt, partsAt, Parted}
+use Rattle.decimal.specs.Numbers.{Bytes, Numbers}
+use Rattle.decimal.specs.Input.{input, inputAt, inputOf, mostNumbers, partsAt, Parted}
 use Rattle.decimal.specs.Printed.{printed, printedUnread, Put}
 use Rattle.decimal.specs.declared.input.Parts.{Parts}
 use Rattle.decimal.specs.declared.input.Parts.the-variants as Parts
@@ -23,8 +23,8 @@ use Rattle.decimal.specs.declared.input.Lengths.{Lengths}
 use Rattle.decimal.specs.declared.numbers.Place.{Place}
 use Rattle.decimal.specs.declared.numbers.Place.the-variants.{Unread, Between, Within}
 use Rattle.decimal.proofs.Reading.{count-all}
-use Rattle.decimal.proofs.Whole.{printed-short, put-whole}
-use Rattle.bench.specs.Bench.{answerTo, leftBy, Answers, Whole}
+use Rattle.decimal.proofs.Whole.{printed-short, put-whole, enough-room}
+use Rattle.bench.specs.Bench.{answerTo, bench, leftBy, Answers, Whole, AnswersWhole}
 
 -- THE OUTCOME
 
@@ -34,9 +34,6 @@ part-done o c result e h = sym (length-take-le (c .filled) result (rw e at h))
 
 pub part-stopped : (o : Code.Outcome) (s : Stop) (c : Counts) (result : Words) → o ≡ Stopped s c → filledOf o ≤ length result → c .filled ≡ length (take (c .filled) result)
 part-stopped o s c result e h = sym (length-take-le (c .filled) result (rw e at h))
-
-pub part-least : (n m : ℕ) (ns : Words) → m ≡ min n (length ns) → m ≡ length (take m ns)
-part-least n m ns e = sym (length-take-le m ns (omega arith))
 
 -- the words that an answer says are in the result
 pub filled-there : (o : Code.Outcome) (result : Words) → filledOf o ≡ length (filledBy (said o result)) → filledOf o ≤ length result
@@ -121,3 +118,12 @@ pub answers-whole : (x : Option Inputs) (before after : Memories) (out out′ : 
 answers-whole x before after out out′ r a b n y =
     let h : 21 * length (before .result) + 100 ≤ length out = omega (arith, a, n) in
     record { bytes = rw (a, b) at (y .whole h); fits = omega (arith, y .put .fits, y .put .long) }
+
+-- a text for which there is room enough is answered as the bench does
+pub answers-text : (s : Numbers) (room r : ℕ) (out : Bytes) → room ≡ mostNumbers → Whole (answerTo leastResult leastWork (inputOf s)) r out → AnswersWhole s room r out
+unfolding bench
+answers-text s room r out h x =
+    record {
+      whole = x;
+      text = λ t e. subst (λ (y : Option Inputs). Whole (answerTo leastResult leastWork y) r out) (ap inputOf e ∙ enough-room room t (omega (arith, h))) x;
+    }

@@ -1,16 +1,17 @@
-// The bench: one input from standard input, and what came of it to standard output. Only the bytes that go in and out are outside the proof.
+// The bench: one input from standard input, and what came of it to standard output. Of the system's `read` and `write` nothing is assumed but how many bytes they may
+// move. So it is outside the proof that the bytes handed to `read_piece` are those that `read` delivered, each once and in order, and that those of the answer are written.
 ghost use mathlib.Core.Path.{_≡_};
 ghost use mathlib.Core.Option.{some};
 ghost use Prim.Native.Nat.{_+_, _≤_};
 ghost use lib.ListN.{length};
-ghost use Rattle.meaning.specs.Limits.{leastResult, leastWork};
 ghost use Rattle.tamarind.specs.Run.{said, filledOf, memories};
 ghost use Rattle.decimal.specs.Numbers.{said as readAs};
 ghost use Rattle.decimal.specs.Input.{input, inputOf, partsAt};
 ghost use Rattle.decimal.specs.Printed.{printed, Put};
-ghost use Rattle.bench.specs.Bench.{answerTo, Answers, Whole};
+ghost use Rattle.bench.specs.Bench.{Answers, AnswersWhole, ReadsOnce, ReadsOn, AnswersInput};
 use decimal::input::Lengths;
 use decimal::input::Parts;
+use decimal::numbers::Piece;
 use decimal::numbers::Place;
 use decimal::numbers::Reading;
 use tamarind::Outcome;
@@ -112,56 +113,36 @@ fn answer(
     }
 }
 
-// Answers it whole, over memories of the least lengths.
+// Answers it whole, over memories of the least lengths: a text for which there was room enough as `bench` says.
 fn answer_whole(
     read: Reading,
-    numbers: &[u32],
+    numbers: &[u32; NUMBERS],
     result: &mut [u32; RESULT],
     work: &mut [u32; WORK],
     out: &mut [u8; OUT],
 ) -> usize
-    ensures { λ r. ⌜ Whole (answerTo leastResult leastWork (inputOf (readAs read (now (numbers .entry))))) r (now (out .exit)) ⌝ }
+    ensures { λ r. ⌜ AnswersWhole (readAs read (now (numbers .entry))) (length (now (numbers .entry))) r (now (out .exit)) ⌝ }
 {
     answer(read, numbers, result, work, out)
 }
 
-// A piece of the text, and whether there may be more.
-struct Piece {
-    read: Reading,
-    more: bool,
-}
-
-// Reads once. An input that cannot be read whole is unread.
-fn read_piece(before: Reading, numbers: &mut [u32]) -> Piece {
+// Reads once, on from what was read before.
+fn read_once(before: Reading, numbers: &mut [u32]) -> Piece
+    ensures { λ r. ⌜ ReadsOnce before (now (numbers .entry)) r (now (numbers .exit)) ⌝ }
+{
     let mut buffer = io::large_buffer();
     let got = libc::read(0, &mut buffer);
-    if got < 0 {
-        return Piece {
-            read: decimal::numbers::unread(),
-            more: false,
-        };
-    }
-    let n = io::count(got, &buffer);
-    if n == 0 {
-        return Piece {
-            read: decimal::numbers::read_end(before, numbers),
-            more: false,
-        };
-    }
-    let read = decimal::numbers::read_bytes(before, &buffer[..n], numbers);
-    Piece {
-        more: decimal::numbers::goes_on(read),
-        read,
-    }
+    decimal::numbers::read_piece(before, got, &buffer, numbers)
 }
 
-// Reads standard input to its end, or up to the first byte that makes it unread. A proved loop has to end, and nothing says that an input does: so the
+// Reads on to the end of standard input, or up to the first byte that makes it unread. A proved loop has to end, and nothing says that an input does: so the
 // loop counts its turns down, from a number that no run uses up.
-fn read_input(numbers: &mut [u32]) -> Reading {
-    let mut read = decimal::numbers::first();
+fn read_on(mut read: Reading, numbers: &mut [u32]) -> Reading
+    ensures { λ r. ⌜ ReadsOn read (now (numbers .entry)) r (now (numbers .exit)) ⌝ }
+{
     let mut turns: u64 = 18446744073709551615;
     while turns > 0 {
-        let piece = read_piece(read, numbers);
+        let piece = read_once(read, numbers);
         read = piece.read;
         if !piece.more {
             return read;
@@ -171,12 +152,26 @@ fn read_input(numbers: &mut [u32]) -> Reading {
     decimal::numbers::unread()
 }
 
+// Reads standard input and answers it.
+fn answer_input(
+    numbers: &mut [u32; NUMBERS],
+    result: &mut [u32; RESULT],
+    work: &mut [u32; WORK],
+    out: &mut [u8; OUT],
+) -> usize
+    ensures { λ r. ⌜ AnswersInput r (now (out .exit)) ⌝ }
+{
+    let read = read_on(decimal::numbers::first(), numbers);
+    answer_whole(read, numbers, result, work, out)
+}
+
 fn main() {
     let mut numbers = [0u32; NUMBERS];
     let mut result = [0u32; RESULT];
     let mut work = [0u32; WORK];
     let mut out = [0u8; OUT];
-    let read = read_input(&mut numbers);
-    let n = answer_whole(read, &numbers, &mut result, &mut work, &mut out);
-    io::write_all(1, &out[..n]);
+    let n = answer_input(&mut numbers, &mut result, &mut work, &mut out);
+    if !io::write_all(1, &out[..n]) {
+        io::write_all(2, b"bench: the answer could not be written\n");
+    }
 }

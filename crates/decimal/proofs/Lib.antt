@@ -3,3 +3,4 @@ pub mod Reading
 pub mod Parting
 pub mod Putting
 pub mod Whole
+pub mod Pieces

@@ -1,21 +1,28 @@
 -- Laws of the reading of numbers, over plain variables. Assumes nothing.
 use Prim.Native.Nat.{ℕ, zero, suc, _+_, _*_, _-_, _<_, _≤_, min}
-use mathlib.Core.Path.{_≡_, refl, sym, ap, _∙_}
+use mathlib.Core.Path.{_≡_, refl, sym, ap, _∙_, subst}
 use mathlib.Core.List.{[], _∷_, _++_}
 use mathlib.Core.Bool.{Bool, true, false}
 use native.Mathlib.Omega.{arith}
+use native.Mathlib.Nat.{lt-of-le-of-lt}
 use native.Mathlib.Numerals.{add-one, unary-clauses}
 use lib.ListN.{length, getD, take, drop, set, length-append, take-append-drop, drop-of-length-le}
 use lib.Seq.{length-take-le, take-nil, drop-cons, append-snoc, set-split, take-append-seam, drop-append-seam}
-use lib.Dec.{ltb, leb}
-use borrow.Author.Tests.{lt-ltb, le-ltb, le-leb, lt-leb, eq-eqb, ne-eqb, leb-true}
+use lib.Dec.{T, ltb, leb, lit<}
+use lib.IntN.{ℤ, pos, negsuc, natAbs}
+use lib.Signed.{ltZ, nonNeg, natAbs-le}
+use mir.Syntax.{w64}
+use mir.Val.{Fits, SFits, toZ, ofZ}
+use mir.ValLaws.{toZ-ofZ}
+use borrow.Author.Tests.{lt-ltb, le-ltb, le-leb, lt-leb, eq-eqb, ne-eqb, leb-true, ltb-true}
 use Rattle.words.specs.Reader.{Words, pick}
 use Rattle.words.proofs.Laws.{and-both}
 use Rattle.decimal.proofs.Lists.{drop-more}
-use Rattle.decimal.specs.Numbers.{Bytes, isDigit, isWhite, mostWord, Numbers, at, grown, outside, added, byteAt, byte, bytes, lastAt, said, Stands}
+use Rattle.decimal.specs.Numbers.{Bytes, isDigit, isWhite, mostWord, Numbers, at, grown, outside, added, byteAt, byte, bytes, lastAt, last, delivered, moreAfter, mayBe, said, Stands, Delivers}
 use Rattle.decimal.specs.declared.numbers.Place.{Place}
 use Rattle.decimal.specs.declared.numbers.Place.the-variants.{Unread, Between, Within}
 use Rattle.decimal.specs.declared.numbers.Reading.{Reading}
+use Rattle.decimal.specs.declared.numbers.Piece.{Piece}
 
 -- THE CLASSES OF BYTES
 
@@ -194,3 +201,50 @@ module _ (w : Words) (n count : ℕ) (e : count ≡ min n (length w)) where
   pub end-within : {p : Place} {v : ℕ} → p ≡ Within v → (r : Reading) (w′ : Words) → Stands (added (length w) (take count w) v) w r w′ → Stands (lastAt (length w) p (take n w)) w r w′
   unfolding lastAt
   end-within q r w′ x = rw (q, ← count-all w n, ← e) x
+
+-- A PIECE OF A TEXT
+
+-- a signed number, as the machine reads it back from its bits, is the number
+pub signed : (z : ℤ) (t : Bool) → SFits w64 z → ltZ (toZ w64 (ofZ w64 z)) (pos 0) ≡ t → ltZ z (pos 0) ≡ t
+signed z t f e = subst (λ (y : ℤ). ltZ y (pos 0) ≡ t) (toZ-ofZ w64 z f) e
+
+pub signed-count : (z : ℤ) (n m : ℕ) → SFits w64 z → n ≡ min (natAbs (toZ w64 (ofZ w64 z))) m → n ≡ min (natAbs z) m
+signed-count z n m f e = subst (λ (y : ℤ). n ≡ min (natAbs y) m) (toZ-ofZ w64 z f) e
+
+not-negative : (z : ℤ) → ltZ z (pos 0) ≡ false → T (nonNeg z)
+not-negative (pos n) e = tt
+not-negative (negsuc n) e = let z : _≡_ {A = ℕ} 0 1 = cc in absurd (omega arith)
+
+-- so it can be cast to one without sign
+pub cast-fits : (z : ℤ) → SFits w64 z → ltZ (toZ w64 (ofZ w64 z)) (pos 0) ≡ false → T (nonNeg (toZ w64 (ofZ w64 z))) × Fits w64 (natAbs (toZ w64 (ofZ w64 z)))
+cast-fits z f e =
+    (not-negative (toZ w64 (ofZ w64 z)) e, subst (λ (y : ℤ). Fits w64 (natAbs y)) (sym (toZ-ofZ w64 z f)) (record { fits = lt-of-le-of-lt (natAbs-le z (f .sfits)) (lit< tt) }))
+
+abbrev piece : Reading → Bool → Piece
+piece r more = record { read = r; more = more }
+
+none-counted : (n : ℕ) → take {A = ℕ} n (0 ∷ []) ≡ [] → n ≡ 0
+none-counted zero e = refl
+none-counted (suc n) e = let z : _≡_ {A = ℕ} 0 1 = cc in absurd (omega arith)
+
+module _ (room : ℕ) (s : Numbers) (buffer : Bytes) (w : Words) where
+  pub piece-failed : (got : ℤ) (r : Reading) → ltZ got (pos 0) ≡ true → ((ws : Words) → said r ws ≡ at Unread []) → Delivers got (delivered room s got buffer) w (piece r false) w
+  unfolding delivered moreAfter
+  piece-failed (negsuc k) r e u = record { read = record { place = ap (λ (x : Numbers). x .place) (u []); count = none-counted (r .count) (ap (λ (x : Numbers). x .found) (u (0 ∷ []))); words = refl }; more = refl }
+  piece-failed (pos k) r e u = absurd (omega (arith, ltb-true k 0 e))
+
+  pub piece-last : (got : ℤ) (r : Reading) (w′ : Words) → ltZ got (pos 0) ≡ false → ofZ w64 got ≡ 0 → Stands (last room s) w r w′ → Delivers got (delivered room s got buffer) w (piece r false) w′
+  unfolding delivered moreAfter
+  piece-last (pos zero) r w′ e z x = record { read = x; more = refl }
+  piece-last (pos (suc k)) r w′ e z x = absurd (omega arith)
+  piece-last (negsuc k) r w′ e z x = let z : _≡_ {A = ℕ} 0 1 = cc in absurd (omega arith)
+
+  pub piece-bytes : (got : ℤ) (n : ℕ) (r : Reading) (more : Bool) (w′ : Words) → ltZ got (pos 0) ≡ false → (ofZ w64 got ≡ 0 → ⊥) → n ≡ min (natAbs got) (length buffer)
+      → Stands (bytes room s (take n buffer)) w r w′ → more ≡ mayBe (r .place) → Delivers got (delivered room s got buffer) w (piece r more) w′
+  unfolding delivered moreAfter
+  piece-bytes (pos zero) n r more w′ e z m x g = absurd (z refl)
+  piece-bytes (pos (suc k)) n r more w′ e z m x g =
+      let t : take n buffer ≡ take (suc k) buffer = rw (m, count-all) in
+      let y : Stands (bytes room s (take (suc k) buffer)) w r w′ = rw t at x in
+      record { read = y; more = g ∙ ap mayBe (y .place) }
+  piece-bytes (negsuc k) n r more w′ e z m x g = let z : _≡_ {A = ℕ} 0 1 = cc in absurd (omega arith)

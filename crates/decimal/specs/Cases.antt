@@ -3,11 +3,12 @@ use Prim.Native.Nat.{ℕ}
 use mathlib.Core.Path.{_≡_, refl}
 use mathlib.Core.List.{List, [], _∷_, _++_, map}
 use mathlib.Core.Option.{Option, none, some}
+use lib.IntN.{ℤ, pos, negsuc}
 use lib.ListN.{replicate}
 use Rattle.words.specs.Reader.{Words}
 use Rattle.meaning.specs.Meaning.{done, stopped}
 use Rattle.meaning.specs.Outcome.{Inputs, refused, ended}
-use Rattle.decimal.specs.Numbers.{Bytes, Numbers, at, byteAt, bytes, added, grown, outside, lastAt, numbers}
+use Rattle.decimal.specs.Numbers.{Bytes, Numbers, at, byteAt, bytes, added, grown, outside, lastAt, start, numbers, delivered, moreAfter, Delivery, readOver, joined, textOf}
 use Rattle.decimal.specs.Input.{counted, whole, input, inputAt, inputFrom}
 use Rattle.decimal.specs.Printed.{digits, decimal, allSpaced, line, counts, printed}
 use Rattle.decimal.specs.declared.numbers.Place.the-variants.{Unread, Between}
@@ -61,6 +62,31 @@ read =
 texts-read : map (numbers 4) texts ≡ read
 unfolding grown outside added byteAt bytes lastAt numbers texts read
 texts-read = refl
+
+-- A TEXT IN PIECES, with room for four
+
+abbrev piece : ℤ → Bytes → Delivery
+piece got buffer = record { got = got; buffer = buffer }
+
+pieces : List (List Delivery)
+pieces =
+    -- "1", "2 3" in a longer buffer, the end: "12 3"
+    (piece (pos 1) (49 ∷ []) ∷ piece (pos 3) (50 ∷ 32 ∷ 51 ∷ 57 ∷ []) ∷ piece (pos 0) [] ∷ [])
+    -- the end at once
+    ∷ (piece (pos 0) (49 ∷ []) ∷ [])
+    -- a read that fails, after "1 "; a wrong byte, and no end; "1", and no end
+    ∷ (piece (pos 2) (49 ∷ 32 ∷ []) ∷ piece (negsuc 0) [] ∷ [])
+    ∷ (piece (pos 3) (49 ∷ 32 ∷ 45 ∷ []) ∷ [])
+    ∷ (piece (pos 1) (49 ∷ []) ∷ [])
+    ∷ []
+
+pieces-read : map (readOver 4 start) pieces ≡ (some (at Between (12 ∷ 3 ∷ [])) ∷ some (at Between []) ∷ some (at Unread []) ∷ some (at Unread (1 ∷ [])) ∷ none ∷ [])
+unfolding grown outside added byteAt bytes lastAt delivered moreAfter readOver pieces
+pieces-read = refl
+
+pieces-text : map textOf pieces ≡ (some (49 ∷ 50 ∷ 32 ∷ 51 ∷ []) ∷ some [] ∷ none ∷ none ∷ none ∷ [])
+unfolding joined textOf pieces
+pieces-text = refl
 
 -- THE PARTS OF AN INPUT
 

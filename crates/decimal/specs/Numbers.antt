@@ -1,14 +1,17 @@
 -- THE NUMBERS OF A TEXT, from its bytes: "reads decimal numbers from standard input". Assumes nothing: these are definitions.
-use Prim.Native.Nat.{ℕ, _+_, _*_, _-_}
+use Prim.Native.Nat.{ℕ, zero, suc, _+_, _*_, _-_}
 use mathlib.Core.Path.{_≡_}
 use mathlib.Core.List.{List, [], _∷_, _++_}
 use mathlib.Core.Bool.{Bool, true, false}
+use mathlib.Core.Option.{Option, none, some}
 use lib.ListN.{length, take, drop}
 use lib.Dec.{ltb, leb, eqb}
+use lib.IntN.{ℤ, pos, negsuc}
 use Rattle.words.specs.Reader.{Words, pick, or, between}
 use Rattle.decimal.specs.declared.numbers.Place.{Place}
 use Rattle.decimal.specs.declared.numbers.Place.the-variants.{Unread, Between, Within}
 use Rattle.decimal.specs.declared.numbers.Reading.{Reading}
+use Rattle.decimal.specs.declared.numbers.Piece.{Piece}
 
 -- a text
 abbrev pub Bytes : Type 0
@@ -86,6 +89,44 @@ mayBe Unread = false
 mayBe Between = true
 mayBe (Within v) = true
 
+-- IN PIECES, as the system's `read` delivers them: it answers a count and puts so many bytes at the start of a buffer
+
+-- the reading after one: a read that failed leaves a text unread, no bytes are its end
+unfoldable pub delivered : ℕ → Numbers → ℤ → Bytes → Numbers
+delivered room s (negsuc k) buffer = at Unread []
+delivered room s (pos zero) buffer = last room s
+delivered room s (pos (suc n)) buffer = bytes room s (take (suc n) buffer)
+
+-- may there be more, where a reading stands after it?
+unfoldable pub moreAfter : ℤ → Place → Bool
+moreAfter (negsuc k) p = false
+moreAfter (pos zero) p = false
+moreAfter (pos (suc n)) p = mayBe p
+
+-- one answer of `read`
+pub record Delivery : Type 0 where
+  pub got : ℤ
+  pub buffer : Bytes
+
+-- the reading over deliveries, one after the other, up to where there is no more; none if there may still be more
+unfoldable pub readOver : ℕ → Numbers → List Delivery → Option Numbers
+readOver room s [] = none
+readOver room s (d ∷ ds) =
+    let t = delivered room s (d .got) (d .buffer) in
+    pick (moreAfter (d .got) (t .place)) (readOver room t ds) (some t)
+
+-- the bytes of one, and the text that the others bring
+unfoldable pub joined : ℤ → Bytes → Option Bytes → Option Bytes
+joined (negsuc k) buffer rest = none
+joined (pos zero) buffer rest = some []
+joined (pos (suc n)) buffer none = none
+joined (pos (suc n)) buffer (some rest) = some (take (suc n) buffer ++ rest)
+
+-- the text that deliveries bring; none if a read failed, or if its end did not come
+unfoldable pub textOf : List Delivery → Option Bytes
+textOf [] = none
+textOf (d ∷ ds) = joined (d .got) (d .buffer) (textOf ds)
+
 -- WHAT THE CODE PROMISES
 
 -- what a reading's answer says, with the words as they are
@@ -97,3 +138,8 @@ pub record Stands (s : Numbers) (before : Words) (r : Reading) (after : Words) :
   pub place : r .place ≡ s .place
   pub count : r .count ≡ length (s .found)
   pub words : after ≡ s .found ++ drop (length (s .found)) before
+
+-- the answer to a piece: the reading, the words afterwards, and whether there may be more
+pub record Delivers (got : ℤ) (s : Numbers) (before : Words) (r : Piece) (after : Words) : Type 0 where
+  pub read : Stands s before (r .read) after
+  pub more : r .more ≡ moreAfter got (s .place)

@@ -6,7 +6,7 @@ ghost use Prim.Native.Nat.{_+_, _*_, _-_, _≤_, min};
 ghost use lib.ListN.{length, take};
 ghost use Rattle.words.specs.Reader.{Words};
 ghost use Rattle.decimal.specs.declared.numbers.Place.the-variants.{Unread};
-ghost use Rattle.decimal.specs.Numbers.{at, mayBe, isDigit, isWhite, grown, outside, added, byte, bytes, last, said, start, Stands};
+ghost use Rattle.decimal.specs.Numbers.{at, mayBe, isDigit, isWhite, grown, outside, added, byte, bytes, last, delivered, said, start, Stands, Delivers};
 
 // Where a reading stands.
 pub enum Place {
@@ -22,6 +22,12 @@ pub enum Place {
 pub struct Reading {
     pub place: Place,
     pub count: usize,
+}
+
+// The reading after a piece of a text, and whether there may be more.
+pub struct Piece {
+    pub read: Reading,
+    pub more: bool,
 }
 
 // Is the byte a digit?
@@ -152,7 +158,7 @@ pub fn unread() -> Reading
 }
 
 // May a text that was read so far be an input?
-pub fn goes_on(s: Reading) -> bool
+fn goes_on(s: Reading) -> bool
     ensures { λ r. ⌜ r ≡ mayBe (s .place) ⌝ }
 {
     let p = s.place;
@@ -164,7 +170,7 @@ pub fn goes_on(s: Reading) -> bool
 }
 
 // The bytes one after the other. The numbers found so far are the first words; a count past their end counts them all.
-pub fn read_bytes(s: Reading, text: &[u8], words: &mut [u32]) -> Reading
+fn read_bytes(s: Reading, text: &[u8], words: &mut [u32]) -> Reading
     ensures { λ r. ⌜ Stands (bytes (length (now (words .entry))) (said s (now (words .entry))) (now (text .entry))) (now (words .entry)) r (now (words .exit)) ⌝ }
 {
     let place = s.place;
@@ -181,7 +187,7 @@ pub fn read_bytes(s: Reading, text: &[u8], words: &mut [u32]) -> Reading
 }
 
 // The text ends.
-pub fn read_end(s: Reading, words: &mut [u32]) -> Reading
+fn read_end(s: Reading, words: &mut [u32]) -> Reading
     ensures { λ r. ⌜ Stands (last (length (now (words .entry))) (said s (now (words .entry)))) (now (words .entry)) r (now (words .exit)) ⌝ }
 {
     let p = s.place;
@@ -196,5 +202,30 @@ pub fn read_end(s: Reading, words: &mut [u32]) -> Reading
             count,
         },
         Place::Within(v) => add(count, v, words),
+    }
+}
+
+// What the system's `read` delivered: it failed (a negative count), the text is at its end (0), or so many bytes stand at the start of the buffer. A text that
+// cannot be read whole is unread.
+pub fn read_piece(s: Reading, got: isize, buffer: &[u8], words: &mut [u32]) -> Piece
+    ensures { λ r. ⌜ Delivers got (delivered (length (now (words .entry))) (said s (now (words .entry))) got (now (buffer .entry))) (now (words .entry)) r (now (words .exit)) ⌝ }
+{
+    if got < 0 {
+        return Piece {
+            read: unread(),
+            more: false,
+        };
+    }
+    if got == 0 {
+        return Piece {
+            read: read_end(s, words),
+            more: false,
+        };
+    }
+    let n = least(got as usize, buffer.len());
+    let read = read_bytes(s, &buffer[..n], words);
+    Piece {
+        more: goes_on(read),
+        read,
     }
 }

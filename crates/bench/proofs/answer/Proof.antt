@@ -1,11 +1,12 @@
 -- `bench::answer` meets its contract. Assumes nothing.
-use Rattle.bench.proofs.Answering.{part-least, none-answers, between-input, within-input}
+use Rattle.bench.proofs.Answering.{none-answers, between-input, within-input}
 use Rattle.bench.proofs.answer.Statement.{statement}
 use Rattle.bench.proofs.answer.Tie as tie
 use Rattle.decimal.specs.Input.{inputAt}
 use Rattle.tamarind.specs.Run.{memories}
 use borrow.Author.Needs.{needs}
 use lib.ListN.{take}
+use Rattle.decimal.proofs.Lists.{part-least}
 use Rattle.decimal.proofs.Whole.{unread-none}
 
 least-requires : tie.Need-least-requires
