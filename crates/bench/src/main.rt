@@ -1,5 +1,6 @@
-// The bench: one input from standard input, and what came of it to standard output. Of the system's `read` and `write` nothing is assumed but how many bytes they may
-// move. So it is outside the proof that the bytes handed to `read_piece` are those that `read` delivered, each once and in order, and that those of the answer are written.
+// The bench: one input from standard input, and what came of it to standard output. Of the system's `read` and `write` nothing is assumed but that they return, and how
+// many bytes they may move. So it is outside the proof that the bytes handed to `read_piece` are those that `read` delivered, each once and in order, and that those
+// of the answer are written.
 ghost use mathlib.Core.Path.{_≡_};
 ghost use mathlib.Core.Option.{some};
 ghost use Prim.Native.Nat.{_+_, _≤_};
@@ -113,7 +114,7 @@ fn answer(
     }
 }
 
-// Answers it whole, over memories of the least lengths: a text for which there was room enough as `bench` says.
+// Answers it whole, over memories of the least lengths: if a text was read, as `bench` says.
 fn answer_whole(
     read: Reading,
     numbers: &[u32; NUMBERS],
