@@ -45,7 +45,7 @@ impl From<RunAnswer> for Outcome {
             stop,
             attempts: answer.attempts,
             replacements: answer.replacements,
-            filled: answer.filled as usize,
+            filled: answer.filled,
         };
         match (answer.ending, answer.number) {
             (DONE, _) => ended(None),
@@ -55,7 +55,7 @@ impl From<RunAnswer> for Outcome {
             }
             (REFUSED, number) => Outcome::Refused(Refusal {
                 number,
-                position: answer.position as usize,
+                position: answer.position,
             }),
             (ending, _) => unreachable!("the core has no ending {ending}"),
         }
