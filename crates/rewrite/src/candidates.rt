@@ -32,7 +32,8 @@ fn begins_with_node(pairs: &[u32], target: u32) -> bool
     false
 }
 
-// Is the first of the later pairs that is not a new variable a node? Where there is none, no later pair can differ in a tree of its type. Nothing rests on the answer.
+// Is the first of the later pairs that is not a new variable a node? If not, there is no later node that could be seen to differ before an attempt. Nothing rests
+// on the answer.
 fn node_follows(pairs: &[u32]) -> bool {
     let mut i: usize = 2;
     while i < pairs.len() {
