@@ -10,12 +10,16 @@ use reference::Outcome;
 use crate::timing::times;
 
 /// Runs as bench inputs.
-const WORKLOADS: [(&str, &[u8]); 9] = [
+const WORKLOADS: [(&str, &[u8]); 10] = [
     ("smallest", include_bytes!("../workloads/smallest.txt")),
     ("typical", include_bytes!("../workloads/typical.txt")),
     (
         "search_heavy",
         include_bytes!("../workloads/search_heavy.txt"),
+    ),
+    (
+        "search_late",
+        include_bytes!("../workloads/search_late.txt"),
     ),
     (
         "search_bind",
