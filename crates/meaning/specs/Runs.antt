@@ -36,10 +36,14 @@ stepOf before x =
     let o = outcome (length (before .result)) (length (before .work)) x in
     record { inputs = x; outcome = o; left = record { result = resultAfter o (before .result); work = workAfter o (before .work) } }
 
--- holds of each step, with the memories before it: "each run gets them as the run before left them"
+-- holds of each, with the memories before it, where it leaves those: "each run gets them as the run before left them"
+abbrev pub EachLeaving : {A : Type 0} → (A → Memories) → (Memories → A → Type 0) → Memories → List A → Type 0
+EachLeaving leaves P before [] = Unit {0}
+EachLeaving leaves P before (a ∷ more) = P before a × EachLeaving leaves P (leaves a) more
+
+-- holds of each step
 abbrev pub Each : (Memories → Step → Type 0) → Memories → List Step → Type 0
-Each P before [] = Unit {0}
-Each P before (s ∷ more) = P before s × Each P (s .left) more
+Each P before steps = EachLeaving (λ s. s .left) P before steps
 
 -- the memories after the list
 unfoldable pub lastly : Memories → List Step → Memories

@@ -8,7 +8,7 @@ use lib.ListN.{take}
 use lib.Dec.{eqb}
 use Rattle.words.specs.Reader.{Words, pick}
 use Rattle.meaning.specs.Outcome.{Inputs, output}
-use Rattle.meaning.specs.Runs.{Memories, Step, zeroed, Whole}
+use Rattle.meaning.specs.Runs.{Memories, Step, EachLeaving, zeroed, Whole}
 use Rattle.tamarind.specs.declared.Outcome.{Outcome}
 use Rattle.tamarind.specs.declared.RunAnswer.{RunAnswer}
 use Rattle.tamarind.specs.Run.{Runs}
@@ -47,10 +47,9 @@ pub record PadRun : Type 0 where
 abbrev pub RunOn : Memories → PadRun → Type 0
 RunOn before r = Ensures (r .by) (r .inputs) before (r .answer) (r .left)
 
--- holds of each run, with the memories before it: "each run gets them as the run before left them"
+-- holds of each run, with the memories before it
 abbrev pub EachOf : (Memories → PadRun → Type 0) → Memories → List PadRun → Type 0
-EachOf P before [] = Unit {0}
-EachOf P before (r ∷ more) = P before r × EachOf P (r .left) more
+EachOf P before runs = EachLeaving (λ r. r .left) P before runs
 
 -- WHAT HOLDS OF IT
 
