@@ -1,6 +1,6 @@
 -- Rules that are not well typed, each stuck at a test of the strict run: one table, one proof. Where a plain run looks too it is stuck as well; otherwise it goes
 -- on. So none of the tests of `begin`, `apply`, `succeeds` and `finish` is idle. Those of `bind` and `replace` cannot fail alone: what is bound or replaced is a
--- part of a scope, which `begin` has tested, or was finished, and so was what takes its place. Assumes nothing.
+-- part of a scope or an argument, which `begin` has tested, or of what was finished, and what takes its place was finished. Assumes nothing.
 use Prim.Native.Nat.{ℕ}
 use mathlib.Core.Path.{_≡_, refl}
 use mathlib.Core.List.{List, [], _∷_}
