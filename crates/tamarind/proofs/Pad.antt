@@ -15,7 +15,7 @@ use Rattle.meaning.specs.Runs.{Memories, Ran, stepOf, Each, Sure, Fine, zeroed}
 use Rattle.meaning.proofs.FromWords.{outcome-sure}
 use Rattle.meaning.proofs.Runs.{one-after-another}
 use Rattle.tamarind.specs.declared.Stop.{Stop}
-use Rattle.tamarind.specs.declared.Stop.the-variants.{AttemptsSpent, CallsTooDeep, TooManyNodes, NestsTooDeep, TooManyLive, OutOfRange}
+use Rattle.tamarind.specs.declared.Stop.the-variants.{BudgetSpent, CallsTooDeep, TooManyNodes, NestsTooDeep, TooManyLiveNodes, OutOfRange}
 use Rattle.tamarind.specs.declared.Counts.{Counts}
 use Rattle.tamarind.specs.declared.RunAnswer.{RunAnswer}
 use Rattle.tamarind.specs.declared.Outcome.{Outcome}
@@ -29,14 +29,14 @@ use Rattle.tamarind.proofs.Laws.{run-exported, exported-ran}
 -- THE FIELDS TELL THE ANSWER
 
 abbrev causeOf : ℕ → Stop
-causeOf n = pick (eqb n 40) AttemptsSpent (pick (eqb n 41) CallsTooDeep (pick (eqb n 42) TooManyNodes (pick (eqb n 43) NestsTooDeep (pick (eqb n 44) TooManyLive OutOfRange))))
+causeOf n = pick (eqb n 40) BudgetSpent (pick (eqb n 41) CallsTooDeep (pick (eqb n 42) TooManyNodes (pick (eqb n 43) NestsTooDeep (pick (eqb n 44) TooManyLiveNodes OutOfRange))))
 
 cause-of-number : (s : Stop) → causeOf (numberOf s) ≡ s
-cause-of-number AttemptsSpent = refl
+cause-of-number BudgetSpent = refl
 cause-of-number CallsTooDeep = refl
 cause-of-number TooManyNodes = refl
 cause-of-number NestsTooDeep = refl
-cause-of-number TooManyLive = refl
+cause-of-number TooManyLiveNodes = refl
 cause-of-number OutOfRange = refl
 
 abbrev countsOf : RunAnswer → Counts

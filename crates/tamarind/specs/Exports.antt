@@ -1,17 +1,19 @@
 -- What the exported functions hand back. Assumes nothing: these are definitions.
-use Prim.Native.Nat.{ℕ}
+use Prim.Native.Nat.{ℕ, _≤_}
 use mathlib.Core.Path.{_≡_}
+use mathlib.Core.Bool.{Bool}
 use lib.ListN.{length, take}
-use lib.Dec.{eqb}
-use Rattle.words.specs.Reader.{Words, pick, Read, value, refused}
+use lib.Dec.{eqb, leb}
+use Rattle.words.specs.Reader.{Words, pick, and, Read, value, refused}
 use Rattle.words.specs.declared.Check.{Check}
 use Rattle.words.specs.declared.Check.the-variants.{Passed, Refused}
 use Rattle.meaning.specs.Meaning.{Ending, done, stopped, cannotGoOn}
-use Rattle.meaning.specs.Outcome.{Inputs, Outcome, ended, outcome, resultAfter, workAfter}
+use Rattle.meaning.specs.Outcome.{Inputs, Outcome, ended, outcome, resultAfter, workAfter, output}
 use Rattle.meaning.specs.Outcome as Meant
 use Rattle.meaning.specs.Runs.{Memories}
 use Rattle.tamarind.specs.declared.Answer.{Answer}
 use Rattle.tamarind.specs.declared.RunAnswer.{RunAnswer}
+use Rattle.tamarind.specs.declared.Posting.{Posting}
 use Rattle.tamarind.specs.declared.Outcome as Code
 use Rattle.tamarind.specs.declared.Outcome.the-variants as Run
 use Rattle.tamarind.specs.Run.{numberOf}
@@ -59,3 +61,32 @@ pub record RunExported (x : Inputs) (before : Memories) (r : RunAnswer) (after :
   pub answered : r ≡ exportedRun (outcome (length (before .result)) (length (before .work)) x)
   pub result : after .result ≡ resultAfter (outcome (length (before .result)) (length (before .work)) x) (before .result)
   pub work : after .work ≡ workAfter (outcome (length (before .result)) (length (before .work)) x) (before .work)
+
+-- WHAT TO POST
+
+-- is it the result's words? If the run was done and the filled count does not lie past the result's end
+unfoldable pub postsResult : Bool → ℕ → ℕ → Bool
+postsResult wasDone filled resultLength = and wasDone (leb filled resultLength)
+
+-- "The words to post are the filled part of the result if the run was done, else the slip itself; a filled count past the result's end also gives the slip", from
+-- the ending, the filled count and the lengths of the result and the tree: the source is 1 for the result and 0 for the tree, and so many of its words from word 0
+unfoldable pub posting : ℕ → ℕ → ℕ → ℕ → Posting
+posting ending filled resultLength treeLength =
+    pick (postsResult (eqb ending 0) filled resultLength) (record { source = 1; words = filled }) (record { source = 0; words = treeLength })
+
+-- the memory that a posting's source names
+abbrev pub sourceOf : Posting → Words → Words → Words
+sourceOf p result tree = pick (eqb (p .source) 1) result tree
+
+-- all the words that a posting names are there, and they are those that `words_to_post` hands back
+pub record Posts (ending filled : ℕ) (result tree : Words) (p : Posting) : Type 0 where
+  pub there : p .words ≤ length (sourceOf p result tree)
+  pub posted : take (p .words) (sourceOf p result tree) ≡ output (eqb ending 0) filled result tree
+
+-- THE LAW of `posting`, given the lengths of a result and a tree; proofs/Posted.antt proves it
+abbrev pub PostsOutput : Type 0
+PostsOutput = (ending filled : ℕ) (result tree : Words) → Posts ending filled result tree (posting ending filled (length result) (length tree))
+
+-- THE EDITION of the exported functions: each change that a caller can see raises it
+abbrev pub edition : ℕ
+edition = 0

@@ -19,7 +19,7 @@ use Rattle.rewrite.specs.Arena.{Standing}
 use Rattle.calls.specs.declared.Called.{Called}
 use Rattle.calls.specs.Engine.{EndedAs}
 use Rattle.tamarind.specs.declared.Stop.{Stop}
-use Rattle.tamarind.specs.declared.Stop.the-variants.{AttemptsSpent, CallsTooDeep, TooManyNodes, NestsTooDeep, TooManyLive, OutOfRange}
+use Rattle.tamarind.specs.declared.Stop.the-variants.{BudgetSpent, CallsTooDeep, TooManyNodes, NestsTooDeep, TooManyLiveNodes, OutOfRange}
 use Rattle.tamarind.specs.declared.Outcome as Code
 use Rattle.tamarind.specs.declared.Outcome.the-variants.{Refused, Done, Stopped}
 
@@ -28,7 +28,7 @@ use Rattle.tamarind.specs.declared.Outcome.the-variants.{Refused, Done, 
 -- "run (a stop)", 40 to 45: the number of each cause
 abbrev pub numberOf : Stop → ℕ
 -- "a trial is due and the budget is spent"
-numberOf AttemptsSpent = 40
+numberOf BudgetSpent = 40
 -- "a 33rd nested call, main being the first"
 numberOf CallsTooDeep = 41
 -- "a tree would pass 2,048 nodes"
@@ -36,7 +36,7 @@ numberOf TooManyNodes = 42
 -- "a finished tree's nesting would pass 64"
 numberOf NestsTooDeep = 43
 -- "held nodes would pass 6,144"
-numberOf TooManyLive = 44
+numberOf TooManyLiveNodes = 44
 -- "an operation's result under 0 or over 999,999,999, or divisor 0"
 numberOf OutOfRange = 45
 

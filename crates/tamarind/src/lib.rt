@@ -17,13 +17,13 @@ ghost use Rattle.judgement.specs.Typing.{checkRules};
 ghost use Rattle.meaning.specs.Outcome.{callFits, output};
 ghost use Rattle.rewrite.specs.Vars.{Sound};
 ghost use Rattle.tamarind.specs.Run.{numberOf, inputsOf, memories, Runs, Named, InputsRead, Laid, Answered, Accepted};
-ghost use Rattle.tamarind.specs.Exports.{exported, exportedCheck, exportedCounts, exportedOutcome, RunExported};
+ghost use Rattle.tamarind.specs.Exports.{exported, exportedCheck, exportedCounts, exportedOutcome, RunExported, postsResult, posting, edition};
 
 // A single check's answer: the number of the refusal and its position; 0 and 0 where nothing is refused.
 #[repr(C)]
 pub struct Answer {
     pub number: u32,
-    pub position: u64,
+    pub position: usize,
 }
 
 // A check's answer as it is exported.
@@ -35,9 +35,9 @@ fn export(c: Check) -> Answer
             number: 0,
             position: 0,
         },
-        Check::Refused(number, position) => Answer {
-            number,
-            position: position as u64,
+        Check::Refused(no, p) => Answer {
+            number: no,
+            position: p,
         },
     }
 }
@@ -80,7 +80,7 @@ const MOST_CALLS: usize = 32;
 // Why a run stopped.
 pub enum Stop {
     // 40
-    AttemptsSpent,
+    BudgetSpent,
     // 41
     CallsTooDeep,
     // 42
@@ -88,7 +88,7 @@ pub enum Stop {
     // 43
     NestsTooDeep,
     // 44
-    TooManyLive,
+    TooManyLiveNodes,
     // 45
     OutOfRange,
 }
@@ -112,7 +112,7 @@ fn cause(number: u32) -> Stop
     ensures { λ r. ⌜ Named number r ⌝ }
 {
     if number == 40 {
-        return Stop::AttemptsSpent;
+        return Stop::BudgetSpent;
     }
     if number == 41 {
         return Stop::CallsTooDeep;
@@ -124,7 +124,7 @@ fn cause(number: u32) -> Stop
         return Stop::NestsTooDeep;
     }
     if number == 44 {
-        return Stop::TooManyLive;
+        return Stop::TooManyLiveNodes;
     }
     Stop::OutOfRange
 }
@@ -299,16 +299,58 @@ pub fn run(
     }
 }
 
+// Is it the result that is posted? If the run was done, and the filled count does not lie past the result's end.
+fn posts_result(done: bool, filled: usize, result_len: usize) -> bool
+    ensures { λ r. ⌜ r ≡ postsResult done filled «result_len» ⌝ }
+{
+    if done {
+        return filled <= result_len;
+    }
+    false
+}
+
 // The words to post: the filled part of the result if the run was done, else the tree; the tree also where the count lies past the result's end.
 pub fn words_to_post<'a>(done: bool, filled: usize, result: &'a [u32], tree: &'a [u32]) -> &'a [u32]
     ensures { λ r. ⌜ now r ≡ output done filled (now (result .entry)) (now (tree .entry)) ⌝ }
 {
-    if done {
-        if filled <= result.len() {
-            return &result[..filled];
-        }
+    if posts_result(done, filled, result.len()) {
+        return &result[..filled];
     }
     tree
+}
+
+// The sources of a posting.
+const POST_TREE: u32 = 0;
+
+const POST_RESULT: u32 = 1;
+
+// What is to be posted: the first words of its source, so many.
+#[repr(C)]
+pub struct Posting {
+    pub source: u32,
+    pub words: usize,
+}
+
+// The words to post, for a caller that cannot be handed a part of a slice: given how the run ended and what it filled, where they stand and how many they are.
+#[no_mangle]
+pub extern "C" fn tamarind_words_to_post(
+    ending: u32,
+    filled: usize,
+    result_len: usize,
+    tree_len: usize,
+) -> Posting
+    ensures { λ r. ⌜ r ≡ posting ending filled «result_len» «tree_len» ⌝ }
+{
+    if posts_result(ending == 0, filled, result_len) {
+        return Posting {
+            source: POST_RESULT,
+            words: filled,
+        };
+    }
+    Posting {
+        source: POST_TREE,
+        words: tree_len,
+    }
 }
 
 // A run's answer as it is exported. The ending is 0 done, 1 stopped, 2 refused; the number is that of the stop or the refusal, the position the refusal's.
@@ -327,11 +369,11 @@ pub fn number_of(cause: Stop) -> u32
     ensures { λ r. ⌜ r ≡ numberOf cause ⌝ }
 {
     match cause {
-        Stop::AttemptsSpent => 40,
+        Stop::BudgetSpent => 40,
         Stop::CallsTooDeep => 41,
         Stop::TooManyNodes => 42,
         Stop::NestsTooDeep => 43,
-        Stop::TooManyLive => 44,
+        Stop::TooManyLiveNodes => 44,
         Stop::OutOfRange => 45,
     }
 }
@@ -382,4 +424,15 @@ pub extern "C" fn tamarind_run(
 {
     let r = run(grammar, rules, tree, budget, result, work);
     export_run(r)
+}
+
+// Each change that a caller can see raises it.
+const EDITION: u32 = 0;
+
+// The edition of these functions: a caller asks whether it was written for this one.
+#[no_mangle]
+pub extern "C" fn tamarind_edition() -> u32
+    ensures { λ r. ⌜ r ≡ edition ⌝ }
+{
+    EDITION
 }

@@ -1,25 +1,22 @@
 -- `tamarind::words_to_post` meets its contract. Assumes nothing.
-use borrow.Author.Tests.{le-leb, lt-leb}
+use borrow.Author.Needs.{needs}
 use lib.Seq.{length-take-le}
 use mathlib.Core.Path.{sym}
-use Rattle.meaning.specs.Outcome.{output}
+use Rattle.tamarind.proofs.Posted.{result-there, result-posted, tree-posted}
 use Rattle.tamarind.proofs.words_to_post.Statement.{statement}
 use Rattle.tamarind.proofs.words_to_post.Tie as tie
 
+posts-result-requires : tie.Need-posts-result-requires
+posts-result-requires c κs = search needs
+
 slice-aggregate-result : tie.Need-slice-aggregate-result
-slice-aggregate-result c = sym (length-take-le _ _ (c .before .if2 .taken))
+slice-aggregate-result c = sym (length-take-le _ _ (result-there _ _ _ (c .before .before .posts-result .ensures) (c .before .if1 .taken)))
 
 returns : tie.Need-returns
-unfolding output
-returns c = simp (c .before .before .if1 .taken, le-leb _ _ (c .before .if2 .taken))
+returns c = result-posted _ _ _ (c .before .before .posts-result .ensures) _ (c .before .if1 .taken)
 
 returns-2 : tie.Need-returns-2
-unfolding output
-returns-2 c = simp (c .before .if1 .taken, lt-leb _ _ (c .if2 .left))
-
-returns-3 : tie.Need-returns-3
-unfolding output
-returns-3 c = simp (c .if1 .left)
+returns-2 c = tree-posted _ _ _ (c .before .posts-result .ensures) _ (c .if1 .left)
 
 pub words-to-post-spec : {M : Type 1} → statement M
-words-to-post-spec = tie.close (tie.spec slice-aggregate-result returns returns-2 returns-3)
+words-to-post-spec = tie.close (tie.spec posts-result-requires slice-aggregate-result returns returns-2)
