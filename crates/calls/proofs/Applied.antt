@@ -29,8 +29,7 @@ use Rattle.meaning.specs.Meaning.{Env, live, start, fits, begin, liveWithin, va
 use Rattle.meaning.proofs.Level.{number-tree}
 use Rattle.operations.specs.Operating.{argumentsOf}
 use Rattle.marks.specs.Marked.{markOf, marked, Stands}
-use Rattle.rewrite.specs.Vars.{EnvAt, startsOf, startAt, Sound}
-use Rattle.rewrite.specs.declared.Vars.{Vars}
+use Rattle.rewrite.specs.Vars.{Vars, EnvAt, startsOf, startAt, Sound}
 use Rattle.rewrite.specs.Arena.{Standing}
 use Rattle.calls.specs.Engine.{Sure}
 use Rattle.rewrite.proofs.Leaves.{variables-more, variables-none, variable-stands, arguments-more, arguments-none}

@@ -22,12 +22,10 @@ use Rattle.meaning.specs.Operations.{compute}
 use Rattle.meaning.specs.Meaning as M
 use Rattle.meaning.specs.Meaning.{Env, total, variables, valueOf, valuesOf, withValue, isNumberToken, areNumberTokens, done, cannotGoOn, resultAs, resultOf, opened, begin, calls}
 use Rattle.operations.specs.Operating.{argumentsOf}
-use Rattle.rewrite.specs.Vars.{EnvAt, startsOf, startAt, Sound}
-use Rattle.rewrite.specs.declared.Vars.{Vars}
-use Rattle.rewrite.specs.Arena.{Standing, Gathered, ComputedAs, Computed}
+use Rattle.rewrite.specs.Vars.{Vars, EnvAt, startsOf, startAt, Sound}
+use Rattle.rewrite.specs.Arena.{Arguments, Standing, Gathered, ComputedAs, Computed}
 use Rattle.rules.specs.Views.{chainCount}
 use Rattle.calls.specs.Engine.{Sure, Says, EndedAs, Tree, Given, Setting, applyAt, chainAt, Applies, Chains, Calls}
-use Rattle.rewrite.specs.declared.arena.Args.{Args}
 use Rattle.calls.specs.declared.Built.{Built}
 use Rattle.calls.specs.declared.Called.{Called}
 use Rattle.calls.proofs.Frames.{env-kept, standing-stands}
@@ -131,7 +129,7 @@ module _ (given : Given) (w pairs : Words) (at base n : ℕ) (vars : Vars) (besi
             (refl, q .same ∙ rewrites-none g rules (q .rule) (q .args) scope besides left deep d);
       })
 
-      pub apply-called : (deep ≡ 0 → ⊥) → (args : Args) → Gathered w pairs (at + 2) k vars args → (start : ℕ) → (a < 64 → start ≡ getD (given .starts) a 0) → (w′ : Words) (c : Called)
+      pub apply-called : (deep ≡ 0 → ⊥) → (args : Arguments) → Gathered w pairs (at + 2) k vars args → (start : ℕ) → (a < 64 → start ≡ getD (given .starts) a 0) → (w′ : Words) (c : Called)
           → Calls given w w′ start base n (args .vars) (besides + args .total) (deep - 1) left c
           → (r : Built) → r ≡ record { stop = c .stop; nodes = c .nodes; left = c .left } → Done w′ r
       apply-called d args ga start es w′ c cs r e = rw e (record {

@@ -28,8 +28,7 @@ use Rattle.marks.proofs.Laying.{under-tree, under-append}
 use Rattle.rewrite.specs.Vars.{startsOf, startAt}
 use Rattle.rewrite.specs.Arena.{NodesAt, overBy, Standing}
 use Rattle.rules.specs.Views.{pairsAt}
-use Rattle.calls.specs.Engine.{Room, Held, Given, Setting, Sure, Says, Tree, chainAt, chainPiece, Chains, FillsChain, Fills}
-use Rattle.rewrite.specs.declared.arena.Frame.{Frame}
+use Rattle.calls.specs.Engine.{Open, Room, Held, Given, Setting, Sure, Says, Tree, chainAt, chainPiece, Chains, FillsChain, Fills}
 use Rattle.calls.specs.declared.Built.{Built}
 use Rattle.calls.specs.declared.Chained.{Chained}
 use Rattle.calls.proofs.Frames.{take-less, stretch-kept, tree-length, stands-whole, env-up, env-kept, held-kept}
@@ -295,7 +294,7 @@ chainOn deep apps g rules env besides n t = do
   nodesWithin (n + size u)
   return u
 
-module _ (given : Given) (w pairs : Words) (i n : ℕ) (frame : Frame) (deep : ℕ) (left : State) (room : Room w frame) (few : frame .live + n ≤ mostLive)
+module _ (given : Given) (w pairs : Words) (i n : ℕ) (frame : Open) (deep : ℕ) (left : State) (room : Room w frame) (few : frame .live + n ≤ mostLive)
     (start m : ℕ) (at : start ≡ startAt (frame .vars) (getD pairs (i + 1) 0)) (nodes : NodesAt w start (frame .top) m) where
   abbrev x : ℕ
   x = getD pairs (i + 1) 0
@@ -429,7 +428,7 @@ record SoFar (g : Grammar) (rules : Rules.Rules) (deep : ℕ) (env : Env) (besid
   kept : take top w ≡ take top w₀
   same-run : filled g rules deep env besides (pieces pairs) 0 left ≡ onward g rules deep env besides done (pieces (drop i pairs)) n fuel
 
-pub record Filling (given : Given) (w₀ pairs : Words) (frame : Frame) (deep : ℕ) (left : State) (w : Words) (fuel : State) (n i : ℕ) : Type 0 where
+pub record Filling (given : Given) (w₀ pairs : Words) (frame : Open) (deep : ℕ) (left : State) (w : Words) (fuel : State) (n i : ℕ) : Type 0 where
   pub few : n ≤ mostNodes
   pub fits : frame .live + n ≤ mostLive
   pub less : fuel .attempts ≤ left .attempts
@@ -438,7 +437,7 @@ pub record Filling (given : Given) (w₀ pairs : Words) (frame : Frame) (deep : 
   run : (g : Grammar) (rules : Rules.Rules) (b : Bindings) → Setting given g rules → Held g w₀ frame b → Sure (filled g rules deep (b .env) (live b) (pieces pairs) 0 left)
       → SoFar g rules deep (b .env) (live b) left w₀ pairs w (frame .top) fuel n i
 
-pub filling-start : (given : Given) (w pairs : Words) (frame : Frame) (deep : ℕ) (left : State) → frame .live ≤ mostLive → Filling given w pairs frame deep left w left 0 0
+pub filling-start : (given : Given) (w pairs : Words) (frame : Open) (deep : ℕ) (left : State) → frame .live ≤ mostLive → Filling given w pairs frame deep left w left 0 0
 filling-start given w pairs frame deep left h = record {
   few = omega arith;
   fits = omega arith;
@@ -448,7 +447,7 @@ filling-start given w pairs frame deep left h = record {
   run = λ g rules b st hd sure. record { done = []; long = refl; there = nothing; kept = refl; same-run = sym (then-all (filled g rules deep (b .env) (live b) (pieces pairs) 0 left)) };
 }
 
-module _ (given : Given) (w₀ pairs : Words) (frame : Frame) (deep : ℕ) (left : State) (room : Room w₀ frame) (w : Words) (fuel : State) (n i : ℕ)
+module _ (given : Given) (w₀ pairs : Words) (frame : Open) (deep : ℕ) (left : State) (room : Room w₀ frame) (w : Words) (fuel : State) (n i : ℕ)
     (inv : Filling given w₀ pairs frame deep left w fuel n i) where
   abbrev rest : Grammar → Rules.Rules → Bindings → Result Words
   rest g rules b = filled g rules deep (b .env) (live b) (pieces (drop i pairs)) n fuel

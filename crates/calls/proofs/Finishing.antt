@@ -21,17 +21,14 @@ use Rattle.meaning.specs.declared.State.{State}
 use Rattle.meaning.specs.Computation.{Result, ok, stop, Comp, thenOf, _>>=_, _>>_, return, stopUnless, check}
 use Rattle.meaning.specs.Meaning.{Bindings, live, nestingWithin, bind, fill, finish, part, calls}
 use Rattle.marks.specs.Marked.{marked}
-use Rattle.rewrite.specs.Vars.{startsOf, bound, Sound}
+use Rattle.rewrite.specs.Vars.{Vars, startsOf, bound, Sound}
 use Rattle.rewrite.specs.Matching.{bindings}
-use Rattle.rewrite.specs.declared.Vars.{Vars}
 use Rattle.rewrite.specs.declared.Verdict.the-variants.{Matches, Stops}
-use Rattle.rewrite.proofs.Matcher.{env-length, env-more, starts-length, starts-more, total-more}
+use Rattle.rewrite.proofs.Matcher.{env-length, env-more, starts-length, starts-more, sound-more, kept-same, kept-bound, total-more}
 use Rattle.rewrite.specs.Arena.{Closed, Standing}
 use Rattle.rules.specs.Views.{pairsAt}
-use Rattle.calls.specs.Engine.{Room, Grown, Held, Given, Setting, Sure, Says, TakenAs, Constructs, Fills, Finishes, partOn}
-use Rattle.rewrite.specs.declared.arena.Frame.{Frame}
+use Rattle.calls.specs.Engine.{Open, Taking, Named, Room, Grown, Held, Given, Setting, Sure, Says, TakenAs, Constructs, Fills, Finishes, partOn}
 use Rattle.calls.specs.declared.Built.{Built}
-use Rattle.calls.specs.declared.Taken.{Taken}
 use Rattle.calls.proofs.Frames.{env-up, env-kept, standing-stands, standing-below, grown-same}
 use Rattle.calls.proofs.Going.{then-ok, then-stop, sure-first, sure-as, check-sure, surely-sure, says-ok, says-stop, stop-says}
 
@@ -47,7 +44,7 @@ module _ {B : Type 0} (g : Grammar) (ws : Words) (l : State) (k : Unit {0} → C
   unfolding thenOf nestingWithin stopUnless
   nesting-over h = rw h
 
-module _ (given : Given) (w w′ : Words) (at : ℕ) (frame : Frame) (deep : ℕ) (left : State) (r : Built) (fills : Fills given w w′ at frame deep left r) where
+module _ (given : Given) (w w′ : Words) (at : ℕ) (frame : Open) (deep : ℕ) (left : State) (r : Built) (fills : Fills given w w′ at frame deep left r) where
   abbrev filledBy : Grammar → Rules.Rules → Bindings → Result Words
   filledBy g rules b = fill true g rules (calls true g rules deep) (pieces (pairsAt (given .book) at)) (b .env) (live b) 0 left
 
@@ -111,23 +108,20 @@ module _ (given : Given) (w w′ : Words) (at : ℕ) (frame : Frame) (deep : ℕ
 
 -- A NEW VARIABLE
 
--- the variables, and one more for the tree on top
-pub record Named (frame : Frame) (r : Vars) : Type 0 where
-  sound : Sound r
-  is : frame .vars .n < 16 → r ≡ bound (frame .vars) (frame .top)
-
 -- what is open stays so
-module _ (frame : Frame) (n : ℕ) (few : frame .live + n ≤ mostLive) (low : frame .top ≤ 2 * frame .live) where
-  more-open : (vars : Vars) → Named frame vars → Grown frame (record { vars = vars; live = frame .live + n; top = frame .top + 2 * n })
-  more-open vars v = record { sound = v .sound; few = few; low = omega arith; more = omega arith; higher = omega arith }
+module _ (frame : Open) (n : ℕ) (few : frame .live + n ≤ mostLive) (low : frame .top ≤ 2 * frame .live) where
+  more-open : (vars : Vars) → Named (frame .vars) (frame .top) vars → Grown frame (record { vars = vars; live = frame .live + n; top = frame .top + 2 * n })
+  more-open vars v = record { sound = v .sound; kept = v .kept; few = few; low = omega arith; more = omega arith; higher = omega arith }
 
--- the place of one more, if there is room
-pub named-place : (frame : Frame) → Sound (frame .vars) → (i k : ℕ) → (i < 16) × (frame .vars .n < 16 → i ≡ frame .vars .n) → (k ≤ 16) × (frame .vars .n < 16 → k ≡ frame .vars .n + 1)
-    → Named frame (record { n = k; starts = set (frame .vars .starts) i (frame .top) })
-named-place frame s i k x y = record { sound = record { room = length-set (frame .vars .starts) i (frame .top) ∙ s .room; few = y .0 }; is = λ h. rw (x .1 h, y .1 h) }
+-- one more is bound where there is room for it
+pub named-bound : (v : Vars) (start : ℕ) → Sound v → v .n < 16 → Named v start (bound v start)
+named-bound v start s h = record { sound = sound-more v start s h; kept = kept-bound v start; is = λ k. refl }
+
+pub named-none : (v : Vars) (start : ℕ) → Sound v → 16 ≤ v .n → Named v start v
+named-none v start s h = record { sound = s; kept = kept-same v; is = λ k. absurd (omega arith) }
 
 -- the tree on top as a variable
-held-more : {g : Grammar} {w w′ : Words} {frame : Frame} {b : Bindings} {u n : ℕ} {t : Words} → Sound (frame .vars) → frame .vars .n < 16 → Held g w frame b → take (frame .top) w′ ≡ take (frame .top) w
+held-more : {g : Grammar} {w w′ : Words} {frame : Open} {b : Bindings} {u n : ℕ} {t : Words} → Sound (frame .vars) → frame .vars .n < 16 → Held g w frame b → take (frame .top) w′ ≡ take (frame .top) w
     → Standing g w′ (frame .top) n u t
     → Held g w′ (record { vars = bound (frame .vars) (frame .top); live = frame .live + n; top = frame .top + 2 * n }) (bindings (b .env ++ t ∷ []) (b .besides))
 held-more {g} {w} {w′} {frame} {b} {u} {n} {t} s h hd e x =
@@ -138,7 +132,7 @@ held-more {g} {w} {w′} {frame} {b} {u} {n} {t} s h hd e x =
       counted = omega (arith, hd .counted, x .nodes, total-more (b .env) t);
     }
 
-module _ (given : Given) (w w′ : Words) (at next : ℕ) (frame : Frame) (deep : ℕ) (left : State) (room : Room w frame) (f : Built)
+module _ (given : Given) (w w′ : Words) (at next : ℕ) (frame : Open) (deep : ℕ) (left : State) (room : Room w frame) (f : Built)
     (finishes : Finishes given w w′ at frame deep left f) where
   abbrev finishedAs : ℕ → Grammar → Rules.Rules → Bindings → Result Words
   finishedAs u g rules b = finish true g rules (calls true g rules deep) u (pieces (pairsAt (given .book) at)) b left
@@ -167,7 +161,7 @@ module _ (given : Given) (w w′ : Words) (at next : ℕ) (frame : Frame) (deep 
       let c = check-sure (isTree g u t) l (λ z. return (bindings (b .env ++ t ∷ []) (b .besides))) (sure-as (a .1) (sure-first _ _ s)) in
       (ltb-true (length (b .env)) mostVariables (a .0), then-ok _ _ (bindings (b .env ++ t ∷ []) (b .besides)) l (a .1 ∙ c .1))
 
-  pub constructs-stopped : (f .stop ≡ 0 → ⊥) → (r : Taken) → r ≡ record { verdict = Stops (f .stop); frame = frame; left = f .left; next = next } → Constructs given w w′ at next frame deep left r
+  pub constructs-stopped : (f .stop ≡ 0 → ⊥) → (r : Taking) → r ≡ record { verdict = Stops (f .stop); frame = frame; left = f .left; next = next } → Constructs given w w′ at next frame deep left r
   constructs-stopped h r e = rw e (record {
     next-is = refl;
     takes = λ u. record {
@@ -180,7 +174,7 @@ module _ (given : Given) (w w′ : Words) (at next : ℕ) (frame : Frame) (deep 
     };
   })
 
-  module _ (h : f .stop ≡ 0) (vars : Vars) (v : Named frame vars) (more : Frame) (em : more ≡ record { vars = vars; live = frame .live + f .nodes; top = frame .top + 2 * f .nodes }) where
+  module _ (h : f .stop ≡ 0) (vars : Vars) (v : Named (frame .vars) (frame .top) vars) (more : Open) (em : more ≡ record { vars = vars; live = frame .live + f .nodes; top = frame .top + 2 * f .nodes }) where
     matched : (u : ℕ) (g : Grammar) (rules : Rules.Rules) (b : Bindings) → Setting given g rules → Held g w frame b → Sure (builtBy u g rules b)
         → (take (frame .top) w′ ≡ take (frame .top) w) × TakenAs g w′ (b .besides) Matches more (f .left) (builtBy u g rules b)
     matched u g rules b st hd sure =
@@ -192,5 +186,5 @@ module _ (given : Given) (w w′ : Words) (at next : ℕ) (frame : Frame) (deep 
         let low : frame .vars .n < 16 = omega (arith, c .0, env-length g (take (frame .top) w) (startsOf (frame .vars)) (b .env) (hd .stands), starts-length (frame .vars) (room .sound)) in
         (q .0, (b .env ++ t ∷ [], subst (λ x. Held g w′ x (bindings (b .env ++ t ∷ []) (b .besides))) (sym (em ∙ ap (λ x. record { vars = x; live = frame .live + f .nodes; top = frame .top + 2 * f .nodes }) (v .is low))) (held-more (room .sound) low hd (q .0) (k .1)), run ∙ c .1))
 
-    pub constructs-bound : (r : Taken) → r ≡ record { verdict = Matches; frame = more; left = f .left; next = next } → Constructs given w w′ at next frame deep left r
+    pub constructs-bound : (r : Taking) → r ≡ record { verdict = Matches; frame = more; left = f .left; next = next } → Constructs given w w′ at next frame deep left r
     constructs-bound r e = rw e (record { next-is = refl; takes = λ u. record { grown = rw em (more-open frame (f .nodes) (finishes u .fits h) (room .low) vars v); less = finishes u .less; long = finishes u .long; meant = matched u } })

@@ -15,10 +15,9 @@ use Rattle.meaning.specs.Meaning.{Env, Bindings}
 use Rattle.marks.specs.Marked.{marked, Stands}
 use Rattle.marks.proofs.Marks.{marked-length}
 use Rattle.marks.proofs.Spans.{drop-take}
-use Rattle.rewrite.specs.Vars.{EnvAt, Sound}
-use Rattle.rewrite.specs.declared.Vars.{Vars}
-use Rattle.rewrite.specs.declared.arena.Frame.{Frame}
-use Rattle.calls.specs.Engine.{Room, Grown, Held}
+use Rattle.rewrite.specs.Vars.{Vars, varsOf, EnvAt, startsOf, Sound, Kept}
+use Rattle.rewrite.proofs.Matcher.{kept-same, kept-more, kept-back, sound-back}
+use Rattle.calls.specs.Engine.{Open, Room, Grown, Held}
 use Rattle.rewrite.specs.Arena.{Standing}
 
 -- WORDS
@@ -121,16 +120,32 @@ get-bound (w ∷ env) (suc x) t e = let i = get-bound env x t e in omega arith
 
 -- FRAMES
 
-pub grown-same : {w : Words} {frame : Frame} → Room w frame → Grown frame frame
-grown-same r = record { sound = r .sound; few = r .few; low = r .low; more = omega arith; higher = omega arith }
+pub grown-same : {w : Words} {frame : Open} → Room w frame → Grown frame frame
+grown-same {frame = frame} r = record { sound = r .sound; kept = kept-same (frame .vars); few = r .few; low = r .low; more = omega arith; higher = omega arith }
 
 -- more nodes are live, and no memory is taken
-pub grown-matched : (w : Words) (frame : Frame) → Room w frame → (vars : Vars) (live : ℕ) → Sound vars → live ≤ mostLive → frame .live ≤ live → Grown frame (record { vars = vars; live = live; top = frame .top })
-grown-matched w frame r vars live s l h = record { sound = s; few = l; low = omega (arith, r .low); more = h; higher = omega arith }
+pub grown-matched : (w : Words) (frame : Open) → Room w frame → (vars : Vars) (live : ℕ) → Sound vars → Kept (frame .vars) vars → live ≤ mostLive → frame .live ≤ live → Grown frame (record { vars = vars; live = live; top = frame .top })
+grown-matched w frame r vars live s k l h = record { sound = s; kept = k; few = l; low = omega (arith, r .low); more = h; higher = omega arith }
 
-pub grown-more : {a b c : Frame} → Grown a b → Grown b c → Grown a c
-grown-more x y = record { sound = y .sound; few = y .few; low = y .low; more = omega (arith, x .more, y .more); higher = omega (arith, x .higher, y .higher) }
+pub grown-more : {a b c : Open} → Grown a b → Grown b c → Grown a c
+grown-more x y = record { sound = y .sound; kept = kept-more (x .kept) (y .kept); few = y .few; low = y .low; more = omega (arith, x .more, y .more); higher = omega (arith, x .higher, y .higher) }
+
+-- the first n variables are where they were
+abbrev pub Still : Words → Words → ℕ → Type 0
+Still before after n = Sound (varsOf after n) × Kept (varsOf before n) (varsOf after n)
+
+-- .. also after more were bound
+pub still-after : {before now : Words} {n : ℕ} {v : Vars} → Still before now n → Sound v → Kept (varsOf now n) v → Still before (v .starts) n
+still-after {now = now} {n = n} {v = v} s sound k = (sound-back (varsOf now n) v (s .0) sound, kept-more (s .1) (kept-back (varsOf now n) v k))
+
+-- no more is open, whatever lies past the variables that are bound
+pub grown-still : {w : Words} {frame : Open} → Room w frame → (vars : Vars) → Sound vars → Kept (frame .vars) vars → Grown frame (record { vars = vars; live = frame .live; top = frame .top })
+grown-still {w} {frame} r vars s k = grown-matched w frame r vars (frame .live) s k (r .few) (omega arith)
 
 -- what is open stays so when the words above change
-pub held-kept : {g : Grammar} {w w′ : Words} {frame : Frame} {b : Bindings} → take (frame .top) w′ ≡ take (frame .top) w → Held g w frame b → Held g w′ frame b
+pub held-kept : {g : Grammar} {w w′ : Words} {frame : Open} {b : Bindings} → take (frame .top) w′ ≡ take (frame .top) w → Held g w frame b → Held g w′ frame b
 held-kept e h = record { stands = rw e (h .stands); counted = h .counted }
+
+-- .. and whatever lies past the variables that are bound
+pub held-still : {g : Grammar} {w : Words} {b : Bindings} {live top : ℕ} (u v : Vars) → v .n ≡ u .n → Kept u v → Held g w (record { vars = u; live = live; top = top }) b → Held g w (record { vars = v; live = live; top = top }) b
+held-still {g} {w} {b} u v e k h = let same : startsOf v ≡ startsOf u = ap (λ n. take n (v .starts)) e ∙ k .places in record { stands = rw same (h .stands); counted = h .counted }

@@ -29,15 +29,11 @@ use Rattle.meaning.specs.Meaning.{Bindings, variable, match, matchFirst}
 use Rattle.marks.specs.Marked.{marked, Stands}
 use Rattle.marks.proofs.Marks.{marked-length}
 use Rattle.rewrite.specs.Arena.{NodesAt}
-use Rattle.rewrite.specs.Vars.{startAt}
-use Rattle.rewrite.specs.Matching.{Stage, Means, Answers}
-use Rattle.rewrite.specs.declared.Vars.{Vars}
+use Rattle.rewrite.specs.Vars.{Vars, startAt}
+use Rattle.rewrite.specs.Matching.{Match, Stage, Means, Answers}
 use Rattle.rewrite.specs.declared.Verdict.{Verdict}
 use Rattle.rewrite.specs.declared.Verdict.the-variants.{Matches, Differs, Stops}
-use Rattle.rewrite.specs.declared.Matched.{Matched}
-use Rattle.rewrite.specs.declared.arena.Frame.{Frame}
-use Rattle.calls.specs.Engine.{Room, Held, Given, Setting, Sure, TakenAs, Takes, partOn, partRead, deconstructIn, Deconstructs, Constructs, Conditions, Steps}
-use Rattle.calls.specs.declared.Taken.{Taken}
+use Rattle.calls.specs.Engine.{Open, Taking, Room, Held, Given, Setting, Sure, TakenAs, Takes, partOn, partRead, deconstructIn, Deconstructs, Constructs, Conditions, Steps}
 use Rattle.calls.proofs.Frames.{tree-length, some-nodes, grown-same, grown-matched}
 use Rattle.rewrite.proofs.Leaves.{variable-stands}
 use Rattle.calls.proofs.Going.{sure-as, variable-sure}
@@ -72,7 +68,7 @@ unfolding M.part
 apart deep book true s x p g rules b left sure = variable-sure (b .env) (getD book x 0) left (λ t. matchFirst true g s (shapes (pairsAt book p)) t b) sure
 apart deep book false s x p g rules b left sure = variable-sure (b .env) (getD book x 0) left (λ t. match true g (shapes (pairsAt book p)) t b) sure
 
-module _ (book w : Words) (d : Deconstruct) (next : ℕ) (frame : Frame) (left : State) (room : Room w frame) (start n : ℕ) (es : start ≡ startAt (frame .vars) (getD book (d .variable) 0))
+module _ (book w : Words) (d : Deconstruct) (next : ℕ) (frame : Open) (left : State) (room : Room w frame) (start n : ℕ) (es : start ≡ startAt (frame .vars) (getD book (d .variable) 0))
     (nodes : NodesAt w start (frame .top) n) where
   -- the variable's tree, where it stands
   there : (g : Grammar) (b : Bindings) → length g ≤ mostTypes → Held g w frame b → (t : Words) → getElem? (b .env) (getD book (d .variable) 0) ≡ some t → Stands g (take (frame .top) w) start t
@@ -111,12 +107,12 @@ module _ (book w : Words) (d : Deconstruct) (next : ℕ) (frame : Frame) (left :
           counted = held .counted;
         }
 
-    pub deconstruct-matched : (ps : Words) → ps ≡ pairsAt book (d .pattern) → (b : Bool) → d .searches ≡ b → (m : Matched) → Answers arena part start (frame .vars) (frame .live) (against b (d .searched) ps) m
+    pub deconstruct-matched : (ps : Words) → ps ≡ pairsAt book (d .pattern) → (b : Bool) → d .searches ≡ b → (m : Match) → Answers arena part start (frame .vars) (frame .live) (against b (d .searched) ps) m
         → Deconstructs book w d next frame left (record { verdict = m .verdict; frame = record { vars = m .vars; live = m .live; top = frame .top }; left = left; next = next })
     deconstruct-matched ps eps b eb m given = let answers = rw (eps, ← eb) at given in record {
       next-is = refl;
       takes = λ deep. record {
-        grown = grown-matched w frame room (m .vars) (m .live) (answers .sound) (answers .fits) (answers .grows);
+        grown = grown-matched w frame room (m .vars) (m .live) (answers .sound) (answers .kept) (answers .fits) (answers .grows);
         less = omega arith;
         long = refl;
         meant = λ g rules b few held sure.
@@ -169,7 +165,7 @@ condition-is book (conditionAt negated p) c h e = let z : record { negated = neg
 -- THE STEP
 
 -- the same answer is that of an equal computation
-takes-as : (w w′ : Words) (frame : Frame) (left : State) (r : Taken) (A B : Grammar → Rules.Rules → Type 0) (f h : Grammar → Rules.Rules → Bindings → Comp (Option Bindings))
+takes-as : (w w′ : Words) (frame : Open) (left : State) (r : Taking) (A B : Grammar → Rules.Rules → Type 0) (f h : Grammar → Rules.Rules → Bindings → Comp (Option Bindings))
     → ((g : Grammar) (rules : Rules.Rules) → B g rules → A g rules × ((b : Bindings) → h g rules b left ≡ f g rules b left)) → Takes w w′ frame left r A f → Takes w w′ frame left r B h
 takes-as w w′ frame left r A B f h same t = record {
   grown = t .grown;
@@ -181,9 +177,9 @@ takes-as w w′ frame left r A B f h same t = record {
       (x .0, rw (s .1 b) (x .1));
 }
 
-module _ (given : Given) (w : Words) (at : ℕ) (frame : Frame) (deep : ℕ) (left : State) where
+module _ (given : Given) (w : Words) (at : ℕ) (frame : Open) (deep : ℕ) (left : State) where
   -- f is what is read there, if a part is
-  module _ (w′ : Words) (r : Taken) (f : FoundPart) (is : (types : ℕ) (q : PartAt) (next : ℕ) → partAt types (given .book) at ≡ value q next → f ≡ record { part = partAs q; next = next }) where
+  module _ (w′ : Words) (r : Taking) (f : FoundPart) (is : (types : ℕ) (q : PartAt) (next : ℕ) → partAt types (given .book) at ≡ value q next → f ≡ record { part = partAs q; next = next }) where
     -- the step of a part p, if that is what stands there
     step-by : (A : Grammar → Rules.Rules → Type 0) (p : Rules.Part) → r .next ≡ f .next → ((g : Grammar) (rules : Rules.Rules) → Setting given g rules → A g rules)
         → ((q : PartAt) → pairsAt (given .book) (pairsOf q) ≡ stretch (given .book) (pairsOf q) → partAs q ≡ f .part → partOf (given .book) q ≡ p) → Takes w w′ frame left r A (partOn deep p)

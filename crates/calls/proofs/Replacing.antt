@@ -20,8 +20,7 @@ use Rattle.meaning.specs.Meaning as M
 use Rattle.meaning.specs.Meaning.{Bindings, calls, nodesWithin, nestingWithin}
 use Rattle.rewrite.specs.Arena.{Standing, Replaced, PlacedAs}
 use Rattle.rules.specs.Views.{pairsAt}
-use Rattle.calls.specs.Engine.{Held, Given, Setting, Sure, Says, Finishes, Replaces}
-use Rattle.rewrite.specs.declared.arena.Frame.{Frame}
+use Rattle.calls.specs.Engine.{Open, Held, Given, Setting, Sure, Says, Finishes, Replaces}
 use Rattle.rewrite.specs.declared.arena.Placed.{Placed}
 use Rattle.calls.specs.declared.Built.{Built}
 use Rattle.calls.proofs.Frames.{take-less, standing-kept}
@@ -99,7 +98,7 @@ module _ (g : Grammar) (w w′ : Words) (base t : ℕ) (scope : Words) (nodes : 
 
 -- THE CODE'S WAYS
 
-module _ (given : Given) (w w₁ : Words) (at base n i : ℕ) (frame : Frame) (deep : ℕ) (left : State) (b r : Built) (low : base + 2 * n ≤ frame .top)
+module _ (given : Given) (w w₁ : Words) (at base n i : ℕ) (frame : Open) (deep : ℕ) (left : State) (b r : Built) (low : base + 2 * n ≤ frame .top)
     (f : Finishes given w w₁ at frame deep left b) where
   module _ (g : Grammar) (rules : Rules.Rules) (v : Bindings) (target : ℕ) (scope : Words) (set : Setting given g rules) (held : Held g w frame v) where
     abbrev d : M.Calls

@@ -19,17 +19,14 @@ use Rattle.meaning.specs.declared.State.{State}
 use Rattle.meaning.specs.Computation.{Result, ok, stop, thenOf, stopUnless, whether, return}
 use Rattle.meaning.specs.Meaning as M
 use Rattle.meaning.specs.Meaning.{Env, total, live, liveWithin, Ending, done, stopped, cannotGoOn, called, opened, afterRound, start, begin, fits, calls}
-use Rattle.rewrite.specs.Vars.{EnvAt, startsOf}
+use Rattle.rewrite.specs.Vars.{Vars, EnvAt, startsOf}
 use Rattle.rewrite.specs.Matching.{bindings}
-use Rattle.rewrite.specs.declared.Vars.{Vars}
 use Rattle.rewrite.specs.Arena.{Standing}
 use Rattle.rules.specs.Views.{pairsAt, Planned, strategyAs, againOf}
-use Rattle.calls.specs.Engine.{Room, Held, Given, Setting, Sure, Says, SoughtAs, EndedAs, FoundFits, Tree, Seeks, Replaces, Left, Calls}
-use Rattle.rewrite.specs.declared.arena.Frame.{Frame}
+use Rattle.calls.specs.Engine.{Open, Seeking, Room, Held, Given, Setting, Sure, Says, SoughtAs, EndedAs, FoundFits, Tree, Seeks, Replaces, Left, Calls}
 use Rattle.rules.specs.declared.Plan.{Plan}
 use Rattle.calls.specs.declared.Found as Code
 use Rattle.calls.specs.declared.Found.the-variants.{At, Nowhere, Stopped}
-use Rattle.calls.specs.declared.Sought.{Sought}
 use Rattle.calls.specs.declared.Built.{Built}
 use Rattle.calls.specs.declared.Called.{Called}
 use Rattle.calls.proofs.Frames.{take-less, env-up, env-kept, standing-kept, standing-below}
@@ -233,7 +230,7 @@ module _ (given : Given) (w₀ : Words) (at base n : ℕ) (vars : Vars) (besides
   Answers w r = Calls given w₀ w at base n vars besides deep left r
 
   -- after a search, by where it ended
-  pub record Searched (nodes count : ℕ) (w : Words) (s : Sought) : Type 0 where
+  pub record Searched (nodes count : ℕ) (w : Words) (s : Seeking) : Type 0 where
     pub room : 16384 ≤ length w₀ → Room w (s .frame)
     pub place : (j : ℕ) → s .found ≡ At j → (j < nodes) × (base + 2 * nodes ≤ s .frame .top)
     pub nowhere : (r : Called) → s .found ≡ Nowhere → r ≡ record { stop = 0; nodes = nodes; left = s .left; replacements = count } → Answers w r
@@ -312,10 +309,10 @@ module _ (given : Given) (w₀ : Words) (at base n : ℕ) (vars : Vars) (besides
         let y = call-begins g rules (calls true g rules deep) rule args scope others left (c .goes) in
         (refl, left-is w₀ g 44 n 0 left 0 scope (stopped 44) _ (y .2 .1 (omega (arith, opens-live c))) refl refl (c .tree))))
 
-    abbrev frame : Frame
+    abbrev frame : Open
     frame = record { vars = vars; live = besides + nodes; top = base + 2 * nodes }
 
-    module _ (fit : besides + nodes ≤ mostLive) (plan : Plan) (planned : (rule : Rule) (next : ℕ) → Layout.rule (given .types) (given .book) at ≡ value rule next → Planned (given .types) (given .book) rule plan) (w₁ : Words) (s : Sought)
+    module _ (fit : besides + nodes ≤ mostLive) (plan : Plan) (planned : (rule : Rule) (next : ℕ) → Layout.rule (given .types) (given .book) at ≡ value rule next → Planned (given .types) (given .book) rule plan) (w₁ : Words) (s : Seeking)
         (x : Seeks given w w₁ plan base nodes frame deep fuel s) where
       fits-as : (v : Code.Found) → s .found ≡ v → FoundFits nodes fuel v (s .left)
       fits-as v f = subst (λ z. FoundFits nodes fuel z (s .left)) f (x .fits)

@@ -35,24 +35,17 @@ use Rattle.marks.specs.Marked.{marked, typeIn}
 use Rattle.marks.specs.Post.{span}
 use Rattle.marks.proofs.Marks.{marked-length}
 use Rattle.marks.proofs.Spans.{drop-take}
-use Rattle.rewrite.specs.Vars.{Sound}
-use Rattle.rewrite.specs.Matching.{Stage, Means, Answers, bindings}
+use Rattle.rewrite.specs.Vars.{Vars, Sound, Kept}
+use Rattle.rewrite.specs.Matching.{Match, Stage, Means, Answers, bindings}
 use Rattle.rewrite.specs.Candidates.{Clashes, ClashesAt, unspent, Passed, NextCandidate}
 use Rattle.rewrite.specs.declared.candidates.Candidate.{Candidate}
-use Rattle.rewrite.proofs.Matcher.{Node, node-of, two-marked}
+use Rattle.rewrite.proofs.Matcher.{kept-same, kept-more, Node, node-of, two-marked}
 use Rattle.rewrite.specs.declared.Verdict.the-variants.{Matches, Differs, Stops}
-use Rattle.rewrite.specs.declared.Matched.{Matched}
-use Rattle.rewrite.specs.declared.arena.Frame.{Frame}
-use Rattle.calls.specs.Engine.{Room, Grown, Held, Given, Setting, Sure, TakenAs, partOn, partRead, SoughtAs, FoundFits, Tree, Steps, Seeks}
-use Rattle.calls.specs.declared.Taken.{Taken}
+use Rattle.calls.specs.Engine.{Open, Taking, Seeking, Room, Grown, Held, Given, Setting, Sure, TakenAs, partOn, partRead, SoughtAs, FoundFits, Tree, Steps, Seeks}
 use Rattle.calls.specs.declared.Found as Code
 use Rattle.calls.specs.declared.Found.the-variants.{At, Nowhere, Stopped}
-use Rattle.calls.proofs.Frames.{take-less, some-nodes, standing-end, grown-same, grown-matched, grown-more}
+use Rattle.calls.proofs.Frames.{take-less, some-nodes, standing-end, grown-matched, grown-more, held-still}
 use Rattle.calls.proofs.Going.{then-ok, then-stop, sure-first, sure-as}
-
--- the matcher's answer with the variables of an equal frame
-pub answers-as : {arena part : Words} {at : ℕ} {f : Grammar → Words → Bindings → Comp (Option Bindings)} {m : Matched} (a b : Frame) → a ≡ b → Answers arena part at (a .vars) (a .live) f m → Answers arena part at (b .vars) (b .live) f m
-answers-as a b e x = rw e at x
 
 -- HOW MANY NODES ARE TRIED
 
@@ -187,9 +180,9 @@ some-first : {A B : Type 0} (a : A) (l : State) (f : A → Comp (Option B)) → 
 unfolding thenOf whether
 some-first a l f = refl
 
-module _ (given : Given) (deep : ℕ) (w₀ : Words) (fuel₀ : State) (frame₀ : Frame) (at₀ count₀ : ℕ) where
+module _ (given : Given) (deep : ℕ) (w₀ : Words) (fuel₀ : State) (frame₀ : Open) (at₀ count₀ : ℕ) where
   -- parts have matched up to here: what is open now, and the parts that are left
-  record Gone (g : Grammar) (rules : Rules.Rules) (env₀ : Env) (besides : ℕ) (ps₀ : List Rules.Part) (end : ℕ) (w : Words) (fuel : State) (frame : Frame) (at count : ℕ) : Type 0 where
+  record Gone (g : Grammar) (rules : Rules.Rules) (env₀ : Env) (besides : ℕ) (ps₀ : List Rules.Part) (end : ℕ) (w : Words) (fuel : State) (frame : Open) (at count : ℕ) : Type 0 where
     kept : take (frame₀ .top) w ≡ take (frame₀ .top) w₀
     env : Env
     held : Held g w frame (bindings env besides)
@@ -197,7 +190,7 @@ module _ (given : Given) (deep : ℕ) (w₀ : Words) (fuel₀ : State) (frame₀
     read : many count (Layout.part (given .types) (given .book)) at ≡ value ps end
     is : M.parts true g rules (calls true g rules deep) ps₀ (bindings env₀ besides) fuel₀ ≡ M.parts true g rules (calls true g rules deep) ps (bindings env besides) fuel
 
-  pub record Parting (w : Words) (fuel : State) (frame : Frame) (at count : ℕ) : Type 0 where
+  pub record Parting (w : Words) (fuel : State) (frame : Open) (at count : ℕ) : Type 0 where
     pub grown : Grown frame₀ frame
     pub less : fuel .attempts ≤ fuel₀ .attempts
     pub fewer : count ≤ count₀
@@ -207,14 +200,14 @@ module _ (given : Given) (deep : ℕ) (w₀ : Words) (fuel₀ : State) (frame₀
 
   pub parting-start : Sound (frame₀ .vars) → frame₀ .live ≤ mostLive → frame₀ .top ≤ 2 * frame₀ .live → Parting w₀ fuel₀ frame₀ at₀ count₀
   parting-start s f l = record {
-    grown = record { sound = s; few = f; low = l; more = omega arith; higher = omega arith };
+    grown = record { sound = s; kept = kept-same (frame₀ .vars); few = f; low = l; more = omega arith; higher = omega arith };
     less = omega arith;
     fewer = omega arith;
     long = refl;
     gone = λ g rules env₀ besides ps₀ end setting held read sure. record { kept = refl; env = env₀; held = held; ps = ps₀; read = read; is = refl };
   }
 
-  pub parting-on : (w : Words) (fuel : State) (frame : Frame) (at count : ℕ) → Parting w fuel frame at count → 0 < count → (w′ : Words) (r : Taken) → Steps given w w′ at frame deep fuel r → r .verdict ≡ Matches
+  pub parting-on : (w : Words) (fuel : State) (frame : Open) (at count : ℕ) → Parting w fuel frame at count → 0 < count → (w′ : Words) (r : Taking) → Steps given w w′ at frame deep fuel r → r .verdict ≡ Matches
       → Parting w′ (r .left) (r .frame) (r .next) (count - 1)
   parting-on w fuel frame at count pr pos w′ r steps v = record {
     grown = grown-more (pr .grown) (steps .takes .grown);
@@ -263,7 +256,7 @@ rest-as t v below more e q r = rw (e, q) at r
 below-word : (w w₀ : Words) (top p : ℕ) → p < top → take top w ≡ take top w₀ → getD w p 0 ≡ getD (take top w₀) p 0
 below-word w w₀ top p h e = sym (getD-take top w p 0 h) ∙ ap (λ x. getD x p 0) e
 
-module _ (given : Given) (w₀ : Words) (plan : Plan) (base n : ℕ) (frame : Frame) (deep : ℕ) (left : State) where
+module _ (given : Given) (w₀ : Words) (plan : Plan) (base n : ℕ) (frame : Open) (deep : ℕ) (left : State) where
   -- what the meaning is given
   pub record Case : Type 0 where
     pub g : Grammar
@@ -376,7 +369,7 @@ module _ (given : Given) (w₀ : Words) (plan : Plan) (base n : ℕ) (frame : Fr
 
     module _ (w : Words) (fuel : State) (i : ℕ) (go : Searching w fuel i) where
       -- an answer at a node
-      sought : (f : Code.Found) (fr : Frame) (now : State) (at : ℕ) (w′ : Words) → length w′ ≡ length w₀ → Grown frame fr → FoundFits n left f now
+      sought : (f : Code.Found) (fr : Open) (now : State) (at : ℕ) (w′ : Words) → length w′ ≡ length w₀ → Grown frame fr → FoundFits n left f now
           → ((k : Case) → (take (frame .top) w′ ≡ take (frame .top) w₀) × SoughtAs (k .g) w′ (k .b .besides) (given .book) (k .rule) f fr now at (whole k))
           → Seeks given w₀ w′ plan base n frame deep left (record { found = f; frame = fr; left = now; next = at })
       sought f fr now at w′ l grown fits run = record {
@@ -386,8 +379,8 @@ module _ (given : Given) (w₀ : Words) (plan : Plan) (base n : ℕ) (frame : Fr
         meant = λ g rules rule b scope setting planned held tree sure. run (record { g = g; rules = rules; rule = rule; b = b; scope = scope; setting = setting; planned = planned; held = held; tree = tree; sure = sure });
       }
 
-      pub searching-none : triedOf (plan .strategy) n ≤ i → Seeks given w₀ w plan base n frame deep left (record { found = Nowhere; frame = frame; left = fuel; next = 0 })
-      searching-none past = sought Nowhere frame fuel 0 w (go .long) (grown-same room) (go .less) (λ k. (go .run k .kept, ended k))
+      pub searching-none : triedOf (plan .strategy) n ≤ i → (fr : Open) → Grown frame fr → Seeks given w₀ w plan base n frame deep left (record { found = Nowhere; frame = fr; left = fuel; next = 0 })
+      searching-none past fr grown = sought Nowhere fr fuel 0 w (go .long) grown (go .less) (λ k. (go .run k .kept, ended k))
         where
           empty : (x : Words) → length x ≡ 0 → x ≡ []
           empty [] e = refl
@@ -431,8 +424,8 @@ module _ (given : Given) (w₀ : Words) (plan : Plan) (base n : ℕ) (frame : Fr
               run-here k w fuel i t inside (go .run k)
               ∙ seek-this (k .g) (k .rules) deep (k .rule) (k .b) (node k .t) (node k .v) (node k .below) (2 * i) fuel (sym (type-here k) ∙ this ∙ k .planned .target)
 
-          pub searching-spent : fuel .attempts ≡ 0 → Seeks given w₀ w plan base n frame deep left (record { found = Stopped 40; frame = frame; left = fuel; next = 0 })
-          searching-spent z = sought (Stopped 40) frame fuel 0 w (go .long) (grown-same room) (go .less) (λ k. (go .run k .kept, stops k))
+          pub searching-spent : fuel .attempts ≡ 0 → (fr : Open) → Grown frame fr → Seeks given w₀ w plan base n frame deep left (record { found = Stopped 40; frame = fr; left = fuel; next = 0 })
+          searching-spent z fr grown = sought (Stopped 40) fr fuel 0 w (go .long) grown (go .less) (λ k. (go .run k .kept, stops k))
             where
               stops : (k : Case) → whole k ≡ stop 40 fuel
               stops k =
@@ -440,7 +433,7 @@ module _ (given : Given) (w₀ : Words) (plan : Plan) (base n : ℕ) (frame : Fr
                   ∙ then-stop _ (next k (node k .below) (2 * i)) 40 fuel
                   (attempt-spent (k .g) (k .rules) deep (k .rule) (node k .t ∷ node k .v ∷ node k .below) (k .b) fuel z)
 
-          module _ (costs : fuel .attempts ≡ 0 → ⊥) (m : Matched) (arena part pairs : Words) (ea : arena ≡ take (frame .top) w) (ep : part ≡ take (2 * (n - i)) (drop (base + 2 * i) arena)) (es : pairs ≡ pairsAt (given .book) (plan .pattern))
+          module _ (costs : fuel .attempts ≡ 0 → ⊥) (m : Match) (arena part pairs : Words) (ea : arena ≡ take (frame .top) w) (ep : part ≡ take (2 * (n - i)) (drop (base + 2 * i) arena)) (es : pairs ≡ pairsAt (given .book) (plan .pattern))
               (answers : Answers arena part (base + 2 * i) (frame .vars) (frame .live) (λ g ws b. match true g (shapes pairs) ws b) m) where
             spends : fuel .attempts ≡ suc (fuel .attempts - 1)
             spends = pred (fuel .attempts) costs
@@ -490,8 +483,8 @@ module _ (given : Given) (w₀ : Words) (plan : Plan) (base n : ℕ) (frame : Fr
                   ∙ none-twice (spent fuel) _ (next k (node k .below) (2 * i)) ∙ after-none (k .g) (k .rules) deep (k .rule) (k .b) (node k .below) (2 * i) (spent fuel));
             }
 
-            pub searching-stops : {no : ℕ} → m .verdict ≡ Stops no → Seeks given w₀ w plan base n frame deep left (record { found = Stopped no; frame = frame; left = spent fuel; next = 0 })
-            searching-stops {no} v = sought (Stopped no) frame (spent fuel) 0 w (go .long) (grown-same room) (omega (arith, go .less)) (λ k. (go .run k .kept, stops k))
+            pub searching-stops : {no : ℕ} → m .verdict ≡ Stops no → (fr : Open) → Grown frame fr → Seeks given w₀ w plan base n frame deep left (record { found = Stopped no; frame = fr; left = spent fuel; next = 0 })
+            searching-stops {no} v fr grown = sought (Stopped no) fr (spent fuel) 0 w (go .long) grown (omega (arith, go .less)) (λ k. (go .run k .kept, stops k))
               where
                 stops : (k : Case) → whole k ≡ stop no (spent fuel)
                 stops k =
@@ -500,7 +493,7 @@ module _ (given : Given) (w₀ : Words) (plan : Plan) (base n : ℕ) (frame : Fr
                     ∙ stop-twice no (spent fuel) _ _
 
             -- the parts that are left, at a node that the pattern matches
-            record AtPart (k : Case) (w′ : Words) (now : State) (fr : Frame) (at count : ℕ) : Type 0 where
+            record AtPart (k : Case) (w′ : Words) (now : State) (fr : Open) (at count : ℕ) : Type 0 where
               kept : take (frame .top) w′ ≡ take (frame .top) w₀
               env : Env
               held : Held (k .g) w′ fr (bindings env (k .b .besides))
@@ -508,14 +501,14 @@ module _ (given : Given) (w₀ : Words) (plan : Plan) (base n : ℕ) (frame : Fr
               read : many count (Layout.part (given .types) (given .book)) at ≡ value ps (k .planned .end)
               is : whole k ≡ thenOf (M.parts true (k .g) (k .rules) (calls true (k .g) (k .rules) deep) ps (bindings env (k .b .besides)) now) (next k (node k .below) (2 * i))
 
-            pub record Trying (w′ : Words) (now : State) (fr : Frame) (at count : ℕ) : Type 0 where
+            pub record Trying (w′ : Words) (now : State) (fr : Open) (at count : ℕ) : Type 0 where
               pub grown : Grown frame fr
               pub less : now .attempts < left .attempts
               pub long : length w′ ≡ length w₀
               try : (k : Case) → AtPart k w′ now fr at count
 
             pub trying-grown : Grown frame (record { vars = m .vars; live = m .live; top = frame .top })
-            trying-grown = grown-matched w₀ frame room (m .vars) (m .live) (answers .sound) (answers .fits) (answers .grows)
+            trying-grown = grown-matched w₀ frame room (m .vars) (m .live) (answers .sound) (answers .kept) (answers .fits) (answers .grows)
 
             pub trying-start : m .verdict ≡ Matches → plan .count ≤ 8 → Trying w (spent fuel) (record { vars = m .vars; live = m .live; top = frame .top }) (plan .first) (plan .count)
             trying-start v eight = record {
@@ -535,7 +528,7 @@ module _ (given : Given) (w₀ : Words) (plan : Plan) (base n : ℕ) (frame : Fr
                   };
             }
 
-            pub trying-run : (v : m .verdict ≡ Matches) (eight : plan .count ≤ 8) (w₁ : Words) (now : State) (fr : Frame) (at count : ℕ)
+            pub trying-run : (v : m .verdict ≡ Matches) (eight : plan .count ≤ 8) (w₁ : Words) (now : State) (fr : Open) (at count : ℕ)
                 → Parting given deep w (spent fuel) (record { vars = m .vars; live = m .live; top = frame .top }) (plan .first) (plan .count) w₁ now fr at count → Trying w₁ now fr at count
             trying-run v eight w₁ now fr at count pr =
                 let st = trying-start v eight in
@@ -549,7 +542,7 @@ module _ (given : Given) (w₀ : Words) (plan : Plan) (base n : ℕ) (frame : Fr
                       record { kept = x .kept ∙ a .kept; env = x .env; held = x .held; ps = x .ps; read = x .read; is = a .is ∙ ap (λ y. thenOf y (next k (node k .below) (2 * i))) (x .is) };
                 }
 
-            module _ (w₁ : Words) (now : State) (fr : Frame) (at count : ℕ) (tr : Trying w₁ now fr at count) where
+            module _ (w₁ : Words) (now : State) (fr : Open) (at count : ℕ) (tr : Trying w₁ now fr at count) where
               pub trying-done : count ≡ 0 → Seeks given w₀ w₁ plan base n frame deep left (record { found = At i; frame = fr; left = now; next = at })
               trying-done z = sought (At i) fr now at w₁ (tr .long) (tr .grown) (inside, tr .less) (λ k. (tr .try k .kept, done k))
                 where
@@ -567,7 +560,7 @@ module _ (given : Given) (w₀ : Words) (plan : Plan) (base n : ℕ) (frame : Fr
                         λ ps replaces. k .planned .replacement ps replaces ∙ ap (λ x. pieces (pairsAt (given .book) x)) ends-here,
                       )
 
-              module _ (more : 0 < count) (w₂ : Words) (r : Taken) (steps : Steps given w₁ w₂ at fr deep now r) where
+              module _ (more : 0 < count) (w₂ : Words) (r : Taking) (steps : Steps given w₁ w₂ at fr deep now r) where
                 part-there : (k : Case) → There (given .types) (given .book) at count (k .planned .end) (tr .try k .ps)
                 part-there k = there (given .types) (given .book) at count (k .planned .end) (tr .try k .ps) more (tr .try k .read)
 
@@ -600,8 +593,8 @@ module _ (given : Given) (w₀ : Words) (plan : Plan) (base n : ℕ) (frame : Fr
                       ∙ none-twice (r .left) _ (next k (node k .below) (2 * i)) ∙ after-none (k .g) (k .rules) deep (k .rule) (k .b) (node k .below) (2 * i) (r .left));
                 }
 
-                pub trying-stops : {no : ℕ} → r .verdict ≡ Stops no → Seeks given w₀ w₂ plan base n frame deep left (record { found = Stopped no; frame = frame; left = r .left; next = 0 })
-                trying-stops {no} v = sought (Stopped no) frame (r .left) 0 w₂ same-long (grown-same room) (omega (arith, tr .less, steps .takes .less)) (λ k. (still k, stops k))
+                pub trying-stops : {no : ℕ} → r .verdict ≡ Stops no → (fr : Open) → Grown frame fr → Seeks given w₀ w₂ plan base n frame deep left (record { found = Stopped no; frame = fr; left = r .left; next = 0 })
+                trying-stops {no} v fr grown = sought (Stopped no) fr (r .left) 0 w₂ same-long grown (omega (arith, tr .less, steps .takes .less)) (λ k. (still k, stops k))
                   where
                     stops : (k : Case) → whole k ≡ stop no (r .left)
                     stops k =
@@ -642,3 +635,15 @@ module _ (given : Given) (w₀ : Words) (plan : Plan) (base n : ℕ) (frame : Fr
         where
           passed-as : {a b : ℕ} (k : ℕ) (now : State) → a ≡ b → Passed (ClashesAt pairs w a (frame .live)) w (plan .target) base i fuel k now → Passed (ClashesAt pairs w b (frame .live)) w (plan .target) base i fuel k now
           passed-as k now q y = rw q at y
+
+-- THE VARIABLES
+
+-- a search does not depend on what lies past the variables that are bound
+pub seeks-still : {given : Given} {w w′ : Words} {plan : Plan} {base n live top deep : ℕ} {left : State} {r : Seeking} (u v : Vars) → v .n ≡ u .n → Kept u v
+    → Seeks given w w′ plan base n (record { vars = v; live = live; top = top }) deep left r → Seeks given w w′ plan base n (record { vars = u; live = live; top = top }) deep left r
+seeks-still u v e k x = record {
+  grown = record { sound = x .grown .sound; kept = kept-more k (x .grown .kept); few = x .grown .few; low = x .grown .low; more = x .grown .more; higher = x .grown .higher };
+  fits = x .fits;
+  long = x .long;
+  meant = λ g rules rule b scope setting planned held tree sure. x .meant g rules rule b scope setting planned (held-still u v e k held) tree sure;
+}

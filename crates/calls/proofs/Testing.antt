@@ -23,18 +23,15 @@ use Rattle.operations.specs.Operating.{argumentsOf, Compared}
 use Rattle.marks.specs.Marked.{Stands}
 use Rattle.rewrite.specs.Vars.{startAt, Sound}
 use Rattle.rewrite.specs.Matching.{bindings}
+use Rattle.rewrite.proofs.Matcher.{kept-same}
 use Rattle.rewrite.specs.declared.Verdict.{Verdict}
 use Rattle.rewrite.specs.declared.Verdict.the-variants.{Matches, Differs, Stops}
-use Rattle.rewrite.specs.Arena.{NodesAt, Gathered, Standing}
+use Rattle.rewrite.specs.Arena.{Arguments, NodesAt, Gathered, Standing}
 use Rattle.rules.specs.Views.{pairsAt, Planned, chainCount}
-use Rattle.calls.specs.Engine.{turnedBy, Room, Grown, Sure, TakenAs, TestedAs, SoughtAs, FoundFits, Tree, Held, Given, Setting, partOn, Conditions, Seeks, CallMatches, succeedsAt, chainAt, Succeeds, AnySucceeds}
-use Rattle.rewrite.specs.declared.arena.Args.{Args}
-use Rattle.rewrite.specs.declared.arena.Frame.{Frame}
+use Rattle.calls.specs.Engine.{Open, Taking, Seeking, turnedBy, Room, Grown, Sure, TakenAs, TestedAs, SoughtAs, FoundFits, Tree, Held, Given, Setting, partOn, Conditions, Seeks, CallMatches, succeedsAt, chainAt, Succeeds, AnySucceeds}
 use Rattle.rules.specs.declared.Plan.{Plan}
 use Rattle.calls.specs.declared.Found as Code
 use Rattle.calls.specs.declared.Found.the-variants.{At, Nowhere, Stopped}
-use Rattle.calls.specs.declared.Sought.{Sought}
-use Rattle.calls.specs.declared.Taken.{Taken}
 use Rattle.calls.specs.declared.Tested.{Tested}
 use Rattle.calls.proofs.Frames.{standing-stands, standing-whole, stands-standing, held-kept}
 use Rattle.rewrite.proofs.Leaves.{variable-stands}
@@ -59,7 +56,7 @@ found-less n left (Stopped k) now h = h
 abbrev isMatch : Option M.Found → Comp Bool
 isMatch m = whether m (λ f. return true) (return false)
 
-found-tested : (g : Grammar) (w′ : Words) (besides : ℕ) (book : Words) (r : Rule) (f : Code.Found) (frame : Frame) (left : State) (next : ℕ) (m : Result (Option M.Found))
+found-tested : (g : Grammar) (w′ : Words) (besides : ℕ) (book : Words) (r : Rule) (f : Code.Found) (frame : Open) (left : State) (next : ℕ) (m : Result (Option M.Found))
     → SoughtAs g w′ besides book r f frame left next m → TestedAs (foundVerdict f) left (thenOf m isMatch)
 unfolding thenOf whether
 found-tested g w′ besides book r (At i) frame left next m s = rw (s .2)
@@ -80,7 +77,7 @@ matches-steps g rules deeper r args scope besides l s =
     let b = begin-sure g r args scope besides l (sure-first (begin true g r args scope besides l) k s) in
     ap (λ m. thenOf m k) (b .1)
 
-module _ (given : Given) (w : Words) (at base n : ℕ) (frame : Frame) (deep : ℕ) (left : State) where
+module _ (given : Given) (w : Words) (at base n : ℕ) (frame : Open) (deep : ℕ) (left : State) where
   -- too many nodes would be live
   pub matches-over : mostLive < frame .live + n → CallMatches given w w at base n frame deep left (record { verdict = Stops 44; left = left })
   matches-over h = (
@@ -96,7 +93,7 @@ module _ (given : Given) (w : Words) (at base n : ℕ) (frame : Frame) (deep : �
     },
   )
 
-  pub matches-found : frame .live + n ≤ mostLive → (w′ : Words) (plan : Plan) (s : Sought)
+  pub matches-found : frame .live + n ≤ mostLive → (w′ : Words) (plan : Plan) (s : Seeking)
       → ((rule : Rule) (next : ℕ) → Layout.rule (given .types) (given .book) at ≡ value rule next → Planned (given .types) (given .book) rule plan)
       → Seeks given w w′ plan base n (record { vars = frame .vars; live = frame .live + n; top = frame .top }) deep left s
       → (v : Verdict) → foundVerdict (s .found) ≡ v → CallMatches given w w′ at base n frame deep left (record { verdict = v; left = s .left })
@@ -152,7 +149,7 @@ module _ (g : Grammar) (rules : Rules.Rules) (deeper : M.Calls) (scope : Words) 
   unfolding M.succeeds
   succeeds-operation o args l = refl
 
-module _ (given : Given) (w pairs : Words) (at base n : ℕ) (frame : Frame) (deep : ℕ) (left : State) where
+module _ (given : Given) (w pairs : Words) (at base n : ℕ) (frame : Open) (deep : ℕ) (left : State) where
   abbrev Succeeding : Words → Tested → Type 0
   Succeeding w′ r = Succeeds given w w′ pairs at base n frame deep left r
 
@@ -180,7 +177,7 @@ module _ (given : Given) (w pairs : Words) (at base n : ℕ) (frame : Frame) (de
             (refl, q .same ∙ matches-none g rules (q .rule) (q .args) scope (live b) left deep d);
       }
 
-      pub succeeds-called : (deep ≡ 0 → ⊥) → (args : Args) → Gathered w pairs (at + 2) k (frame .vars) args → (place : ℕ) → (a < 64 → place ≡ getD (given .starts) a 0) → (w′ : Words) → length w′ ≡ length w → (r : Tested)
+      pub succeeds-called : (deep ≡ 0 → ⊥) → (args : Arguments) → Gathered w pairs (at + 2) k (frame .vars) args → (place : ℕ) → (a < 64 → place ≡ getD (given .starts) a 0) → (w′ : Words) → length w′ ≡ length w → (r : Tested)
           → CallMatches given w w′ place base n (record { vars = args .vars; live = frame .live + args .total; top = frame .top }) (deep - 1) left r → Succeeding w′ r
       succeeds-called d args ga place es w′ long r cm = record {
         less = cm .0;
@@ -255,7 +252,7 @@ any-end : (g : Grammar) (rules : Rules.Rules) (deeper : M.Calls) (ws : Words) (k
 unfolding M.anySucceeds applications
 any-end g rules deeper ws k env scope besides l e = rw e
 
-module _ (given : Given) (w₀ pairs : Words) (base n : ℕ) (frame : Frame) (deep : ℕ) (left : State) where
+module _ (given : Given) (w₀ pairs : Words) (base n : ℕ) (frame : Open) (deep : ℕ) (left : State) where
   abbrev Whole : Grammar → Rules.Rules → Words → Bindings → Result Bool
   Whole g rules scope b = M.anySucceeds true g rules (calls true g rules deep) (chainAt pairs 2) (b .env) scope (live b) left
 
@@ -327,7 +324,7 @@ module _ (given : Given) (w₀ pairs : Words) (base n : ℕ) (frame : Frame) (de
 abbrev holding : Bool → Bindings → Bool → Comp (Option Bindings)
 holding negated b found = provided (pick negated (not found) found) (return (some b))
 
-turned-taken : (negated : Bool) (v : Verdict) (g : Grammar) (w : Words) (frame : Frame) (b : Bindings) (left : State) (m : Result Bool) → Held g w frame b → TestedAs v left m
+turned-taken : (negated : Bool) (v : Verdict) (g : Grammar) (w : Words) (frame : Open) (b : Bindings) (left : State) (m : Result Bool) → Held g w frame b → TestedAs v left m
     → TakenAs g w (b .besides) (turnedBy negated v) frame left (thenOf m (holding negated b))
 unfolding thenOf choose
 turned-taken true Matches g w frame b left m h t = rw t
@@ -336,7 +333,7 @@ turned-taken true Differs g w frame b left m h t = (b .env, h, rw t)
 turned-taken false Differs g w frame b left m h t = rw t
 turned-taken negated (Stops n) g w frame b left m h t = rw t
 
-taken-as : (g : Grammar) (w : Words) (besides : ℕ) (v : Verdict) (frame : Frame) (left : State) (m m′ : Result (Option Bindings)) → m′ ≡ m → TakenAs g w besides v frame left m → TakenAs g w besides v frame left m′
+taken-as : (g : Grammar) (w : Words) (besides : ℕ) (v : Verdict) (frame : Open) (left : State) (m m′ : Result (Option Bindings)) → m′ ≡ m → TakenAs g w besides v frame left m → TakenAs g w besides v frame left m′
 taken-as g w besides v frame left m m′ e t = rw e t
 
 module _ (g : Grammar) (rules : Rules.Rules) (deeper : M.Calls) where
@@ -352,13 +349,13 @@ module _ (g : Grammar) (rules : Rules.Rules) (deeper : M.Calls) where
   unfolding M.part
   condition-steps negated x apps b l s = variable-sure (b .env) x l _ s
 
-module _ (given : Given) (w : Words) (negated : Bool) (at next : ℕ) (frame : Frame) (deep : ℕ) (left : State) (room : Room w frame) where
+module _ (given : Given) (w : Words) (negated : Bool) (at next : ℕ) (frame : Open) (deep : ℕ) (left : State) (room : Room w frame) where
   abbrev Part : Grammar → Rules.Rules → Bindings → Result (Option Bindings)
   Part g rules b = partOn deep (Rules.condition negated (getD (pairsAt (given .book) at) 1 0) (conditionOf (pairsAt (given .book) at))) g rules b left
 
   -- nothing is bound
   same-frame : Grown frame frame
-  same-frame = record { sound = room .sound; few = room .few; low = room .low; more = le-refl (frame .live); higher = le-refl (frame .top) }
+  same-frame = record { sound = room .sound; kept = kept-same (frame .vars); few = room .few; low = room .low; more = le-refl (frame .live); higher = le-refl (frame .top) }
 
   -- the variable's tree has n nodes and stands at the place
   module _ (ps : Words) (x place n : ℕ) (eps : ps ≡ pairsAt (given .book) at) (ex : x ≡ getD ps 1 0) (ep : place ≡ startAt (frame .vars) x) (na : NodesAt w place (frame .top) n) where
@@ -385,7 +382,7 @@ module _ (given : Given) (w : Words) (negated : Bool) (at next : ℕ) (frame : F
         }
 
     -- too many nodes would be live
-    pub condition-over : mostLive < frame .live + n → (r : Taken) → r ≡ record { verdict = Stops 44; frame = frame; left = left; next = next }
+    pub condition-over : mostLive < frame .live + n → (r : Taking) → r ≡ record { verdict = Stops 44; frame = frame; left = left; next = next }
         → Conditions given w w negated at next frame deep left r
     condition-over h r e = rw e (record {
       next-is = refl;
@@ -400,7 +397,7 @@ module _ (given : Given) (w : Words) (negated : Bool) (at next : ℕ) (frame : F
     })
 
     pub condition-tested : frame .live + n ≤ mostLive → (w′ : Words) (t : Tested) → AnySucceeds given w w′ ps place n frame deep left t → (v : Verdict) → v ≡ turnedBy negated (t .verdict)
-        → (r : Taken) → r ≡ record { verdict = v; frame = frame; left = t .left; next = next } → Conditions given w w′ negated at next frame deep left r
+        → (r : Taking) → r ≡ record { verdict = v; frame = frame; left = t .left; next = next } → Conditions given w w′ negated at next frame deep left r
     condition-tested h w′ t ts v ev r e = rw (e, ev) (record {
       next-is = refl;
       takes = record {

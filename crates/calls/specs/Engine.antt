@@ -25,9 +25,8 @@ use Rattle.meaning.specs.Meaning as M
 use Rattle.meaning.specs.Meaning.{Env, Bindings, live, total, variable, variables, liveWithin, nodesWithin, Ending, done, stopped, cannotGoOn, Found, calls}
 use Rattle.marks.specs.Marked.{UnderWay}
 use Rattle.rewrite.specs.Arena.{Standing}
-use Rattle.rewrite.specs.Vars.{EnvAt, startsOf, Sound}
+use Rattle.rewrite.specs.Vars.{Vars, varsOf, EnvAt, startsOf, bound, Sound, Kept}
 use Rattle.rewrite.specs.Matching.{bindings}
-use Rattle.rewrite.specs.declared.Vars.{Vars}
 use Rattle.rewrite.specs.declared.Verdict.{Verdict}
 use Rattle.rewrite.specs.declared.Verdict.the-variants.{Matches, Differs, Stops}
 use Rattle.rules.specs.Views.{pairsAt, Planned, chainCount}
@@ -54,23 +53,60 @@ turnedBy false Differs = Differs
 
 -- WHAT IS OPEN
 
+-- the variables, how many nodes are live, and where free work memory begins
+pub record Open : Type 0 where
+  pub vars : Vars
+  pub live : ℕ
+  pub top : ℕ
+
+-- .. with the places as an array holds them
+abbrev pub openOf : Words → Frame → Open
+openOf places f = record { vars = varsOf places (f .bound); live = f .live; top = f .top }
+
+-- what a part's step found, what is open then, the state that is left, and where the next part stands
+pub record Taking : Type 0 where
+  pub verdict : Verdict
+  pub frame : Open
+  pub left : State
+  pub next : ℕ
+
+abbrev pub takingIn : Words → Taken → Taking
+takingIn places t = record { verdict = t .verdict; frame = openOf places (t .frame); left = t .left; next = t .next }
+
+-- where a search ended, what is open then, the state that is left, and where the rule's replacement stands
+pub record Seeking : Type 0 where
+  pub found : Code.Found
+  pub frame : Open
+  pub left : State
+  pub next : ℕ
+
+abbrev pub seekingIn : Words → Sought → Seeking
+seekingIn places s = record { found = s .found; frame = openOf places (s .frame); left = s .left; next = s .next }
+
+-- the variables and one more, whose tree stands at `start`, if there is room for it
+pub record Named (before : Vars) (start : ℕ) (after : Vars) : Type 0 where
+  pub sound : Sound after
+  pub kept : Kept before after
+  pub is : before .n < 16 → after ≡ bound before start
+
 -- there is room for what may still be live, and for the scratch above it
-pub record Room (w : Words) (frame : Frame) : Type 0 where
+pub record Room (w : Words) (frame : Open) : Type 0 where
   pub sound : Sound (frame .vars)
   pub few : frame .live ≤ mostLive
   pub low : frame .top ≤ 2 * frame .live
   pub long : 16384 ≤ length w
 
 -- what is open only grows
-pub record Grown (before after : Frame) : Type 0 where
+pub record Grown (before after : Open) : Type 0 where
   pub sound : Sound (after .vars)
+  pub kept : Kept (before .vars) (after .vars)
   pub few : after .live ≤ mostLive
   pub low : after .top ≤ 2 * after .live
   pub more : before .live ≤ after .live
   pub higher : before .top ≤ after .top
 
 -- the variables' trees stand below the free memory, and so many nodes are live
-pub record Held (g : Grammar) (w : Words) (frame : Frame) (b : Bindings) : Type 0 where
+pub record Held (g : Grammar) (w : Words) (frame : Open) (b : Bindings) : Type 0 where
   pub stands : EnvAt g (take (frame .top) w) (startsOf (frame .vars)) (b .env)
   pub counted : frame .live ≡ b .besides + total (b .env)
 
@@ -104,7 +140,7 @@ Says {A} P zero left m = (a : A) × P a × (m ≡ ok a left)
 Says P (suc k) left m = m ≡ stop (suc k) left
 
 -- what a verdict says of a computation that gives a match or none
-abbrev pub TakenAs : Grammar → Words → ℕ → Verdict → Frame → State → Result (Option Bindings) → Type 0
+abbrev pub TakenAs : Grammar → Words → ℕ → Verdict → Open → State → Result (Option Bindings) → Type 0
 TakenAs g w besides Matches frame left m = (env : Env) × Held g w frame (bindings env besides) × (m ≡ ok (some (bindings env besides)) left)
 TakenAs g w besides Differs frame left m = m ≡ ok none left
 TakenAs g w besides (Stops n) frame left m = m ≡ stop n left
@@ -116,7 +152,7 @@ TestedAs Differs left m = m ≡ ok false left
 TestedAs (Stops n) left m = m ≡ stop n left
 
 -- .. and where a search ended of one that searches; a rule's replacement stands at `next`
-abbrev pub SoughtAs : Grammar → Words → ℕ → Words → Rule → Code.Found → Frame → State → ℕ → Result (Option Found) → Type 0
+abbrev pub SoughtAs : Grammar → Words → ℕ → Words → Rule → Code.Found → Open → State → ℕ → Result (Option Found) → Type 0
 SoughtAs g w besides book r (At i) frame left next m =
     (env : Env) × Held g w frame (bindings env besides) × (m ≡ ok (some (record { place = 2 * i; bound = bindings env besides })) left)
     × ((ps : List Piece) → r .replacement ≡ some ps → ps ≡ pieces (pairsAt book next))
@@ -140,7 +176,7 @@ Tree g w base n ws = (t : ℕ) × Standing g w base n t ws
 
 -- PARTS
 
-module _ (w w′ : Words) (frame : Frame) (left : State) (r : Taken) where
+module _ (w w′ : Words) (frame : Open) (left : State) (r : Taking) where
   -- the answer is the computation's
   pub record Takes (With : Grammar → Rules.Rules → Type 0) (f : Grammar → Rules.Rules → Bindings → Comp (Option Bindings)) : Type 0 where
     pub grown : Grown frame (r .frame)
@@ -164,7 +200,7 @@ deconstructIn book true s x p = Rules.search s (getD book x 0) (shapes (pairsAt 
 deconstructIn book false s x p = Rules.deconstruct (getD book x 0) (shapes (pairsAt book p))
 
 -- what a part that takes a variable apart comes to
-pub record Deconstructs (book w : Words) (d : Deconstruct) (next : ℕ) (frame : Frame) (left : State) (r : Taken) : Type 0 where
+pub record Deconstructs (book w : Words) (d : Deconstruct) (next : ℕ) (frame : Open) (left : State) (r : Taking) : Type 0 where
   pub next-is : r .next ≡ next
   pub takes : (deep : ℕ) → Takes w w frame left r (λ g rules. length g ≤ mostTypes) (partOn deep (deconstructIn book (d .searches) (d .searched) (d .variable) (d .pattern)))
 
@@ -172,21 +208,21 @@ module _ (given : Given) (w w′ : Words) where
   abbrev pub With : Grammar → Rules.Rules → Type 0
   With g rules = Setting given g rules
 
-  pub record Constructs (at next : ℕ) (frame : Frame) (deep : ℕ) (left : State) (r : Taken) : Type 0 where
+  pub record Constructs (at next : ℕ) (frame : Open) (deep : ℕ) (left : State) (r : Taking) : Type 0 where
     pub next-is : r .next ≡ next
     pub takes : (u : ℕ) → Takes w w′ frame left r With (partOn deep (Rules.construct u (pieces (pairsAt (given .book) at))))
 
-  pub record Conditions (negated : Bool) (at next : ℕ) (frame : Frame) (deep : ℕ) (left : State) (r : Taken) : Type 0 where
+  pub record Conditions (negated : Bool) (at next : ℕ) (frame : Open) (deep : ℕ) (left : State) (r : Taking) : Type 0 where
     pub next-is : r .next ≡ next
     pub takes : Takes w w′ frame left r With (partOn deep (Rules.condition negated (getD (pairsAt (given .book) at) 1 0) (conditionOf (pairsAt (given .book) at))))
 
-  pub record Steps (at : ℕ) (frame : Frame) (deep : ℕ) (left : State) (r : Taken) : Type 0 where
+  pub record Steps (at : ℕ) (frame : Open) (deep : ℕ) (left : State) (r : Taking) : Type 0 where
     pub next-is : (q : PartAt) (next : ℕ) → partAt (given .types) (given .book) at ≡ value q next → r .next ≡ next
     pub takes : Takes w w′ frame left r With (partRead deep (given .book) (partAt (given .types) (given .book) at))
 
   -- SEARCH
 
-  pub record Seeks (plan : Plan) (base n : ℕ) (frame : Frame) (deep : ℕ) (left : State) (r : Sought) : Type 0 where
+  pub record Seeks (plan : Plan) (base n : ℕ) (frame : Open) (deep : ℕ) (left : State) (r : Seeking) : Type 0 where
     pub grown : Grown frame (r .frame)
     pub fits : FoundFits n left (r .found) (r .left)
     pub long : length w′ ≡ length w
@@ -198,14 +234,14 @@ module _ (given : Given) (w w′ : Words) where
   -- CONDITIONS
 
   -- a test of the tree of n nodes at `start`, with the variables b
-  pub record Tests (start n : ℕ) (frame : Frame) (left : State) (r : Tested) (f : Grammar → Rules.Rules → Words → Bindings → Comp Bool) : Type 0 where
+  pub record Tests (start n : ℕ) (frame : Open) (left : State) (r : Tested) (f : Grammar → Rules.Rules → Words → Bindings → Comp Bool) : Type 0 where
     pub less : r .left .attempts ≤ left .attempts
     pub long : length w′ ≡ length w
     pub meant : (g : Grammar) (rules : Rules.Rules) (scope : Words) (b : Bindings) → With g rules → Held g w frame b → Tree g (take (frame .top) w) start n scope → Sure (f g rules scope b left)
         → (take (frame .top) w′ ≡ take (frame .top) w) × TestedAs (r .verdict) (r .left) (f g rules scope b left)
 
   -- a call in a condition, its arguments the variables
-  abbrev pub CallMatches : ℕ → ℕ → ℕ → Frame → ℕ → State → Tested → Type 0
+  abbrev pub CallMatches : ℕ → ℕ → ℕ → Open → ℕ → State → Tested → Type 0
   CallMatches at start n frame deep left r =
       (r .left .attempts ≤ left .attempts)
       × ((rule : Rule) (next : ℕ) → Layout.rule (given .types) (given .book) at ≡ value rule next → Tests start n frame left r (λ g rules scope b. M.callMatches true g rules (calls true g rules deep) rule (b .env) scope (b .besides)))
@@ -236,10 +272,10 @@ chainPiece deep x apps g rules env besides n = do
   return u
 
 module _ (given : Given) (w w′ : Words) where
-  abbrev pub Succeeds : Words → ℕ → ℕ → ℕ → Frame → ℕ → State → Tested → Type 0
+  abbrev pub Succeeds : Words → ℕ → ℕ → ℕ → Open → ℕ → State → Tested → Type 0
   Succeeds pairs at start n frame deep left r = Tests given w w′ start n frame left r (succeedsAt deep pairs at)
 
-  abbrev pub AnySucceeds : Words → ℕ → ℕ → Frame → ℕ → State → Tested → Type 0
+  abbrev pub AnySucceeds : Words → ℕ → ℕ → Open → ℕ → State → Tested → Type 0
   AnySucceeds pairs start n frame deep left r =
       Tests given w w′ start n frame left r (λ g rules scope b. M.anySucceeds true g rules (calls true g rules deep) (chainAt pairs 2) (b .env) scope (live b))
 
@@ -265,7 +301,7 @@ module _ (given : Given) (w w′ : Words) where
     pub next-is : r .built .stop ≡ 0 → r .next ≡ from + 2 + 2 * pairsIn (chainAt pairs from)
 
   -- what a piece adds to the tree under way of n nodes on top
-  pub record FillsChain (pairs : Words) (i n : ℕ) (frame : Frame) (deep : ℕ) (left : State) (r : Chained) : Type 0 where
+  pub record FillsChain (pairs : Words) (i n : ℕ) (frame : Open) (deep : ℕ) (left : State) (r : Chained) : Type 0 where
     pub few : r .built .stop ≡ 0 → r .built .nodes ≤ mostNodes
     pub fits : r .built .stop ≡ 0 → frame .live + r .built .nodes ≤ mostLive
     pub less : r .built .left .attempts ≤ left .attempts
@@ -278,7 +314,7 @@ module _ (given : Given) (w w′ : Words) where
         × Says (λ u. (r .built .nodes ≡ n + size u) × Tree g w′ (frame .top + 2 * n) (size u) u) (r .built .stop) (r .built .left) (chainPiece deep (getD pairs (i + 1) 0) (chainAt pairs (i + 2)) g rules (b .env) (live b) n left)
 
   -- what was built on top, with P
-  pub record Fresh (frame : Frame) (left : State) (r : Built) (P : Grammar → Words → Type 0) (f : Grammar → Rules.Rules → Bindings → Comp Words) : Type 0 where
+  pub record Fresh (frame : Open) (left : State) (r : Built) (P : Grammar → Words → Type 0) (f : Grammar → Rules.Rules → Bindings → Comp Words) : Type 0 where
     pub few : r .stop ≡ 0 → r .nodes ≤ mostNodes
     pub fits : r .stop ≡ 0 → frame .live + r .nodes ≤ mostLive
     pub less : r .left .attempts ≤ left .attempts
@@ -287,18 +323,18 @@ module _ (given : Given) (w w′ : Words) where
         → (take (frame .top) w′ ≡ take (frame .top) w) × Says (P g) (r .stop) (r .left) (f g rules b left)
 
   -- .. under way: its nodes are not all marked yet
-  abbrev pub Fills : ℕ → Frame → ℕ → State → Built → Type 0
+  abbrev pub Fills : ℕ → Open → ℕ → State → Built → Type 0
   Fills at frame deep left r =
       Fresh frame left r (λ g ws. (length ws ≡ 2 * r .nodes) × UnderWay g (take (2 * r .nodes) (drop (frame .top) w′)) ws)
       (λ g rules b. M.fill true g rules (calls true g rules deep) (pieces (pairsAt (given .book) at)) (b .env) (live b) 0)
 
   -- .. a tree of whatever type is asked
-  abbrev pub Finishes : ℕ → Frame → ℕ → State → Built → Type 0
+  abbrev pub Finishes : ℕ → Open → ℕ → State → Built → Type 0
   Finishes at frame deep left r =
       (u : ℕ) → Fresh frame left r (λ g ws. Standing g w′ (frame .top) (r .nodes) u ws) (λ g rules b. M.finish true g rules (calls true g rules deep) u (pieces (pairsAt (given .book) at)) b)
 
   -- the scope of n nodes at base after a replacement, or as it was
-  pub record Replaces (at base n i : ℕ) (frame : Frame) (deep : ℕ) (left : State) (r : Built) : Type 0 where
+  pub record Replaces (at base n i : ℕ) (frame : Open) (deep : ℕ) (left : State) (r : Built) : Type 0 where
     pub few : r .stop ≡ 0 → r .nodes ≤ mostNodes
     pub fits : r .stop ≡ 0 → frame .live + r .nodes ≤ mostLive + n
     pub less : r .left .attempts ≤ left .attempts

@@ -1,11 +1,10 @@
 // The recursive calls of a run. Trees lie on work memory as on a stack: the scopes of the open calls, what their parts construct, the tree under way.
 //
 // Every member of the cycle may call those below it, and `apply` and `succeeds` the calls one level deeper. All that is below what a member is given stays
-// as it is.
+// as it is, and so do the places of the variables that are bound: each call has one array of them, lent to all that it calls on its own level.
 use meaning::State;
 use rewrite::MOST_LIVE;
 use rewrite::Matched;
-use rewrite::Vars;
 use rewrite::Verdict;
 use rewrite::arena;
 use rewrite::arena::Frame;
@@ -26,8 +25,8 @@ use tables::ROWS;
 ghost use mathlib.Core.Path.{_≡_};
 ghost use Prim.Native.Nat.{_+_, _*_, _<_, _≤_, _^_};
 ghost use lib.ListN.{length};
-ghost use Rattle.rewrite.specs.Vars.{Sound};
-ghost use Rattle.calls.specs.Engine.{turnedBy, Room, givenOf, Deconstructs, Constructs, Conditions, Steps, Seeks, CallMatches, Succeeds, AnySucceeds, Applies, Chains, FillsChain, Fills, Finishes, Replaces, Calls};
+ghost use Rattle.rewrite.specs.Vars.{varsOf, Sound};
+ghost use Rattle.calls.specs.Engine.{turnedBy, openOf, takingIn, seekingIn, Named, Room, givenOf, Deconstructs, Constructs, Conditions, Steps, Seeks, CallMatches, Succeeds, AnySucceeds, Applies, Chains, FillsChain, Fills, Finishes, Replaces, Calls};
 
 // What a part's step found, what is open then, the state that is left, and where the next part stands.
 pub struct Taken {
@@ -135,16 +134,16 @@ fn turned(verdict: Verdict, negated: bool) -> Verdict
 
 // What is open after a match.
 fn after_match(m: Matched, top: usize) -> Frame
-    ensures { λ r. ⌜ r ≡ record { vars = m .vars; live = m .live; top = top } ⌝ }
+    ensures { λ r. ⌜ r ≡ record { bound = m .bound; live = m .live; top = top } ⌝ }
 {
-    let vars = m.vars;
+    let bound = m.bound;
     let live = m.live;
-    Frame { vars, live, top }
+    Frame { bound, live, top }
 }
 
 // What a match found, as a part's step.
 fn match_taken(m: Matched, top: usize, left: State, next: usize) -> Taken
-    ensures { λ r. ⌜ r ≡ record { verdict = m .verdict; frame = record { vars = m .vars; live = m .live; top = top }; left = left; next = next } ⌝ }
+    ensures { λ r. ⌜ r ≡ record { verdict = m .verdict; frame = record { bound = m .bound; live = m .live; top = top }; left = left; next = next } ⌝ }
 {
     let verdict = m.verdict;
     let frame = after_match(m, top);
@@ -157,17 +156,18 @@ fn deconstruct(
     w: &[u32],
     d: Deconstruct,
     next: usize,
+    places: &mut [u32; MOST_VARIABLES],
     frame: Frame,
     left: State,
 ) -> Taken
-    requires { ⌜ Room (now w) frame ⌝ }
-    ensures { λ r. ⌜ Deconstructs (now (book .entry)) (now (w .entry)) d next frame left r ⌝ }
+    requires { ⌜ Room (now w) (openOf (now places) frame) ⌝ }
+    ensures { λ r. ⌜ Deconstructs (now (book .entry)) (now (w .entry)) d next (openOf (now (places .entry)) frame) left (takingIn (now (places .exit)) r) ⌝ }
 {
     let pairs = rules::pairs_of(book, d.pattern);
-    let vars = frame.vars;
+    let bound = frame.bound;
     let live = frame.live;
     let top = frame.top;
-    let start = rewrite::start_of(vars, words::word(book, d.variable));
+    let start = rewrite::start_in(places, bound, words::word(book, d.variable));
     let n = arena::nodes_at(w, start, top);
     if n == 0 {
         return taking(Verdict::Differs, frame, left, next);
@@ -181,44 +181,35 @@ fn deconstruct(
             arena,
             &arena[start..end],
             start,
-            vars,
+            places,
+            bound,
             live,
         );
         return match_taken(m, top, left, next);
     }
-    let m = rewrite::match_pattern(pairs, arena, &arena[start..end], start, vars, live);
+    let m = rewrite::match_pattern(pairs, arena, &arena[start..end], start, places, bound, live);
     match_taken(m, top, left, next)
 }
 
-// Where the place of one more variable is kept: after n others, if there is room.
-fn slot(n: usize) -> usize
-    ensures { λ r. ⌜ (r < 16) × (n < 16 → r ≡ n) ⌝ }
+// Binds one more variable, whose tree stands at `start`, if there is room for it: how many are bound then.
+fn bind(places: &mut [u32; MOST_VARIABLES], n: usize, start: usize) -> usize
+    requires { ⌜ Sound (varsOf (now places) n) × (start < 2 ^ 32) ⌝ }
+    ensures { λ r. ⌜ Named (varsOf (now (places .entry)) n) start (varsOf (now (places .exit)) r) ⌝ }
 {
     if n < MOST_VARIABLES {
-        n
-    } else {
-        MOST_VARIABLES - 1
+        places[n] = start as u32;
+        return n + 1;
     }
+    n
 }
 
-// How many variables there are with one more: 16 at most.
-fn counted(n: usize) -> usize
-    ensures { λ r. ⌜ (r ≤ 16) × (n < 16 → r ≡ n + 1) ⌝ }
-{
-    if n < MOST_VARIABLES {
-        n + 1
-    } else {
-        MOST_VARIABLES
-    }
-}
-
-// What is open when the tree of n nodes on top is a variable.
-fn constructed(frame: Frame, vars: Vars, n: usize) -> Frame
+// What is open when the tree of n nodes on top is a variable, with so many bound.
+fn constructed(frame: Frame, bound: usize, n: usize) -> Frame
     requires { ⌜ (frame .live + n ≤ 6144) × (frame .top ≤ 2 * frame .live) ⌝ }
-    ensures { λ r. ⌜ r ≡ record { vars = vars; live = frame .live + n; top = frame .top + 2 * n } ⌝ }
+    ensures { λ r. ⌜ r ≡ record { bound = bound; live = frame .live + n; top = frame .top + 2 * n } ⌝ }
 {
     Frame {
-        vars,
+        bound,
         live: frame.live + n,
         top: frame.top + 2 * n,
     }
@@ -236,28 +227,32 @@ fn construct(
     w: &mut [u32],
     at: usize,
     next: usize,
+    places: &mut [u32; MOST_VARIABLES],
     frame: Frame,
     deep: usize,
     left: State,
 ) -> Taken
-    requires { ⌜ Room (now w) frame × (1 ≤ types) ⌝ }
-    ensures { λ r. ⌜ Constructs (givenOf (now (heads .entry)) (now (rows .entry)) types (now (book .entry)) (now (starts .entry))) (now (w .entry)) (now (w .exit)) at next frame deep left r ⌝ }
+    requires { ⌜ Room (now w) (openOf (now places) frame) × (1 ≤ types) ⌝ }
+    ensures { λ r. ⌜ Constructs (givenOf (now (heads .entry)) (now (rows .entry)) types (now (book .entry)) (now (starts .entry))) (now (w .entry)) (now (w .exit)) at next (openOf (now (places .entry)) frame) deep left (takingIn (now (places .exit)) r) ⌝ }
 {
-    let vars = frame.vars;
-    let n = vars.n;
-    // Stored before the tree is built: the copies after it would have to wait for the store.
-    let mut places = vars.starts;
-    let i = slot(n);
-    places[i] = frame.top as u32;
-    let b = finish(heads, rows, types, book, starts, w, at, frame, deep, left);
+    let b = finish(
+        heads,
+        rows,
+        types,
+        book,
+        starts,
+        w,
+        at,
+        places,
+        frame,
+        deep,
+        left,
+    );
     let stop = b.stop;
     if stop != 0 {
         return taking(Verdict::Stops(stop), frame, b.left, next);
     }
-    let bound = Vars {
-        n: counted(n),
-        starts: places,
-    };
+    let bound = bind(places, frame.bound, frame.top);
     let more = constructed(frame, bound, b.nodes);
     taking(Verdict::Matches, more, b.left, next)
 }
@@ -272,16 +267,16 @@ fn condition(
     w: &mut [u32],
     c: Condition,
     next: usize,
+    places: &[u32; MOST_VARIABLES],
     frame: Frame,
     deep: usize,
     left: State,
 ) -> Taken
-    requires { ⌜ Room (now w) frame × (1 ≤ types) ⌝ }
-    ensures { λ r. ⌜ Conditions (givenOf (now (heads .entry)) (now (rows .entry)) types (now (book .entry)) (now (starts .entry))) (now (w .entry)) (now (w .exit)) (c .negated) (c .chain) next frame deep left r ⌝ }
+    requires { ⌜ Room (now w) (openOf (now places) frame) × (1 ≤ types) ⌝ }
+    ensures { λ r. ⌜ Conditions (givenOf (now (heads .entry)) (now (rows .entry)) types (now (book .entry)) (now (starts .entry))) (now (w .entry)) (now (w .exit)) (c .negated) (c .chain) next (openOf (now (places .entry)) frame) deep left (takingIn (now (places .entry)) r) ⌝ }
 {
     let pairs = rules::pairs_of(book, c.chain);
-    let vars = frame.vars;
-    let start = rewrite::start_of(vars, words::word(pairs, 1));
+    let start = rewrite::start_in(places, frame.bound, words::word(pairs, 1));
     let n = arena::nodes_at(w, start, frame.top);
     if MOST_LIVE < frame.live + n {
         return taking(Verdict::Stops(44), frame, left, next);
@@ -296,6 +291,7 @@ fn condition(
         pairs,
         start,
         n,
+        places,
         frame,
         deep,
         left,
@@ -314,18 +310,19 @@ fn step(
     starts: &[usize; STARTS],
     w: &mut [u32],
     at: usize,
+    places: &mut [u32; MOST_VARIABLES],
     frame: Frame,
     deep: usize,
     left: State,
 ) -> Taken
-    requires { ⌜ Room (now w) frame × (1 ≤ types) ⌝ }
-    ensures { λ r. ⌜ Steps (givenOf (now (heads .entry)) (now (rows .entry)) types (now (book .entry)) (now (starts .entry))) (now (w .entry)) (now (w .exit)) at frame deep left r ⌝ }
+    requires { ⌜ Room (now w) (openOf (now places) frame) × (1 ≤ types) ⌝ }
+    ensures { λ r. ⌜ Steps (givenOf (now (heads .entry)) (now (rows .entry)) types (now (book .entry)) (now (starts .entry))) (now (w .entry)) (now (w .exit)) at (openOf (now (places .entry)) frame) deep left (takingIn (now (places .exit)) r) ⌝ }
 {
     let f = rules::part_of(book, at);
     let part = f.part;
     let next = f.next;
     match part {
-        Part::Deconstruct(d) => deconstruct(book, w, d, next, frame, left),
+        Part::Deconstruct(d) => deconstruct(book, w, d, next, places, frame, left),
         Part::Construct(c) => construct(
             heads,
             rows,
@@ -335,6 +332,7 @@ fn step(
             w,
             c.replacement,
             next,
+            places,
             frame,
             deep,
             left,
@@ -349,6 +347,7 @@ fn step(
                 w,
                 c,
                 next,
+                places,
                 frame,
                 deep,
                 left,
@@ -369,12 +368,13 @@ fn seek(
     plan: Plan,
     base: usize,
     n: usize,
+    places: &mut [u32; MOST_VARIABLES],
     frame: Frame,
     deep: usize,
     left: State,
 ) -> Sought
-    requires { ⌜ Room (now w) frame × (1 ≤ types) × (plan .count ≤ 8) × (base < 2 ^ 32) × (n ≤ 2048) × (0 < n → base + 2 * n ≤ frame .top) ⌝ }
-    ensures { λ r. ⌜ Seeks (givenOf (now (heads .entry)) (now (rows .entry)) types (now (book .entry)) (now (starts .entry))) (now (w .entry)) (now (w .exit)) plan base n frame deep left r ⌝ }
+    requires { ⌜ Room (now w) (openOf (now places) frame) × (1 ≤ types) × (plan .count ≤ 8) × (base < 2 ^ 32) × (n ≤ 2048) × (0 < n → base + 2 * n ≤ frame .top) ⌝ }
+    ensures { λ r. ⌜ Seeks (givenOf (now (heads .entry)) (now (rows .entry)) types (now (book .entry)) (now (starts .entry))) (now (w .entry)) (now (w .exit)) plan base n (openOf (now (places .entry)) frame) deep left (seekingIn (now (places .exit)) r) ⌝ }
 {
     let pairs = rules::pairs_of(book, plan.pattern);
     let strategy = plan.strategy;
@@ -383,7 +383,6 @@ fn seek(
     let first = candidates::first_of(pairs, plan.target);
     let mut fuel = left;
     let mut i: usize = 0;
-    let mut now: Frame = frame;
     let found = 'nodes: loop {
         let next = candidates::next_candidate(
             pairs,
@@ -408,9 +407,16 @@ fn seek(
         }
         let fewer = fuel.attempts - 1;
         fuel = State { attempts: fewer };
-        let vars = now.vars;
         let arena = &w[..frame.top];
-        let m = rewrite::match_pattern(pairs, arena, &arena[p..end], p, vars, now.live);
+        let m = rewrite::match_pattern(
+            pairs,
+            arena,
+            &arena[p..end],
+            p,
+            places,
+            frame.bound,
+            frame.live,
+        );
         let verdict = m.verdict;
         match verdict {
             Verdict::Differs => {
@@ -422,24 +428,30 @@ fn seek(
             }
             Verdict::Matches => {}
         }
-        now = after_match(m, frame.top);
+        let mut now = after_match(m, frame.top);
         let mut at = plan.first;
         let mut k = plan.count;
         loop {
             if k == 0 {
                 break 'nodes seeking(Found::At(i), now, fuel, at);
             }
-            let t = step(heads, rows, types, book, starts, w, at, now, deep, fuel);
+            let t = step(
+                heads,
+                rows,
+                types,
+                book,
+                starts,
+                w,
+                at,
+                places,
+                now,
+                deep,
+                fuel,
+            );
             fuel = t.left;
             let verdict = t.verdict;
             match verdict {
                 Verdict::Differs => {
-                    let kept = frame.vars;
-                    now = Frame {
-                        vars: kept,
-                        live: frame.live,
-                        top: frame.top,
-                    };
                     i = i + 1;
                     continue 'nodes;
                 }
@@ -469,12 +481,13 @@ fn matches(
     at: usize,
     start: usize,
     n: usize,
+    places: &mut [u32; MOST_VARIABLES],
     frame: Frame,
     deep: usize,
     left: State,
 ) -> Tested
-    requires { ⌜ Sound (frame .vars) × (frame .live ≤ 2 ^ 17) × (frame .top ≤ 2 * frame .live) × (frame .top ≤ 12288) × (16384 ≤ length (now w)) × (1 ≤ types) × (start < 2 ^ 32) × (n ≤ 2048) × (0 < n → start + 2 * n ≤ frame .top) ⌝ }
-    ensures { λ r. ⌜ CallMatches (givenOf (now (heads .entry)) (now (rows .entry)) types (now (book .entry)) (now (starts .entry))) (now (w .entry)) (now (w .exit)) at start n frame deep left r ⌝ }
+    requires { ⌜ Sound (varsOf (now places) (frame .bound)) × (frame .live ≤ 2 ^ 17) × (frame .top ≤ 2 * frame .live) × (frame .top ≤ 12288) × (16384 ≤ length (now w)) × (1 ≤ types) × (start < 2 ^ 32) × (n ≤ 2048) × (0 < n → start + 2 * n ≤ frame .top) ⌝ }
+    ensures { λ r. ⌜ CallMatches (givenOf (now (heads .entry)) (now (rows .entry)) types (now (book .entry)) (now (starts .entry))) (now (w .entry)) (now (w .exit)) at start n (openOf (now (places .entry)) frame) deep left r ⌝ }
 {
     let plan = rules::plan_of(types, book, at);
     let live = frame.live + n;
@@ -484,9 +497,8 @@ fn matches(
             left,
         };
     }
-    let vars = frame.vars;
     let inner = Frame {
-        vars,
+        bound: frame.bound,
         live,
         top: frame.top,
     };
@@ -500,6 +512,7 @@ fn matches(
         plan,
         start,
         n,
+        places,
         inner,
         deep,
         left,
@@ -534,15 +547,15 @@ fn succeeds(
     at: usize,
     start: usize,
     n: usize,
+    places: &[u32; MOST_VARIABLES],
     frame: Frame,
     deep: usize,
     left: State,
 ) -> Tested
-    requires { ⌜ Room (now w) frame × (1 ≤ types) × (at < 2 ^ 36) × (start < 2 ^ 32) × (n ≤ 2048) × (0 < n → start + 2 * n ≤ frame .top) ⌝ }
-    ensures { λ r. ⌜ Succeeds (givenOf (now (heads .entry)) (now (rows .entry)) types (now (book .entry)) (now (starts .entry))) (now (w .entry)) (now (w .exit)) (now (pairs .entry)) at start n frame deep left r ⌝ }
+    requires { ⌜ Room (now w) (openOf (now places) frame) × (1 ≤ types) × (at < 2 ^ 36) × (start < 2 ^ 32) × (n ≤ 2048) × (0 < n → start + 2 * n ≤ frame .top) ⌝ }
+    ensures { λ r. ⌜ Succeeds (givenOf (now (heads .entry)) (now (rows .entry)) types (now (book .entry)) (now (starts .entry))) (now (w .entry)) (now (w .exit)) (now (pairs .entry)) at start n (openOf (now (places .entry)) frame) deep left r ⌝ }
 {
     let a = words::word(pairs, at);
-    let vars = frame.vars;
     if a < FIRST_OPERATION {
         if deep == 0 {
             return Tested {
@@ -550,10 +563,11 @@ fn succeeds(
                 left,
             };
         }
-        let args = arena::gather(w, pairs, at + 2, words::word(pairs, at + 1), vars);
-        let given = args.vars;
+        let mut given = [0u32; MOST_VARIABLES];
+        let count = words::word(pairs, at + 1);
+        let args = arena::gather(w, pairs, at + 2, count, places, frame.bound, &mut given);
         let inner = Frame {
-            vars: given,
+            bound: args.bound,
             live: frame.live + args.total,
             top: frame.top,
         };
@@ -568,12 +582,13 @@ fn succeeds(
             rule,
             start,
             n,
+            &mut given,
             inner,
             deep - 1,
             left,
         );
     }
-    let b = arena::value_of(w, pairs, at + 3, vars);
+    let b = arena::value_of(w, pairs, at + 3, places, frame.bound);
     if operations::holds(a, words::word(w, start + 1), b) {
         return Tested {
             verdict: Verdict::Matches,
@@ -597,12 +612,13 @@ fn any_succeeds(
     pairs: &[u32],
     start: usize,
     n: usize,
+    places: &[u32; MOST_VARIABLES],
     frame: Frame,
     deep: usize,
     left: State,
 ) -> Tested
-    requires { ⌜ Room (now w) frame × (1 ≤ types) × (start < 2 ^ 32) × (n ≤ 2048) × (0 < n → start + 2 * n ≤ frame .top) ⌝ }
-    ensures { λ r. ⌜ AnySucceeds (givenOf (now (heads .entry)) (now (rows .entry)) types (now (book .entry)) (now (starts .entry))) (now (w .entry)) (now (w .exit)) (now (pairs .entry)) start n frame deep left r ⌝ }
+    requires { ⌜ Room (now w) (openOf (now places) frame) × (1 ≤ types) × (start < 2 ^ 32) × (n ≤ 2048) × (0 < n → start + 2 * n ≤ frame .top) ⌝ }
+    ensures { λ r. ⌜ AnySucceeds (givenOf (now (heads .entry)) (now (rows .entry)) types (now (book .entry)) (now (starts .entry))) (now (w .entry)) (now (w .exit)) (now (pairs .entry)) start n (openOf (now (places .entry)) frame) deep left r ⌝ }
 {
     let mut k = rules::chain_count(pairs, 2);
     let mut at: usize = 4;
@@ -619,6 +635,7 @@ fn any_succeeds(
             at,
             start,
             n,
+            places,
             frame,
             deep,
             fuel,
@@ -656,21 +673,23 @@ fn apply(
     at: usize,
     base: usize,
     n: usize,
-    vars: Vars,
+    places: &[u32; MOST_VARIABLES],
+    bound: usize,
     besides: usize,
     deep: usize,
     left: State,
 ) -> Built
-    requires { ⌜ Sound vars × (besides + n ≤ 6144) × (base ≤ 2 * besides) × (n ≤ 2048) × (16384 ≤ length (now w)) × (1 ≤ types) × (at < 2 ^ 36) ⌝ }
-    ensures { λ r. ⌜ Applies (givenOf (now (heads .entry)) (now (rows .entry)) types (now (book .entry)) (now (starts .entry))) (now (w .entry)) (now (w .exit)) (now (pairs .entry)) at base n vars besides deep left r ⌝ }
+    requires { ⌜ Sound (varsOf (now places) bound) × (besides + n ≤ 6144) × (base ≤ 2 * besides) × (n ≤ 2048) × (16384 ≤ length (now w)) × (1 ≤ types) × (at < 2 ^ 36) ⌝ }
+    ensures { λ r. ⌜ Applies (givenOf (now (heads .entry)) (now (rows .entry)) types (now (book .entry)) (now (starts .entry))) (now (w .entry)) (now (w .exit)) (now (pairs .entry)) at base n (varsOf (now (places .entry)) bound) besides deep left r ⌝ }
 {
     let a = words::word(pairs, at);
     if a < FIRST_OPERATION {
         if deep == 0 {
             return building(41, n, left);
         }
-        let args = arena::gather(w, pairs, at + 2, words::word(pairs, at + 1), vars);
-        let given = args.vars;
+        let mut given = [0u32; MOST_VARIABLES];
+        let count = words::word(pairs, at + 1);
+        let args = arena::gather(w, pairs, at + 2, count, places, bound, &mut given);
         let rule = rules::rule_at(starts, a);
         let live = besides + args.total;
         let c = call(
@@ -683,14 +702,15 @@ fn apply(
             rule,
             base,
             n,
-            given,
+            &mut given,
+            args.bound,
             live,
             deep - 1,
             left,
         );
         return building(c.stop, c.nodes, c.left);
     }
-    let b = arena::value_of(w, pairs, at + 3, vars);
+    let b = arena::value_of(w, pairs, at + 3, places, bound);
     let stop = arena::compute_at(w, base, a, b);
     building(stop, n, left)
 }
@@ -707,13 +727,14 @@ fn chain(
     from: usize,
     base: usize,
     n: usize,
-    vars: Vars,
+    places: &[u32; MOST_VARIABLES],
+    bound: usize,
     besides: usize,
     deep: usize,
     left: State,
 ) -> Chained
-    requires { ⌜ Sound vars × (besides + n ≤ 6144) × (base ≤ 2 * besides) × (n ≤ 2048) × (16384 ≤ length (now w)) × (1 ≤ types) × (from ≤ 1024) ⌝ }
-    ensures { λ r. ⌜ Chains (givenOf (now (heads .entry)) (now (rows .entry)) types (now (book .entry)) (now (starts .entry))) (now (w .entry)) (now (w .exit)) (now (pairs .entry)) from base n vars besides deep left r ⌝ }
+    requires { ⌜ Sound (varsOf (now places) bound) × (besides + n ≤ 6144) × (base ≤ 2 * besides) × (n ≤ 2048) × (16384 ≤ length (now w)) × (1 ≤ types) × (from ≤ 1024) ⌝ }
+    ensures { λ r. ⌜ Chains (givenOf (now (heads .entry)) (now (rows .entry)) types (now (book .entry)) (now (starts .entry))) (now (w .entry)) (now (w .exit)) (now (pairs .entry)) from base n (varsOf (now (places .entry)) bound) besides deep left r ⌝ }
 {
     let mut k = rules::chain_count(pairs, from);
     let mut at = from + 2;
@@ -731,7 +752,8 @@ fn chain(
             at,
             base,
             nodes,
-            vars,
+            places,
+            bound,
             besides,
             deep,
             fuel,
@@ -759,16 +781,16 @@ fn fill_chain(
     pairs: &[u32],
     i: usize,
     n: usize,
+    places: &[u32; MOST_VARIABLES],
     frame: Frame,
     deep: usize,
     left: State,
 ) -> Chained
-    requires { ⌜ Room (now w) frame × (1 ≤ types) × (i ≤ 256) × (frame .live + n ≤ 6144) × (n ≤ 2048) ⌝ }
-    ensures { λ r. ⌜ FillsChain (givenOf (now (heads .entry)) (now (rows .entry)) types (now (book .entry)) (now (starts .entry))) (now (w .entry)) (now (w .exit)) (now (pairs .entry)) i n frame deep left r ⌝ }
+    requires { ⌜ Room (now w) (openOf (now places) frame) × (1 ≤ types) × (i ≤ 256) × (frame .live + n ≤ 6144) × (n ≤ 2048) ⌝ }
+    ensures { λ r. ⌜ FillsChain (givenOf (now (heads .entry)) (now (rows .entry)) types (now (book .entry)) (now (starts .entry))) (now (w .entry)) (now (w .exit)) (now (pairs .entry)) i n (openOf (now (places .entry)) frame) deep left r ⌝ }
 {
-    let vars = frame.vars;
     let base = frame.top + 2 * n;
-    let start = rewrite::start_of(vars, words::word(pairs, i + 1));
+    let start = rewrite::start_in(places, frame.bound, words::word(pairs, i + 1));
     let m = arena::nodes_at(w, start, frame.top);
     let besides = frame.live + n;
     if MOST_LIVE < besides + m {
@@ -787,7 +809,8 @@ fn fill_chain(
         i + 2,
         base,
         m,
-        vars,
+        places,
+        frame.bound,
         besides,
         deep,
         left,
@@ -814,15 +837,16 @@ fn fill(
     starts: &[usize; STARTS],
     w: &mut [u32],
     at: usize,
+    places: &[u32; MOST_VARIABLES],
     frame: Frame,
     deep: usize,
     left: State,
 ) -> Built
-    requires { ⌜ Room (now w) frame × (1 ≤ types) ⌝ }
-    ensures { λ r. ⌜ Fills (givenOf (now (heads .entry)) (now (rows .entry)) types (now (book .entry)) (now (starts .entry))) (now (w .entry)) (now (w .exit)) at frame deep left r ⌝ }
+    requires { ⌜ Room (now w) (openOf (now places) frame) × (1 ≤ types) ⌝ }
+    ensures { λ r. ⌜ Fills (givenOf (now (heads .entry)) (now (rows .entry)) types (now (book .entry)) (now (starts .entry))) (now (w .entry)) (now (w .exit)) at (openOf (now (places .entry)) frame) deep left r ⌝ }
 {
     let pairs = rules::pairs_of(book, at);
-    let vars = frame.vars;
+    let bound = frame.bound;
     let top = frame.top;
     let live = frame.live;
     let mut fuel = left;
@@ -842,6 +866,7 @@ fn fill(
                 pairs,
                 i,
                 n,
+                places,
                 frame,
                 deep,
                 fuel,
@@ -854,7 +879,7 @@ fn fill(
             fuel = b.left;
             i = c.next;
         } else if t == MARK_VARIABLE {
-            let start = rewrite::start_of(vars, v);
+            let start = rewrite::start_in(places, bound, v);
             let m = arena::nodes_at(w, start, top);
             let stop = arena::over(n + m, live + n + m);
             if stop != 0 {
@@ -885,14 +910,27 @@ fn finish(
     starts: &[usize; STARTS],
     w: &mut [u32],
     at: usize,
+    places: &[u32; MOST_VARIABLES],
     frame: Frame,
     deep: usize,
     left: State,
 ) -> Built
-    requires { ⌜ Room (now w) frame × (1 ≤ types) ⌝ }
-    ensures { λ r. ⌜ Finishes (givenOf (now (heads .entry)) (now (rows .entry)) types (now (book .entry)) (now (starts .entry))) (now (w .entry)) (now (w .exit)) at frame deep left r ⌝ }
+    requires { ⌜ Room (now w) (openOf (now places) frame) × (1 ≤ types) ⌝ }
+    ensures { λ r. ⌜ Finishes (givenOf (now (heads .entry)) (now (rows .entry)) types (now (book .entry)) (now (starts .entry))) (now (w .entry)) (now (w .exit)) at (openOf (now (places .entry)) frame) deep left r ⌝ }
 {
-    let b = fill(heads, rows, types, book, starts, w, at, frame, deep, left);
+    let b = fill(
+        heads,
+        rows,
+        types,
+        book,
+        starts,
+        w,
+        at,
+        places,
+        frame,
+        deep,
+        left,
+    );
     if b.stop != 0 {
         return b;
     }
@@ -912,14 +950,27 @@ fn replace(
     base: usize,
     n: usize,
     i: usize,
+    places: &[u32; MOST_VARIABLES],
     frame: Frame,
     deep: usize,
     left: State,
 ) -> Built
-    requires { ⌜ Room (now w) frame × (1 ≤ types) × (i < n) × (n ≤ 2048) × (base + 2 * n ≤ frame .top) ⌝ }
-    ensures { λ r. ⌜ Replaces (givenOf (now (heads .entry)) (now (rows .entry)) types (now (book .entry)) (now (starts .entry))) (now (w .entry)) (now (w .exit)) at base n i frame deep left r ⌝ }
+    requires { ⌜ Room (now w) (openOf (now places) frame) × (1 ≤ types) × (i < n) × (n ≤ 2048) × (base + 2 * n ≤ frame .top) ⌝ }
+    ensures { λ r. ⌜ Replaces (givenOf (now (heads .entry)) (now (rows .entry)) types (now (book .entry)) (now (starts .entry))) (now (w .entry)) (now (w .exit)) at base n i (openOf (now (places .entry)) frame) deep left r ⌝ }
 {
-    let b = finish(heads, rows, types, book, starts, w, at, frame, deep, left);
+    let b = finish(
+        heads,
+        rows,
+        types,
+        book,
+        starts,
+        w,
+        at,
+        places,
+        frame,
+        deep,
+        left,
+    );
     if b.stop != 0 {
         return building(b.stop, n, b.left);
     }
@@ -939,13 +990,14 @@ pub fn call(
     at: usize,
     base: usize,
     n: usize,
-    vars: Vars,
+    places: &mut [u32; MOST_VARIABLES],
+    bound: usize,
     besides: usize,
     deep: usize,
     left: State,
 ) -> Called
-    requires { ⌜ Sound vars × (besides ≤ 2 ^ 17) × (base ≤ 2 * besides) × (base ≤ 12288) × (n ≤ 2048) × (16384 ≤ length (now w)) × (1 ≤ types) ⌝ }
-    ensures { λ r. ⌜ Calls (givenOf (now (heads .entry)) (now (rows .entry)) types (now (book .entry)) (now (starts .entry))) (now (w .entry)) (now (w .exit)) at base n vars besides deep left r ⌝ }
+    requires { ⌜ Sound (varsOf (now places) bound) × (besides ≤ 2 ^ 17) × (base ≤ 2 * besides) × (base ≤ 12288) × (n ≤ 2048) × (16384 ≤ length (now w)) × (1 ≤ types) ⌝ }
+    ensures { λ r. ⌜ Calls (givenOf (now (heads .entry)) (now (rows .entry)) types (now (book .entry)) (now (starts .entry))) (now (w .entry)) (now (w .exit)) at base n (varsOf (now (places .entry)) bound) besides deep left r ⌝ }
 {
     let plan = rules::plan_of(types, book, at);
     let strategy = plan.strategy;
@@ -959,7 +1011,7 @@ pub fn call(
             return calling(44, nodes, fuel, count);
         }
         let frame = Frame {
-            vars,
+            bound,
             live,
             top: base + 2 * nodes,
         };
@@ -973,6 +1025,7 @@ pub fn call(
             plan,
             base,
             nodes,
+            places,
             frame,
             deep,
             fuel,
@@ -998,6 +1051,7 @@ pub fn call(
                     base,
                     nodes,
                     i,
+                    places,
                     after,
                     deep,
                     s.left,

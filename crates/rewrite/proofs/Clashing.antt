@@ -13,21 +13,19 @@ use Rattle.meaning.specs.declared.State.{State}
 use Rattle.marks.specs.Marked.{typeIn, sizeIn}
 use Rattle.marks.specs.Post.{span}
 use Rattle.marks.proofs.Spans.{span-length, span-word}
-use Rattle.rewrite.specs.Vars.{Sound, bound}
-use Rattle.rewrite.specs.Matching.{MatchAnswers}
+use Rattle.rewrite.specs.Vars.{Vars, Sound, bound}
+use Rattle.rewrite.specs.Matching.{Match, MatchAnswers}
 use Rattle.rewrite.specs.Candidates.{BeginsWithNode, FirstOf, Begun, Clashes, unspent, Passed, Next, OtherValue, NextStart, ClashesAt, NextCandidate}
 use Rattle.rewrite.specs.declared.candidates.Candidate.{Candidate}
 use Rattle.rewrite.specs.declared.candidates.First.{First}
-use Rattle.rewrite.specs.declared.Vars.{Vars}
 use Rattle.rewrite.specs.declared.Verdict.the-variants.{Differs}
-use Rattle.rewrite.specs.declared.Matched.{Matched}
 use Rattle.rewrite.proofs.Matcher.{Going, going-start, going-type, going-value, going-node, new-other, new-past, new-taken}
 
 -- A PATTERN THAT MUST DIFFER
 
 -- the matcher differs with these variables
 abbrev Differing : Words → Words → Words → ℕ → Vars → ℕ → Type 0
-Differing pairs arena part at vars live = (m : Matched) × (m .verdict ≡ Differs) × MatchAnswers pairs arena part at vars live m
+Differing pairs arena part at vars live = (m : Match) × (m .verdict ≡ Differs) × MatchAnswers pairs arena part at vars live m
 
 -- the matcher's loop would be here with some variables, unless it has differed before
 pub record Clashing (pairs part : Words) (live total i p : ℕ) : Type 0 where

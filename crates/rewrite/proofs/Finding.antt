@@ -20,12 +20,10 @@ use Rattle.meaning.specs.Meaning.{Bindings, match, matchFirst}
 use Rattle.tree.proofs.Rest.{rest-node}
 use Rattle.marks.specs.Marked.{typeIn}
 use Rattle.marks.proofs.Marks.{marked-length}
-use Rattle.rewrite.specs.declared.Vars.{Vars}
 use Rattle.rewrite.specs.declared.Verdict.{Verdict}
 use Rattle.rewrite.specs.declared.Verdict.the-variants.{Matches, Differs, Stops}
-use Rattle.rewrite.specs.declared.Matched.{Matched}
-use Rattle.rewrite.specs.Vars.{Sound}
-use Rattle.rewrite.specs.Matching.{Stage, bindings, Means, MatchAnswers, FirstAnswers}
+use Rattle.rewrite.specs.Vars.{Vars, Sound, Kept}
+use Rattle.rewrite.specs.Matching.{Stage, bindings, Means, Match, MatchAnswers, FirstAnswers}
 use Rattle.rewrite.proofs.Matcher.{Node, node-of, stage-on, moved, two-marked, due-as, node-as}
 
 -- THE DEFINITION, one law a way
@@ -88,9 +86,10 @@ finding-start ty pairs arena part at vars live s l = record {
 }
 
 module _ (ty : ℕ) (pairs arena part : Words) (at : ℕ) (vars : Vars) (live p : ℕ) (go : Finding ty pairs arena part at vars live p) where
-  pub finding-none : length part - p < 2 → (r : Matched) → r ≡ record { verdict = Differs; vars = vars; live = live } → FirstAnswers ty pairs arena part at vars live r
-  finding-none h r er strict = rw er (record {
-    sound = go .sound;
+  pub finding-none : length part - p < 2 → (now : Vars) → Sound now → Kept vars now → (r : Match) → r ≡ record { verdict = Differs; vars = now; live = live } → FirstAnswers ty pairs arena part at vars live r
+  finding-none h now sn kn r er strict = rw er (record {
+    sound = sn;
+    kept = kn;
     fits = go .fits;
     grows = omega arith;
     meant = λ g ws ts b left st ns.
@@ -129,7 +128,7 @@ module _ (ty : ℕ) (pairs arena part : Words) (at : ℕ) (vars : Vars) (live p 
       run = λ strict g ws ts b left st ns. let r = go .run strict g ws ts b left st ns in on r (other-type strict g ty (shapes pairs) b left (here r .t) (here r .v) (here r .below) (λ e. h (type-is r ∙ e)));
     }
 
-    module _ (is : typeIn w ≡ ty) (m : Matched) (x : Words) (ex : x ≡ drop p part) (matched : MatchAnswers pairs arena x (at + p) vars live m) where
+    module _ (is : typeIn w ≡ ty) (m : Match) (x : Words) (ex : x ≡ drop p part) (matched : MatchAnswers pairs arena x (at + p) vars live m) where
       -- the definition here: this node's match, or else the others'
       at-this : {strict : Bool} {g : Grammar} {ws : Words} {b : Bindings} {left : State} (r : Run strict g ty pairs arena part at vars live p ws b left)
           → matchFirst strict g ty (shapes pairs) ws b left ≡ orElse (match strict g (shapes pairs) (r .rest) b left) (matchFirst strict g ty (shapes pairs) (here r .below) b)
@@ -150,6 +149,7 @@ module _ (ty : ℕ) (pairs arena part : Words) (at : ℕ) (vars : Vars) (live p 
           → Means g arena (b .besides) v (m .vars) (m .live) left (matchFirst strict g ty (shapes pairs) ws b left)) → FirstAnswers ty pairs arena part at vars live m
       found v e f strict = record {
         sound = matched strict .sound;
+        kept = matched strict .kept;
         fits = matched strict .fits;
         grows = matched strict .grows;
         meant = λ g ws ts b left st ns.

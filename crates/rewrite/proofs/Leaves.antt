@@ -23,9 +23,8 @@ use Rattle.operations.specs.declared.Number.the-variants.{Is, OutOfRange}
 use Rattle.operations.specs.Operating.{Operated}
 use Rattle.marks.specs.Marked.{sizeIn, Stands}
 use Rattle.marks.proofs.Same.{stands-size}
-use Rattle.rewrite.specs.Vars.{EnvAt, startsOf, bound, startAt, Sound}
+use Rattle.rewrite.specs.Vars.{Vars, EnvAt, startsOf, bound, startAt, Sound}
 use Rattle.rewrite.specs.Arena.{NodesAt, overBy, Gathered, Computed}
-use Rattle.rewrite.specs.declared.Vars.{Vars}
 use Rattle.rewrite.proofs.Matcher.{env-length, env-more, env-get, env-as, stands-as, total-more, starts-length, starts-more, sound-more, start-is}
 
 -- THE NODES OF A TREE
@@ -222,16 +221,6 @@ module _ (w pairs : Words) (at n : ℕ) (vars args : Vars) (count i : ℕ) (go :
             counted = omega (arith, r .counted, nodes, total-more (r .done) u);
             due = t .3;
           }
-
--- the first argument
-pub gathering-first : (w pairs : Words) (at n : ℕ) (vars : Vars) → Sound vars → 0 < n → {x start y m : ℕ} → x ≡ getD pairs (at + 1) 0 → start ≡ startAt vars x → y ≡ getD w start 0 → m ≡ sizeIn y → m < 4096
-    → Gathering w pairs at n vars (record { n = 1; starts = replicate 16 start }) m 1
-gathering-first w pairs at n vars s h {x} {start} {y} {m} ex es ey em few =
-    let z : at + 1 ≡ at + 2 * 0 + 1 = omega arith in
-    let t : 0 + m ≡ m = omega arith in
-    let go = gathering-start w pairs at n vars (replicate 16 start) refl in
-    let more : Gathering w pairs at n vars (record { n = 1; starts = replicate 16 start }) (0 + m) (0 + 1) = gathering-more w pairs at n vars (record { n = 0; starts = replicate 16 start }) 0 0 go s h (omega arith) (ex ∙ ap (λ k. getD pairs k 0) z) es refl ey em few in
-    rw t at more
 
 -- WHAT AN OPERATION WRITES
 

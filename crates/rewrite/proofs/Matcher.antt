@@ -3,12 +3,12 @@ use Prim.Native.Nat.{ℕ, zero, suc, _+_, _-_, _*_, _/_, _<_, _≤_}
 use mathlib.Core.Path.{_≡_, refl, sym, ap, ap₂, _∙_}
 use mathlib.Core.List.{List, [], _∷_, _++_}
 use mathlib.Core.Bool.{Bool, true, false}
-use mathlib.Core.Option.{none, some}
+use mathlib.Core.Option.{Option, none, some}
 use native.Mathlib.Omega.{arith}
 use native.Mathlib.Nat.{add-zero}
 use native.Mathlib.Numerals.{add-one}
 use lib.ListN.{length, getD, take, drop, set, getElem?, length-set, length-drop, length-take}
-use lib.Seq.{drop-at, drop-drop, getD-drop, getD-take, take-suc-set, take-take}
+use lib.Seq.{drop-at, drop-drop, getD-drop, getD-take, take-suc-set, take-set-le, take-take}
 use borrow.Author.Tests.{eq-eqb, ne-eqb, lt-ltb, le-ltb}
 use Rattle.words.specs.Reader.{Words}
 use Rattle.words.specs.Views.{equalWords}
@@ -19,7 +19,7 @@ use Rattle.tree.specs.Tree.{Trees, size, isTree, after, firstTree}
 use Rattle.tree.proofs.Trees.{split, first-after, tells, trees-even, first-even, tree-passes, tree-some, even-none}
 use Rattle.rules.specs.Rules.{Shape, node, new, same, shapes}
 use Rattle.meaning.specs.declared.State.{State}
-use Rattle.meaning.specs.Computation.{stuck}
+use Rattle.meaning.specs.Computation.{stuck, Comp}
 use Rattle.meaning.specs.Meaning.{Env, Bindings, total, live, match}
 use Rattle.tree.specs.Rest.{Rest}
 use Rattle.tree.proofs.Rest.{rest-node, onward}
@@ -29,11 +29,10 @@ use Rattle.marks.proofs.Marks.{mark-type, mark-size, marked-length, marked-appe
 use Rattle.marks.proofs.Marking.{type-there}
 use Rattle.marks.proofs.Spans.{first-size, drop-take}
 use Rattle.marks.proofs.Same.{marked-first}
-use Rattle.rewrite.specs.declared.Vars.{Vars}
 use Rattle.rewrite.specs.declared.Verdict.{Verdict}
 use Rattle.rewrite.specs.declared.Verdict.the-variants.{Matches, Differs, Stops}
-use Rattle.rewrite.specs.Vars.{EnvAt, startsOf, bound, startAt, Sound}
-use Rattle.rewrite.specs.Matching.{Stage, bindings, Means, MatchAnswers, NewTold, PairTold, failedBy}
+use Rattle.rewrite.specs.Vars.{Vars, varsOf, EnvAt, startsOf, bound, startAt, Sound, Kept}
+use Rattle.rewrite.specs.Matching.{Stage, bindings, Means, Match, Answers, matchIn, MatchAnswers, NewTold, PairTold, failedBy}
 use Rattle.rewrite.specs.Matching.NewTold.{other, over, past, taken}
 use Rattle.rewrite.specs.Matching.PairTold.{short, new, unlike, like, type, value, node}
 use Rattle.rewrite.proofs.Steps.{pair-new, pair-same, pair-node, no-pair, match-end, match-short, node-type, node-value, node-both, new-type, new-full, new-seventeenth, new-bound, same-unbound, same-other, same-there}
@@ -77,6 +76,25 @@ starts-more v start s h = ap (λ n. take n (set (v .starts) (v .n) start)) (add-
 pub sound-more : (v : Vars) (start : ℕ) → Sound v → v .n < 16 → Sound (bound v start)
 sound-more v start s h = record { room = length-set (v .starts) (v .n) start ∙ s .room; few = omega arith }
 
+pub kept-same : (v : Vars) → Kept v v
+kept-same v = record { wider = omega arith; places = refl }
+
+pub kept-bound : (v : Vars) (start : ℕ) → Kept v (bound v start)
+kept-bound v start = record { wider = omega arith; places = take-set-le (v .n) (v .starts) (v .n) start (omega arith) }
+
+pub kept-more : {u v w : Vars} → Kept u v → Kept v w → Kept u w
+kept-more {u} {v} {w} a b = record {
+  wider = omega (arith, a .wider, b .wider);
+  places = sym (take-take (u .n) (v .n) (w .starts) (a .wider)) ∙ ap (take (u .n)) (b .places) ∙ take-take (u .n) (v .n) (v .starts) (a .wider) ∙ a .places;
+}
+
+-- .. and when what was bound since is let go
+pub kept-back : (u v : Vars) → Kept u v → Kept u (varsOf (v .starts) (u .n))
+kept-back u v k = record { wider = omega arith; places = k .places }
+
+pub sound-back : (u v : Vars) → Sound u → Sound v → Sound (varsOf (v .starts) (u .n))
+sound-back u v a b = record { room = b .room; few = a .few }
+
 pub start-there : (v : Vars) (x i s : ℕ) → i ≡ x → i < v .n → i < 16 → s ≡ getD (v .starts) i 0 → s ≡ startAt v x
 unfolding startAt
 start-there v x i s e h k f = f ∙ rw (e, lt-ltb x (v .n) (omega arith), lt-ltb x 16 (omega arith))
@@ -93,13 +111,29 @@ pub start-is : (v : Vars) (x : ℕ) → Sound v → x < v .n → startAt v x ≡
 unfolding startAt
 start-is v x s h = rw (lt-ltb x (v .n) h, lt-ltb x 16 (omega (arith, s .few))) (sym (getD-take (v .n) (v .starts) x 0 h))
 
+-- the answer does not depend on what lies past the variables that are bound
+pub answers-kept : {arena part : Words} {at live : ℕ} {f : Grammar → Words → Bindings → Comp (Option Bindings)} {r : Match} (u v : Vars) → v .n ≡ u .n → Kept u v → Answers arena part at v live f r → Answers arena part at u live f r
+answers-kept {arena} {part} {at} {live} {f} u v e k a = record {
+  sound = a .sound;
+  kept = kept-more k (a .kept);
+  fits = a .fits;
+  grows = a .grows;
+  meant = λ g ws ts b left st ns. a .meant g ws ts b left (stage-as st) ns;
+}
+  where
+    same : startsOf v ≡ startsOf u
+    same = ap (λ n. take n (v .starts)) e ∙ k .places
+
+    stage-as : {g : Grammar} {ws : Words} {ts : List ℕ} {b : Bindings} → Stage g arena part at u live ws ts b → Stage g arena part at v live ws ts b
+    stage-as {g} {ws} {ts} {b} st = record { types = st .types; place = st .place; inside = st .inside; marks = st .marks; rest = st .rest; stands = rw same (st .stands); counted = st .counted }
+
 -- A PAIR
 
-pub failed-zero : (r : ℕ) (vars : Vars) (live : ℕ) → r ≡ 0 → record { verdict = Differs; vars = vars; live = live } ≡ failedBy r vars live
-failed-zero r vars live e = rw (eq-eqb r 0 e)
+pub failed-zero : (r bound live : ℕ) → r ≡ 0 → record { verdict = Differs; bound = bound; live = live } ≡ failedBy r bound live
+failed-zero r bound live e = rw (eq-eqb r 0 e)
 
-pub failed-other : (r : ℕ) (vars : Vars) (live : ℕ) → (r ≡ 0 → ⊥) → record { verdict = Stops 44; vars = vars; live = live } ≡ failedBy r vars live
-failed-other r vars live h = rw (ne-eqb r 0 h)
+pub failed-other : (r bound live : ℕ) → (r ≡ 0 → ⊥) → record { verdict = Stops 44; bound = bound; live = live } ≡ failedBy r bound live
+failed-other r bound live h = rw (ne-eqb r 0 h)
 
 -- a comparison with an equal part and an equal answer
 pub same-as : {arena x y : Words} {start : ℕ} {a b : Bool} → x ≡ y → a ≡ b → SameTree arena start x a → SameTree arena start y b
@@ -120,6 +154,7 @@ pub record Going (pairs arena part : Words) (at : ℕ) (vars : Vars) (held₀ : 
   pub read : i ≤ length pairs
   pub near : p ≤ 8192 * i
   pub sound : Sound env
+  pub kept : Kept vars env
   pub fits : held ≤ 6144
   pub grows : held₀ ≤ held
   run : (strict : Bool) (g : Grammar) (ws : Words) (ts : List ℕ) (b : Bindings) (left : State) → Stage g arena part at vars held₀ ws ts b → (match strict g (shapes pairs) ws b left ≡ stuck → ⊥)
@@ -130,6 +165,7 @@ going-start pairs arena part at vars held s l = record {
   read = omega arith;
   near = omega arith;
   sound = s;
+  kept = kept-same vars;
   fits = l;
   grows = omega arith;
   run = λ strict g ws ts b left st ns. let z : at + 0 ≡ at = omega arith in record { inside = omega arith; rest = ws; types = ts; bound-to = b .env; stage = rw z st; same-run = refl };
@@ -237,7 +273,7 @@ module _ (pairs arena part : Words) (at : ℕ) (vars : Vars) (held₀ : ℕ) (en
       → ((strict : Bool) (g : Grammar) (ws : Words) (b : Bindings) (left : State) → (match strict g (shapes pairs) ws b left ≡ stuck → ⊥) → Run strict g pairs arena part at env held i p ws b left
       → Means g arena (b .besides) v env held left (match strict g (shapes pairs) ws b left))
       → MatchAnswers pairs arena part at vars held₀ (record { verdict = v; vars = env; live = held })
-  answered v f strict = record { sound = go .sound; fits = go .fits; grows = go .grows; meant = λ g ws ts b left st ns. f strict g ws b left ns (go .run strict g ws ts b left st ns) }
+  answered v f strict = record { sound = go .sound; kept = go .kept; fits = go .fits; grows = go .grows; meant = λ g ws ts b left st ns. f strict g ws b left ns (go .run strict g ws ts b left st ns) }
 
   pub going-end : length pairs - i < 2 → MatchAnswers pairs arena part at vars held₀ (record { verdict = Matches; vars = env; live = held })
   going-end h = answered Matches (λ strict g ws b left ns r. (
@@ -299,6 +335,7 @@ module _ (pairs arena part : Words) (at : ℕ) (vars : Vars) (held₀ : ℕ) (en
           read = omega (arith, go .read);
           near = omega (arith, go .near);
           sound = go .sound;
+          kept = go .kept;
           fits = go .fits;
           grows = go .grows;
           run = λ strict g ws ts b left st ns. stepped strict g ws b left (go .run strict g ws ts b left st ns);
@@ -379,6 +416,7 @@ module _ (pairs arena part : Words) (at : ℕ) (vars : Vars) (held₀ : ℕ) (en
             read = omega (arith, go .read);
             near = omega (arith, go .near);
             sound = go .sound;
+            kept = go .kept;
             fits = go .fits;
             grows = go .grows;
             run = λ strict g ws ts b left st ns. stepped strict g ws b left ns (go .run strict g ws ts b left st ns);
@@ -437,6 +475,7 @@ module _ (pairs arena part : Words) (at : ℕ) (vars : Vars) (held₀ : ℕ) (en
           read = omega (arith, go .read);
           near = omega (arith, go .near);
           sound = sound-more env start (go .sound) k;
+          kept = kept-more (go .kept) (kept-bound env start);
           fits = h;
           grows = omega (arith, go .grows);
           run = λ strict g ws ts b left st ns. stepped strict g ws b left (go .run strict g ws ts b left st ns);
@@ -475,19 +514,19 @@ module _ (pairs arena part : Words) (at : ℕ) (vars : Vars) (held₀ : ℕ) (en
         absurd (omega (arith, z, tree-words more (getD part p 0) refl r, first-even g (r .rest) 1, tree-some (firstTree g (r .rest)) (onward q .tree .typed))))
 
     module _ (t v start r : ℕ) (et : t ≡ getD pairs i 0) (ev : v ≡ getD pairs (i + 1) 0) (es : start ≡ startAt env v) (told : PairTold arena part t v start p (env .n) held r) where
-      differ : r ≡ 0 → MatchAnswers pairs arena part at vars held₀ (record { verdict = Differs; vars = env; live = held }) → MatchAnswers pairs arena part at vars held₀ (failedBy r env held)
+      differ : r ≡ 0 → MatchAnswers pairs arena part at vars held₀ (record { verdict = Differs; vars = env; live = held }) → MatchAnswers pairs arena part at vars held₀ (matchIn (env .starts) (failedBy r (env .n) held))
       differ z a = rw z a
 
-      pub pair-failed : r < 2 → MatchAnswers pairs arena part at vars held₀ (failedBy r env held)
+      pub pair-failed : r < 2 → MatchAnswers pairs arena part at vars held₀ (matchIn (env .starts) (failedBy r (env .n) held))
       pair-failed few = go-on told
         where
-          new-failed : p + 2 ≤ length part → t ≡ 64 → NewTold (getD part p 0) v (env .n) held r → MatchAnswers pairs arena part at vars held₀ (failedBy r env held)
+          new-failed : p + 2 ≤ length part → t ≡ 64 → NewTold (getD part p 0) v (env .n) held r → MatchAnswers pairs arena part at vars held₀ (matchIn (env .starts) (failedBy r (env .n) held))
           new-failed more e (other h z) = differ z (new-other more (getD part p 0) refl (sym et ∙ e) (at + p) refl (λ q. h (q ∙ sym ev)))
           new-failed more e (over h k z) = rw z (new-over more (getD part p 0) refl (sym et ∙ e) (at + p) refl (h ∙ ev) k)
           new-failed more e (past h k m z) = differ z (new-past more (getD part p 0) refl (sym et ∙ e) (at + p) refl (h ∙ ev) k m)
           new-failed more e (taken h k m z) = differ (omega arith) (going-empty more (omega arith))
 
-          go-on : PairTold arena part t v start p (env .n) held r → MatchAnswers pairs arena part at vars held₀ (failedBy r env held)
+          go-on : PairTold arena part t v start p (env .n) held r → MatchAnswers pairs arena part at vars held₀ (matchIn (env .starts) (failedBy r (env .n) held))
           go-on (short h z) = differ z (going-short h)
           go-on (new more e n) = new-failed more e n
           go-on (unlike more e f s z) = differ z (going-other more (getD part p 0) refl (λ q. e (et ∙ q)) (sym et ∙ f) start (es ∙ ap (startAt env) ev) false (drop p part) refl s refl)

@@ -19,8 +19,7 @@ use Rattle.meaning.specs.Operations.{compute}
 use Rattle.meaning.specs.Meaning.{Env, total, variables}
 use Rattle.operations.specs.Operating.{argumentsOf}
 use Rattle.marks.specs.Marked.{marked, Stands, UnderWay}
-use Rattle.rewrite.specs.Vars.{EnvAt, startsOf, Sound}
-use Rattle.rewrite.specs.declared.Vars.{Vars}
+use Rattle.rewrite.specs.Vars.{Vars, varsOf, EnvAt, startsOf, Sound}
 use Rattle.rewrite.specs.declared.arena.Args.{Args}
 use Rattle.rewrite.specs.declared.arena.Placed.{Placed}
 
@@ -34,9 +33,18 @@ pub record NodesAt (w : Words) (start top r : ℕ) : Type 0 where
 abbrev pub overBy : ℕ → ℕ → ℕ
 overBy n live = pick (leb n mostNodes) (pick (leb live mostLive) 0 44) 42
 
+-- the arguments of an application, as the variables of the call, and how many nodes they have
+pub record Arguments : Type 0 where
+  pub vars : Vars
+  pub total : ℕ
+
+-- .. with the places as they were gathered
+abbrev pub argumentsIn : Words → Args → Arguments
+argumentsIn places a = record { vars = varsOf places (a .bound); total = a .total }
+
 -- r has the variables that the n pairs from `at` on name, if there are no more than 16, and their nodes; their trees stand below any place below which the
 -- variables' do
-pub record Gathered (w pairs : Words) (at n : ℕ) (vars : Vars) (r : Args) : Type 0 where
+pub record Gathered (w pairs : Words) (at n : ℕ) (vars : Vars) (r : Arguments) : Type 0 where
   pub sound : Sound (r .vars)
   pub small : r .total ≤ 65536
   pub stands : (g : Grammar) (top : ℕ) (env args : Env) (left : State) → length g ≤ mostTypes → EnvAt g (take top w) (startsOf vars) env → n ≤ 16

@@ -8,17 +8,15 @@ use Rattle.words.specs.Reader.{Words}
 use Rattle.meaning.specs.declared.State.{State}
 use Rattle.marks.specs.Marked.{typeIn}
 use Rattle.marks.specs.Post.{span}
-use Rattle.rewrite.specs.Vars.{Sound}
-use Rattle.rewrite.specs.Matching.{MatchAnswers}
-use Rattle.rewrite.specs.declared.Vars.{Vars}
+use Rattle.rewrite.specs.Vars.{Vars, Sound}
+use Rattle.rewrite.specs.Matching.{Match, MatchAnswers}
 use Rattle.rewrite.specs.declared.Verdict.the-variants.{Differs}
-use Rattle.rewrite.specs.declared.Matched.{Matched}
 use Rattle.rewrite.specs.declared.candidates.Candidate.{Candidate}
 use Rattle.rewrite.specs.declared.candidates.First.{First}
 
 -- the pattern differs from the tree that the part begins with, whatever the variables are
 pub record Clashes (pairs part : Words) (live : ℕ) : Type 0 where
-  pub clash : (arena : Words) (at : ℕ) (vars : Vars) → Sound vars → (m : Matched) × (m .verdict ≡ Differs) × MatchAnswers pairs arena part at vars live m
+  pub clash : (arena : Words) (at : ℕ) (vars : Vars) → Sound vars → (m : Match) × (m .verdict ≡ Differs) × MatchAnswers pairs arena part at vars live m
 
 -- the pattern's first pair has the target's type, so that it is a node wherever there is a node of that type
 abbrev pub BeginsWithNode : Words → ℕ → Type 0

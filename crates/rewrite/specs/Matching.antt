@@ -18,8 +18,7 @@ use Rattle.meaning.specs.Meaning.{Env, Bindings, total, match, matchFirst}
 use Rattle.tree.specs.Rest.{Rest}
 use Rattle.marks.specs.Marked.{marked, typeIn, sizeIn}
 use Rattle.marks.specs.Post.{SameTree}
-use Rattle.rewrite.specs.Vars.{EnvAt, startsOf, Sound}
-use Rattle.rewrite.specs.declared.Vars.{Vars}
+use Rattle.rewrite.specs.Vars.{Vars, varsOf, EnvAt, startsOf, Sound, Kept}
 use Rattle.rewrite.specs.declared.Verdict.{Verdict}
 use Rattle.rewrite.specs.declared.Verdict.the-variants.{Matches, Differs, Stops}
 use Rattle.rewrite.specs.declared.Matched.{Matched}
@@ -43,8 +42,18 @@ pub data PairTold (arena part : Words) (t v start p n live r : ℕ) : Type 0 whe
   node : p + 2 ≤ length part → (t ≡ markNew → ⊥) → (t ≡ markVariable → ⊥) → typeIn (getD part p 0) ≡ t → getD part (p + 1) 0 ≡ v → r ≡ 2 → PairTold arena part t v start p n live r
 
 -- what a match comes to at a pair that takes up no words
-abbrev pub failedBy : ℕ → Vars → ℕ → Matched
-failedBy r vars live = pick (eqb r 0) (record { verdict = Differs; vars = vars; live = live }) (record { verdict = Stops 44; vars = vars; live = live })
+abbrev pub failedBy : ℕ → ℕ → ℕ → Matched
+failedBy r bound live = pick (eqb r 0) (record { verdict = Differs; bound = bound; live = live }) (record { verdict = Stops 44; bound = bound; live = live })
+
+-- what a match found, the variables that are bound after it, and how many nodes are live then
+pub record Match : Type 0 where
+  pub verdict : Verdict
+  pub vars : Vars
+  pub live : ℕ
+
+-- .. with the places as the match leaves them
+abbrev pub matchIn : Words → Matched → Match
+matchIn places m = record { verdict = m .verdict; vars = varsOf places (m .bound); live = m .live }
 
 -- the part, which begins at `at` in the arena, is what is left of a marked tree; the variables' trees stand in the arena; so many nodes are live
 pub record Stage (g : Grammar) (arena part : Words) (at : ℕ) (vars : Vars) (live : ℕ) (ws : Words) (ts : List ℕ) (b : Bindings) : Type 0 where
@@ -67,8 +76,9 @@ Means g arena besides Differs vars live left m = m ≡ ok none left
 Means g arena besides (Stops n) vars live left m = m ≡ stop n left
 
 -- the answer is what the computation gives, unless it is stuck
-pub record Answers (arena part : Words) (at : ℕ) (vars : Vars) (live : ℕ) (f : Grammar → Words → Bindings → Comp (Option Bindings)) (r : Matched) : Type 0 where
+pub record Answers (arena part : Words) (at : ℕ) (vars : Vars) (live : ℕ) (f : Grammar → Words → Bindings → Comp (Option Bindings)) (r : Match) : Type 0 where
   pub sound : Sound (r .vars)
+  pub kept : Kept vars (r .vars)
   pub fits : r .live ≤ mostLive
   pub grows : live ≤ r .live
   pub meant : (g : Grammar) (ws : Words) (ts : List ℕ) (b : Bindings) (left : State) → Stage g arena part at vars live ws ts b → (f g ws b left ≡ stuck → ⊥)
@@ -79,9 +89,9 @@ abbrev pub matchOf : Bool → Words → Grammar → Words → Bindings → Comp 
 matchOf strict pairs g ws b = match strict g (shapes pairs) ws b
 
 -- .. strict or not
-abbrev pub MatchAnswers : Words → Words → Words → ℕ → Vars → ℕ → Matched → Type 0
+abbrev pub MatchAnswers : Words → Words → Words → ℕ → Vars → ℕ → Match → Type 0
 MatchAnswers pairs arena part at vars live r = (strict : Bool) → Answers arena part at vars live (matchOf strict pairs) r
 
 -- the first node of the type that the pattern matches
-abbrev pub FirstAnswers : ℕ → Words → Words → Words → ℕ → Vars → ℕ → Matched → Type 0
+abbrev pub FirstAnswers : ℕ → Words → Words → Words → ℕ → Vars → ℕ → Match → Type 0
 FirstAnswers ty pairs arena part at vars live r = (strict : Bool) → Answers arena part at vars live (λ g ws b. matchFirst strict g ty (shapes pairs) ws b) r

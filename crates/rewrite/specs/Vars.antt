@@ -7,7 +7,15 @@ use lib.Dec.{ltb}
 use Rattle.words.specs.Reader.{Words, pick, and}
 use Rattle.grammar.specs.Grammar.{Grammar}
 use Rattle.marks.specs.Marked.{Stands}
-use Rattle.rewrite.specs.declared.Vars.{Vars}
+
+-- the variables of a call: how many are bound, and the places of 16, of which the first n count
+pub record Vars : Type 0 where
+  pub n : ℕ
+  pub starts : Words
+
+-- .. with the places as an array holds them
+abbrev pub varsOf : Words → ℕ → Vars
+varsOf places bound = record { n = bound; starts = places }
 
 -- each tree stands at its place
 abbrev pub EnvAt : Grammar → Words → List ℕ → List Words → Type 0
@@ -28,6 +36,11 @@ bound v start = record { n = v .n + 1; starts = set (v .starts) (v .n) start }
 pub record Sound (v : Vars) : Type 0 where
   pub room : length (v .starts) ≡ 16
   pub few : v .n ≤ 16
+
+-- what was bound stays where it is, and more may be bound
+pub record Kept (before after : Vars) : Type 0 where
+  pub wider : before .n ≤ after .n
+  pub places : take (before .n) (after .starts) ≡ startsOf before
 
 -- where the variable's tree stands; past every place if it is not bound
 unfoldable pub startAt : Vars → ℕ → ℕ

@@ -1,6 +1,5 @@
 // Work memory as a stack of trees: what stands on it, what is pushed, finished and put in place.
 use crate::MOST_LIVE;
-use crate::Vars;
 use operations::Number;
 use rules::limits::MOST_VARIABLES;
 use tables::HEADS;
@@ -10,20 +9,20 @@ use tree::limits::MOST_NODES;
 ghost use mathlib.Core.Path.{_≡_};
 ghost use mathlib.Core.List.{_∷_, _++_};
 ghost use Prim.Native.Nat.{_+_, _*_, _<_, _≤_, _^_};
-ghost use lib.ListN.{length, getD, take, drop, replicate};
-ghost use Rattle.rewrite.specs.Vars.{Sound, startAt};
-ghost use Rattle.rewrite.specs.Arena.{NodesAt, overBy, Gathered, Closed, TooDeep, Replaced, Computed};
+ghost use lib.ListN.{length, getD, take, drop};
+ghost use Rattle.rewrite.specs.Vars.{varsOf, Sound, startAt};
+ghost use Rattle.rewrite.specs.Arena.{NodesAt, overBy, argumentsIn, Gathered, Closed, TooDeep, Replaced, Computed};
 
-// The variables of an open call, how many nodes are live, and where free work memory begins.
+// What is open: how many variables are bound, how many nodes are live, and where free work memory begins.
 pub struct Frame {
-    pub vars: Vars,
+    pub bound: usize,
     pub live: usize,
     pub top: usize,
 }
 
-// The arguments of an application, and how many nodes they have.
+// How many arguments an application has, and how many nodes they have.
 pub struct Args {
-    pub vars: Vars,
+    pub bound: usize,
     pub total: usize,
 }
 
@@ -83,55 +82,45 @@ pub fn over(n: usize, live: usize) -> u32
     0
 }
 
-// No arguments.
-fn no_args() -> Args
-    ensures { λ r. ⌜ r ≡ record { vars = record { n = 0; starts = replicate 16 0 }; total = 0 } ⌝ }
+// The places of the n variables that stand in the pairs from `at` on, at most 16.
+pub fn gather(
+    w: &[u32],
+    pairs: &[u32],
+    at: usize,
+    n: u32,
+    places: &[u32; MOST_VARIABLES],
+    bound: usize,
+    given: &mut [u32; MOST_VARIABLES],
+) -> Args
+    requires { ⌜ (at < 2 ^ 40) × Sound (varsOf (now places) bound) × (length (now given) ≡ 16) ⌝ }
+    ensures { λ r. ⌜ Gathered (now (w .entry)) (now (pairs .entry)) at n (varsOf (now (places .entry)) bound) (argumentsIn (now (given .exit)) r) ⌝ }
 {
-    let args = Vars {
-        n: 0,
-        starts: [0u32; MOST_VARIABLES],
-    };
-    Args {
-        vars: args,
-        total: 0,
-    }
-}
-
-// The n variables that stand in the pairs from `at` on, at most 16.
-pub fn gather(w: &[u32], pairs: &[u32], at: usize, n: u32, vars: Vars) -> Args
-    requires { ⌜ (at < 2 ^ 40) × Sound vars ⌝ }
-    ensures { λ r. ⌜ Gathered (now (w .entry)) (now (pairs .entry)) at n vars r ⌝ }
-{
-    let bound = vars.n;
-    let places = vars.starts;
     let count = words::wide(n);
-    if count == 0 {
-        return no_args();
-    }
-    // One argument is most often all: stored alone, it would be waited for when the array is copied.
-    let first = crate::start_in(&places, bound, words::word(pairs, at + 1));
-    let mut starts = [first as u32; MOST_VARIABLES];
-    let mut total = marks::size_in(words::word(w, first));
-    let mut i: usize = 1;
+    let mut total: usize = 0;
+    let mut i: usize = 0;
     while i < count {
         if MOST_VARIABLES <= i {
-            let args = Vars { n: i, starts };
-            return Args { vars: args, total };
+            return Args { bound: i, total };
         }
-        let start = crate::start_in(&places, bound, words::word(pairs, at + 2 * i + 1));
-        starts[i] = start as u32;
+        let start = crate::start_in(places, bound, words::word(pairs, at + 2 * i + 1));
+        given[i] = start as u32;
         total = total + marks::size_in(words::word(w, start));
         i = i + 1;
     }
-    let args = Vars { n: i, starts };
-    Args { vars: args, total }
+    Args { bound: i, total }
 }
 
 // The value of the tree of the variable that the pairs name at `at`.
-pub fn value_of(w: &[u32], pairs: &[u32], at: usize, vars: Vars) -> u32
-    ensures { λ r. ⌜ r ≡ getD (now (w .entry)) (startAt vars (getD (now (pairs .entry)) at 0) + 1) 0 ⌝ }
+pub fn value_of(
+    w: &[u32],
+    pairs: &[u32],
+    at: usize,
+    places: &[u32; MOST_VARIABLES],
+    bound: usize,
+) -> u32
+    ensures { λ r. ⌜ r ≡ getD (now (w .entry)) (startAt (varsOf (now (places .entry)) bound) (getD (now (pairs .entry)) at 0) + 1) 0 ⌝ }
 {
-    let start = crate::start_of(vars, words::word(pairs, at));
+    let start = crate::start_in(places, bound, words::word(pairs, at));
     words::word(w, start + 1)
 }
 

@@ -1,25 +1,21 @@
 // The variables of an open call, and patterns set against trees in work memory.
+//
+// Where the variables' trees stand is kept in one array of 16 places for a call, lent to all that bind or read them; how many are bound goes by value. What a
+// failed attempt bound lies past that count, and is written over.
 use rules::limits::MARK_NEW;
 use rules::limits::MARK_VARIABLE;
 use rules::limits::MOST_VARIABLES;
 ghost use mathlib.Core.Path.{_≡_};
 ghost use Prim.Native.Nat.{_+_, _<_, _≤_, _^_};
 ghost use lib.ListN.{length};
-ghost use Rattle.rewrite.specs.Vars.{startAt, Sound};
-ghost use Rattle.rewrite.specs.Matching.{NewTold, PairTold, failedBy, MatchAnswers, FirstAnswers};
+ghost use Rattle.rewrite.specs.Vars.{varsOf, startAt, Sound};
+ghost use Rattle.rewrite.specs.Matching.{NewTold, PairTold, failedBy, matchIn, MatchAnswers, FirstAnswers};
 ghost use Rattle.rewrite.specs.declared.Verdict as Verdict;
 
 pub mod arena;
 pub mod candidates;
 
 pub const MOST_LIVE: usize = 6144;
-
-// The variables of an open call: where their trees stand, the first n of 16. The places stand first: the pieces in which the struct is
-// copied are then those in which it was stored.
-pub struct Vars {
-    pub starts: [u32; MOST_VARIABLES],
-    pub n: usize,
-}
 
 // What setting a pattern against a tree, or a part's step, comes to; a stop by its number.
 pub enum Verdict {
@@ -28,31 +24,31 @@ pub enum Verdict {
     Stops(u32),
 }
 
-// What a match found, the variables that are bound after it, and how many nodes are live then.
+// What a match found, how many variables are bound after it, and how many nodes are live then.
 pub struct Matched {
     pub verdict: Verdict,
-    pub vars: Vars,
+    pub bound: usize,
     pub live: usize,
 }
 
 // No match, with the variables as they are.
-fn differs(vars: Vars, live: usize) -> Matched
-    ensures { λ r. ⌜ r ≡ record { verdict = Verdict.Differs; vars = vars; live = live } ⌝ }
+fn differs(bound: usize, live: usize) -> Matched
+    ensures { λ r. ⌜ r ≡ record { verdict = Verdict.Differs; bound = bound; live = live } ⌝ }
 {
     Matched {
         verdict: Verdict::Differs,
-        vars,
+        bound,
         live,
     }
 }
 
 // A match.
-fn matches(vars: Vars, live: usize) -> Matched
-    ensures { λ r. ⌜ r ≡ record { verdict = Verdict.Matches; vars = vars; live = live } ⌝ }
+fn matches(bound: usize, live: usize) -> Matched
+    ensures { λ r. ⌜ r ≡ record { verdict = Verdict.Matches; bound = bound; live = live } ⌝ }
 {
     Matched {
         verdict: Verdict::Matches,
-        vars,
+        bound,
         live,
     }
 }
@@ -66,7 +62,7 @@ fn place(x: u32) -> usize
 
 // Where the variable's tree stands, of n that are bound; 2^32 - 1, where none can stand, if it is not bound.
 pub fn start_in(starts: &[u32; MOST_VARIABLES], n: usize, x: u32) -> usize
-    ensures { λ r. ⌜ (r ≡ startAt (record { n = n; starts = now (starts .entry) }) x) × (r < 2 ^ 32) ⌝ }
+    ensures { λ r. ⌜ (r ≡ startAt (varsOf (now (starts .entry)) n) x) × (r < 2 ^ 32) ⌝ }
 {
     let i = words::wide(x);
     if i < n {
@@ -75,14 +71,6 @@ pub fn start_in(starts: &[u32; MOST_VARIABLES], n: usize, x: u32) -> usize
         }
     }
     4294967295
-}
-
-// Where the variable's tree stands.
-pub fn start_of(vars: Vars, x: u32) -> usize
-    ensures { λ r. ⌜ (r ≡ startAt vars x) × (r < 2 ^ 32) ⌝ }
-{
-    let starts = vars.starts;
-    start_in(&starts, vars.n, x)
 }
 
 // How many words a new variable of the type takes up at the node w; 0 if it cannot be bound, 1 if too many nodes would be live.
@@ -141,15 +129,15 @@ fn pair_words(
 }
 
 // What a pair that takes up no words comes to.
-fn failed(passed: usize, vars: Vars, live: usize) -> Matched
-    ensures { λ r. ⌜ r ≡ failedBy passed vars live ⌝ }
+fn failed(passed: usize, bound: usize, live: usize) -> Matched
+    ensures { λ r. ⌜ r ≡ failedBy passed bound live ⌝ }
 {
     if passed == 0 {
-        return differs(vars, live);
+        return differs(bound, live);
     }
     Matched {
         verdict: Verdict::Stops(44),
-        vars,
+        bound,
         live,
     }
 }
@@ -160,28 +148,27 @@ pub fn match_pattern(
     arena: &[u32],
     part: &[u32],
     at: usize,
-    vars: Vars,
+    places: &mut [u32; MOST_VARIABLES],
+    bound: usize,
     held: usize,
 ) -> Matched
-    requires { ⌜ (length (now pairs) ≤ 256) × (at < 2 ^ 20) × Sound vars × (held ≤ 6144) ⌝ }
-    ensures { λ r. ⌜ MatchAnswers (now (pairs .entry)) (now (arena .entry)) (now (part .entry)) at vars held r ⌝ }
+    requires { ⌜ (length (now pairs) ≤ 256) × (at < 2 ^ 20) × Sound (varsOf (now places) bound) × (held ≤ 6144) ⌝ }
+    ensures { λ r. ⌜ MatchAnswers (now (pairs .entry)) (now (arena .entry)) (now (part .entry)) at (varsOf (now (places .entry)) bound) held (matchIn (now (places .exit)) r) ⌝ }
 {
-    let mut starts = vars.starts;
-    let mut n = vars.n;
+    let mut n = bound;
     let mut live = held;
     let mut i: usize = 0;
     let mut p: usize = 0;
     while 2 <= pairs.len() - i {
         let t = pairs[i];
         let v = pairs[i + 1];
-        let start = start_in(&starts, n, v);
+        let start = start_in(places, n, v);
         let passed = pair_words(t, v, arena, start, part, p, n, live);
         if passed < 2 {
-            let env = Vars { n, starts };
-            return failed(passed, env, live);
+            return failed(passed, n, live);
         }
         if t == MARK_NEW {
-            starts[n] = (at + p) as u32;
+            places[n] = (at + p) as u32;
             n = n + 1;
             live = live + passed / 2;
             p = p + passed;
@@ -191,8 +178,7 @@ pub fn match_pattern(
             i = i + 2;
         }
     }
-    let env = Vars { n, starts };
-    matches(env, live)
+    matches(n, live)
 }
 
 // The first node of the type, parent first and left to right, that the pattern matches: a deconstruct that searches.
@@ -202,16 +188,17 @@ pub fn match_first(
     arena: &[u32],
     part: &[u32],
     at: usize,
-    vars: Vars,
+    places: &mut [u32; MOST_VARIABLES],
+    bound: usize,
     live: usize,
 ) -> Matched
-    requires { ⌜ (length (now pairs) ≤ 256) × (at + length (now part) < 2 ^ 20) × Sound vars × (live ≤ 6144) ⌝ }
-    ensures { λ r. ⌜ FirstAnswers ty (now (pairs .entry)) (now (arena .entry)) (now (part .entry)) at vars live r ⌝ }
+    requires { ⌜ (length (now pairs) ≤ 256) × (at + length (now part) < 2 ^ 20) × Sound (varsOf (now places) bound) × (live ≤ 6144) ⌝ }
+    ensures { λ r. ⌜ FirstAnswers ty (now (pairs .entry)) (now (arena .entry)) (now (part .entry)) at (varsOf (now (places .entry)) bound) live (matchIn (now (places .exit)) r) ⌝ }
 {
     let mut p: usize = 0;
     while 2 <= part.len() - p {
         if marks::type_in(part[p]) == ty {
-            let m = match_pattern(pairs, arena, &part[p..], at + p, vars, live);
+            let m = match_pattern(pairs, arena, &part[p..], at + p, places, bound, live);
             let verdict = m.verdict;
             match verdict {
                 Verdict::Matches => {
@@ -228,5 +215,5 @@ pub fn match_first(
             p = p + 2;
         }
     }
-    differs(vars, live)
+    differs(bound, live)
 }

@@ -25,8 +25,7 @@ use Rattle.marks.specs.Marked.{marked, unmarked}
 use Rattle.marks.specs.Post.{Written}
 use Rattle.marks.proofs.Marks.{marked-length}
 use Rattle.marks.proofs.Same.{unmark}
-use Rattle.rewrite.specs.Vars.{EnvAt, startsOf}
-use Rattle.rewrite.specs.declared.Vars.{Vars}
+use Rattle.rewrite.specs.Vars.{Vars, EnvAt, startsOf}
 use Rattle.calls.specs.Engine.{givenOf, Setting, EndedAs, Tree, Left, Calls}
 use Rattle.calls.specs.declared.Called.{Called}
 use Rattle.tamarind.specs.declared.Stop.{Stop}

@@ -1,7 +1,7 @@
 // The product's face: the callable functions, and their exports for C and Rust.
 use calls::Called;
 use meaning::State;
-use rewrite::Vars;
+use rules::limits::MOST_VARIABLES;
 use tables::HEADS;
 use tables::ROWS;
 use words::Check;
@@ -15,7 +15,6 @@ ghost use Rattle.grammar.specs.Grammar.{checkGrammar};
 ghost use Rattle.tree.specs.Reading.{checkTree};
 ghost use Rattle.judgement.specs.Typing.{checkRules};
 ghost use Rattle.meaning.specs.Outcome.{callFits, output};
-ghost use Rattle.rewrite.specs.Vars.{Sound};
 ghost use Rattle.tamarind.specs.Run.{numberOf, inputsOf, memories, Runs, Named, InputsRead, Laid, Answered, Accepted};
 ghost use Rattle.tamarind.specs.Exports.{exported, exportedCheck, exportedCounts, exportedOutcome, RunExported, postsResult, posting, edition};
 
@@ -219,16 +218,6 @@ fn answer_of(c: Called, budget: u32, filled: usize) -> Outcome
     Outcome::Stopped(cause(c.stop), counts)
 }
 
-// The main rule has no arguments.
-fn no_variables() -> Vars
-    ensures { λ r. ⌜ Sound r × (r .n ≡ 0) ⌝ }
-{
-    Vars {
-        n: 0,
-        starts: [0u32; 16],
-    }
-}
-
 // Runs what nothing refuses: the main rule on the tree.
 fn execute(
     grammar: &[u32],
@@ -246,7 +235,8 @@ fn execute(
     let types = words::word(grammar, 0);
     let starts = typing::rule_starts(types, rules, words::word(rules, 0));
     let main = rules::rule_at(&starts, 0);
-    let vars = no_variables();
+    // The main rule has no arguments.
+    let mut places = [0u32; MOST_VARIABLES];
     lay_tree(heads, rows, tree, work);
     let left = State { attempts: budget };
     let c = calls::call(
@@ -259,7 +249,8 @@ fn execute(
         main,
         0,
         tree.len() / 2,
-        vars,
+        &mut places,
+        0,
         0,
         MOST_CALLS - 1,
         left,
@@ -426,7 +417,7 @@ pub extern "C" fn tamarind_run(
     export_run(r)
 }
 
-// Each change that a caller can see raises it.
+// 0 is document 01. A change request that a caller can see sets its own number.
 const EDITION: u32 = 0;
 
 // The edition of these functions: a caller asks whether it was written for this one.

@@ -1,5 +1,5 @@
 -- The parts of the proof that `calls::any_succeeds` meets its contract. Assumes nothing.
-use Rattle.calls.specs.Engine.{givenOf}
+use Rattle.calls.specs.Engine.{givenOf, openOf}
 use Rattle.calls.proofs.Testing.{Ended, Trying, trying-start, trying-stop, trying-more, trying-end}
 use Prim.Native.Nat.{ℕ}
 use mathlib.Core.Path.{sym, _∙_, subst}
@@ -17,17 +17,17 @@ abbrev pub any-succeeds-claims : ℕ → any-succeeds-lts.Claims
 any-succeeds-claims t = (chain-count-reads.Asked, chain-count-reads.Learnt, succeeds-below t, succeeds.Post, word-reads.Asked, word-reads.Learnt, wide-reads.Asked, wide-reads.Learnt)
 
 abbrev pub any-succeeds-Inv-loop : any-succeeds-lts.InvT-loop
-any-succeeds-Inv-loop heads rows types book starts w₀ pairs start n frame deep k₀ at₀ fuel₀ w k at fuel = Trying (givenOf heads rows types book starts) w₀ pairs start n frame deep fuel₀ w k at fuel
+any-succeeds-Inv-loop heads rows types book starts w₀ pairs start n places frame deep k₀ at₀ fuel₀ w k at fuel = Trying (givenOf heads rows types book starts) w₀ pairs start n (openOf places frame) deep fuel₀ w k at fuel
 
 abbrev pub any-succeeds-μ-loop : any-succeeds-lts.MeasureT-loop
-any-succeeds-μ-loop heads rows types book starts w₀ pairs start n frame deep k₀ at₀ fuel₀ w k at fuel = k
+any-succeeds-μ-loop heads rows types book starts w₀ pairs start n places frame deep k₀ at₀ fuel₀ w k at fuel = k
 
 pub any-succeeds-chain-count-requires : (t : ℕ) → any-succeeds-lts.Need-chain-count-requires (any-succeeds-claims t) (any-succeeds-at t) any-succeeds.Post any-succeeds-Inv-loop any-succeeds-μ-loop
 any-succeeds-chain-count-requires t c κs = search needs
 
 pub any-succeeds-loop-holds : (t : ℕ) → any-succeeds-lts.Need-loop-holds (any-succeeds-claims t) (any-succeeds-at t) any-succeeds.Post any-succeeds-Inv-loop any-succeeds-μ-loop
 any-succeeds-loop-holds t c = let a = c .before .before .before .before .args in
-    trying-start (givenOf (a .heads .now) (a .rows .now) (a .types) (a .book .now) (a .starts .now)) (a .w .now) (a .pairs .now) (a .start) (a .n) (a .frame) (a .deep) (a .left)
+    trying-start (givenOf (a .heads .now) (a .rows .now) (a .types) (a .book .now) (a .starts .now)) (a .w .now) (a .pairs .now) (a .start) (a .n) (openOf (a .places .now) (a .frame)) (a .deep) (a .left)
     (c .chain-count .result) (c .chain-count .ensures .0) (c .chain-count .ensures .1)
 
 pub any-succeeds-succeeds-requires : (t : ℕ) → any-succeeds-lts.Need-succeeds-requires (any-succeeds-claims t) (any-succeeds-at t) any-succeeds.Post any-succeeds-Inv-loop any-succeeds-μ-loop
@@ -42,7 +42,7 @@ any-succeeds-same-length t c = omega (arith, c .before .before .before .before .
 
 pub any-succeeds-returns : (t : ℕ) → any-succeeds-lts.Need-returns (any-succeeds-claims t) (any-succeeds-at t) any-succeeds.Post any-succeeds-Inv-loop any-succeeds-μ-loop
 any-succeeds-returns t c = let a = c .before .before .before .before .before .before .before .before .before .before .before .before .args in
-    trying-stop (givenOf (a .heads .now) (a .rows .now) (a .types) (a .book .now) (a .starts .now)) (a .w .now) (a .pairs .now) (a .start) (a .n) (a .frame) (a .deep) (a .left)
+    trying-stop (givenOf (a .heads .now) (a .rows .now) (a .types) (a .book .now) (a .starts .now)) (a .w .now) (a .pairs .now) (a .start) (a .n) (openOf (a .places .now) (a .frame)) (a .deep) (a .left)
     _ _ _ _ (c .before .before .before .before .before .before .before .loop .inv) (c .before .before .before .before .before .before .loop-test .taken) (c .before .before .before .before .succeeds .last .1 .1 .1 .1 .1 .0) (c .before .before .before .before .succeeds .result) (c .before .before .before .before .succeeds .ensures) (subst Ended (sym (c .enum-told .given .1)) tt)
 
 pub any-succeeds-enum-told-2 : (t : ℕ) → any-succeeds-lts.Need-enum-told-2 (any-succeeds-claims t) (any-succeeds-at t) any-succeeds.Post any-succeeds-Inv-loop any-succeeds-μ-loop
@@ -53,7 +53,7 @@ any-succeeds-same-length-2 t c = omega (arith, c .before .before .before .before
 
 pub any-succeeds-returns-2 : (t : ℕ) → any-succeeds-lts.Need-returns-2 (any-succeeds-claims t) (any-succeeds-at t) any-succeeds.Post any-succeeds-Inv-loop any-succeeds-μ-loop
 any-succeeds-returns-2 t c = let a = c .before .before .before .before .before .before .before .before .before .before .before .before .args in
-    trying-stop (givenOf (a .heads .now) (a .rows .now) (a .types) (a .book .now) (a .starts .now)) (a .w .now) (a .pairs .now) (a .start) (a .n) (a .frame) (a .deep) (a .left)
+    trying-stop (givenOf (a .heads .now) (a .rows .now) (a .types) (a .book .now) (a .starts .now)) (a .w .now) (a .pairs .now) (a .start) (a .n) (openOf (a .places .now) (a .frame)) (a .deep) (a .left)
     _ _ _ _ (c .before .before .before .before .before .before .before .loop .inv) (c .before .before .before .before .before .before .loop-test .taken) (c .before .before .before .before .succeeds .last .1 .1 .1 .1 .1 .0) (c .before .before .before .before .succeeds .result) (c .before .before .before .before .succeeds .ensures) (subst Ended (sym (c .enum-told2 .given .1)) tt)
 
 pub any-succeeds-enum-told-3 : (t : ℕ) → any-succeeds-lts.Need-enum-told-3 (any-succeeds-claims t) (any-succeeds-at t) any-succeeds.Post any-succeeds-Inv-loop any-succeeds-μ-loop
@@ -85,7 +85,7 @@ any-succeeds-loop-less t c = omega arith
 
 pub any-succeeds-loop-again : (t : ℕ) → any-succeeds-lts.Need-loop-again (any-succeeds-claims t) (any-succeeds-at t) any-succeeds.Post any-succeeds-Inv-loop any-succeeds-μ-loop
 any-succeeds-loop-again t c = let a = c .before .before .before .before .before .before .before .before .before .before .before .before .before .before .before .args in
-    trying-more (givenOf (a .heads .now) (a .rows .now) (a .types) (a .book .now) (a .starts .now)) (a .w .now) (a .pairs .now) (a .start) (a .n) (a .frame) (a .deep) (a .left)
+    trying-more (givenOf (a .heads .now) (a .rows .now) (a .types) (a .book .now) (a .starts .now)) (a .w .now) (a .pairs .now) (a .start) (a .n) (openOf (a .places .now) (a .frame)) (a .deep) (a .left)
     _ _ _ _ (c .before .before .before .before .before .before .before .before .before .before .loop .inv) (c .before .before .before .before .before .before .before .before .before .loop-test .taken) (c .before .before .before .before .before .before .before .succeeds .last .1 .1 .1 .1 .1 .0) (c .before .before .before .before .before .before .before .succeeds .result) (c .before .before .before .before .before .before .before .succeeds .ensures) (c .before .before .before .enum-told3 .given .1) (c .wide .result) (c .wide .ensures ∙ c .before .word .ensures) (omega arith)
 
 pub any-succeeds-same-length-3 : (t : ℕ) → any-succeeds-lts.Need-same-length-3 (any-succeeds-claims t) (any-succeeds-at t) any-succeeds.Post any-succeeds-Inv-loop any-succeeds-μ-loop
@@ -93,5 +93,5 @@ any-succeeds-same-length-3 t c = c .before .loop .inv .long
 
 pub any-succeeds-returns-3 : (t : ℕ) → any-succeeds-lts.Need-returns-3 (any-succeeds-claims t) (any-succeeds-at t) any-succeeds.Post any-succeeds-Inv-loop any-succeeds-μ-loop
 any-succeeds-returns-3 t c = let a = c .before .before .before .before .before .before .args in
-    trying-end (givenOf (a .heads .now) (a .rows .now) (a .types) (a .book .now) (a .starts .now)) (a .w .now) (a .pairs .now) (a .start) (a .n) (a .frame) (a .deep) (a .left)
+    trying-end (givenOf (a .heads .now) (a .rows .now) (a .types) (a .book .now) (a .starts .now)) (a .w .now) (a .pairs .now) (a .start) (a .n) (openOf (a .places .now) (a .frame)) (a .deep) (a .left)
     _ _ _ _ (c .before .loop .inv) (omega arith)

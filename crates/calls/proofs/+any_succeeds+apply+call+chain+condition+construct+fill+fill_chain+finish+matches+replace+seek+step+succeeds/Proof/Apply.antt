@@ -1,4 +1,5 @@
 -- The parts of the proof that `calls::apply` meets its contract. Assumes nothing.
+use Rattle.rewrite.specs.Vars.{varsOf}
 use Prim.Native.Nat.{_+_}
 use mathlib.Core.Path.{refl}
 use lib.ListN.{getD}
@@ -29,7 +30,7 @@ apply-building-requires t c κs = search needs
 
 pub apply-returns : (t : ℕ) → apply-lts.Need-returns (apply-claims t) (apply-at t) apply.Post
 apply-returns t c = let a = c .before .before .before .before .before .before .before .args in let p = c .before .before .before .before .before .before .before .pre .1 in
-    apply-deep (givenOf (a .heads .now) (a .rows .now) (a .types) (a .book .now) (a .starts .now)) (a .w .now) (a .pairs .now) (a .at) (a .base) (a .n) (a .vars) (a .besides) (a .deep) (a .left) (p .3) (p .1)
+    apply-deep (givenOf (a .heads .now) (a .rows .now) (a .types) (a .book .now) (a .starts .now)) (a .w .now) (a .pairs .now) (a .at) (a .base) (a .n) (varsOf (a .places .now) (a .bound)) (a .besides) (a .deep) (a .left) (p .3) (p .1)
     (c .before .before .before .word .result) (getD (a .pairs .now) (a .at + 1) 0) (c .before .before .before .word .ensures) refl (c .before .before .if1 .taken) (c .before .if2 .taken) (c .building .result) (c .building .ensures)
 
 pub apply-add-gather : (t : ℕ) → apply-lts.Need-add-gather (apply-claims t) (apply-at t) apply.Post
@@ -42,7 +43,7 @@ pub apply-word-requires-2 : (t : ℕ) → apply-lts.Need-word-requires-2 (apply-
 apply-word-requires-2 t c κs = search needs
 
 pub apply-gather-requires : (t : ℕ) → apply-lts.Need-gather-requires (apply-claims t) (apply-at t) apply.Post
-apply-gather-requires t c κs = (omega arith, c .before .before .before .before .before .before .before .before .pre .1 .0)
+apply-gather-requires t c κs = (omega arith, c .before .before .before .before .before .before .before .before .before .pre .1 .0, refl)
 
 pub apply-rule-at-requires : (t : ℕ) → apply-lts.Need-rule-at-requires (apply-claims t) (apply-at t) apply.Post
 apply-rule-at-requires t c κs = search needs
@@ -63,9 +64,9 @@ pub apply-same-length : (t : ℕ) → apply-lts.Need-same-length (apply-claims t
 apply-same-length t c = search needs
 
 pub apply-returns-2 : (t : ℕ) → apply-lts.Need-returns-2 (apply-claims t) (apply-at t) apply.Post
-apply-returns-2 t c = let a = c .before .before .before .before .before .before .before .before .before .before .before .before .before .before .before .before .before .args in let p = c .before .before .before .before .before .before .before .before .before .before .before .before .before .before .before .before .before .pre .1 in
-    apply-called (givenOf (a .heads .now) (a .rows .now) (a .types) (a .book .now) (a .starts .now)) (a .w .now) (a .pairs .now) (a .at) (a .base) (a .n) (a .vars) (a .besides) (a .deep) (a .left) (p .3) (p .1)
-    (c .before .before .before .before .before .before .before .before .before .before .before .before .before .word .result) (c .before .before .before .before .before .before .before .before .before .word2 .result) (c .before .before .before .before .before .before .before .before .before .before .before .before .before .word .ensures) (c .before .before .before .before .before .before .before .before .before .word2 .ensures) (c .before .before .before .before .before .before .before .before .before .before .before .before .if1 .taken) (c .before .before .before .before .before .before .before .before .before .before .before .if2 .left) (c .before .before .before .before .before .before .before .before .gather .result) (c .before .before .before .before .before .before .before .before .gather .ensures) (c .before .before .before .before .before .before .rule-at .result) (c .before .before .before .before .before .before .rule-at .ensures)
+apply-returns-2 t c = let a = c .before .before .before .before .before .before .before .before .before .before .before .before .before .before .before .before .before .before .args in let p = c .before .before .before .before .before .before .before .before .before .before .before .before .before .before .before .before .before .before .pre .1 in
+    apply-called (givenOf (a .heads .now) (a .rows .now) (a .types) (a .book .now) (a .starts .now)) (a .w .now) (a .pairs .now) (a .at) (a .base) (a .n) (varsOf (a .places .now) (a .bound)) (a .besides) (a .deep) (a .left) (p .3) (p .1)
+    (c .before .before .before .before .before .before .before .before .before .before .before .before .before .before .word .result) (c .before .before .before .before .before .before .before .before .before .before .before .word2 .result) (c .before .before .before .before .before .before .before .before .before .before .before .before .before .before .word .ensures) (c .before .before .before .before .before .before .before .before .before .before .before .word2 .ensures) (c .before .before .before .before .before .before .before .before .before .before .before .before .before .if1 .taken) (c .before .before .before .before .before .before .before .before .before .before .before .before .if2 .left) _ (c .before .before .before .before .before .before .before .before .gather .ensures) (c .before .before .before .before .before .before .before .rule-at .result) (c .before .before .before .before .before .before .before .rule-at .ensures)
     (c .before .before .before .call .last .1 .1 .1 .1 .1 .0) (c .before .before .before .call .result) (c .before .before .before .call .ensures) (c .building2 .result) (c .building2 .ensures)
 
 pub apply-add-value-of : (t : ℕ) → apply-lts.Need-add-value-of (apply-claims t) (apply-at t) apply.Post
@@ -85,6 +86,6 @@ apply-same-length-2 t c = search needs
 
 pub apply-returns-3 : (t : ℕ) → apply-lts.Need-returns-3 (apply-claims t) (apply-at t) apply.Post
 apply-returns-3 t c = let a = c .before .before .before .before .before .before .before .before .before .before .before .before .args in let p = c .before .before .before .before .before .before .before .before .before .before .before .before .pre .1 in
-    apply-computed (givenOf (a .heads .now) (a .rows .now) (a .types) (a .book .now) (a .starts .now)) (a .w .now) (a .pairs .now) (a .at) (a .base) (a .n) (a .vars) (a .besides) (a .deep) (a .left) (p .3) (p .1)
+    apply-computed (givenOf (a .heads .now) (a .rows .now) (a .types) (a .book .now) (a .starts .now)) (a .w .now) (a .pairs .now) (a .at) (a .base) (a .n) (varsOf (a .places .now) (a .bound)) (a .besides) (a .deep) (a .left) (p .3) (p .1)
     (c .before .before .before .before .before .before .before .before .word .result) (getD (a .pairs .now) (a .at + 1) 0) (c .before .before .before .before .before .before .before .before .word .ensures) refl (c .before .before .before .before .before .before .before .if1 .left) (p .0) (c .before .before .before .before .before .value-of .result) (c .before .before .before .before .before .value-of .ensures)
     (c .before .before .before .compute-at .last .0) (c .before .before .before .compute-at .result) (c .before .before .before .compute-at .ensures) (c .building3 .result) (c .building3 .ensures)

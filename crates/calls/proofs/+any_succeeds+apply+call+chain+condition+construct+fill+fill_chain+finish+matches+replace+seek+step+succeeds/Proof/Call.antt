@@ -1,8 +1,13 @@
 -- The parts of the proof that `calls::call` meets its contract. Assumes nothing.
+use Rattle.calls.proofs.Frames.{Still, still-after}
+use Rattle.rewrite.proofs.Matcher.{kept-same}
+use Rattle.calls.proofs.Searching.{seeks-still}
+use Rattle.rewrite.specs.Vars.{varsOf}
+use mathlib.Core.Path.{refl}
 use Prim.Native.Nat.{ℕ, _<_}
 use native.Mathlib.Omega.{arith}
 use borrow.Author.Needs.{needs}
-use Rattle.calls.specs.Engine.{givenOf}
+use Rattle.calls.specs.Engine.{givenOf, seekingIn}
 use Rattle.calls.proofs.Rounds.{Calling, Searched, Placed, calling-start, calls-over, searched, placed}
 use Rattle.calls.proofs.call.Reads as call
 use Rattle.calls.proofs.replace.Reads as replace
@@ -17,11 +22,11 @@ abbrev pub call-claims : ℕ → call-lts.Claims
 call-claims t = (plan-of-reads.Asked, plan-of-reads.Learnt, again-reads.Asked, again-reads.Learnt, calling-reads.Asked, calling-reads.Learnt, seek-below t, seek.Post, replace-below t, replace.Post)
 
 abbrev pub call-Inv-loop : call-lts.InvT-loop
-call-Inv-loop heads rows types book starts w₀ at base n vars besides deep plan repeats nodes₀ fuel₀ count₀ w nodes fuel count =
-    Calling (givenOf heads rows types book starts) w₀ at base n vars besides deep fuel₀ w nodes fuel count
+call-Inv-loop heads rows types book starts w₀ at base n places₀ bound besides deep plan repeats nodes₀ fuel₀ count₀ w places nodes fuel count =
+    Calling (givenOf heads rows types book starts) w₀ at base n (varsOf places₀ bound) besides deep fuel₀ w nodes fuel count × Still places₀ places bound
 
 abbrev pub call-μ-loop : call-lts.MeasureT-loop
-call-μ-loop heads rows types book starts w₀ at base n vars besides deep plan repeats nodes₀ fuel₀ count₀ w nodes fuel count = fuel .attempts
+call-μ-loop heads rows types book starts w₀ at base n places₀ bound besides deep plan repeats nodes₀ fuel₀ count₀ w places nodes fuel count = fuel .attempts
 
 pub call-plan-of-requires : (t : ℕ) → call-lts.Need-plan-of-requires (call-claims t) (call-at t) call.Post call-Inv-loop call-μ-loop
 call-plan-of-requires t c κs = search needs
@@ -32,7 +37,7 @@ call-again-requires t c κs = search needs
 pub call-loop-holds : (t : ℕ) → call-lts.Need-loop-holds (call-claims t) (call-at t) call.Post call-Inv-loop call-μ-loop
 call-loop-holds t c =
     let a = c .before .before .before .before .args in
-    calling-start (givenOf (a .heads .now) (a .rows .now) (a .types) (a .book .now) (a .starts .now)) (a .w .now) (a .at) (a .base) (a .n) (a .vars) (a .besides) (a .deep) (a .left) (c .before .before .before .before .pre .1 .4)
+    (calling-start (givenOf (a .heads .now) (a .rows .now) (a .types) (a .book .now) (a .starts .now)) (a .w .now) (a .at) (a .base) (a .n) (varsOf (a .places .now) (a .bound)) (a .besides) (a .deep) (a .left) (c .before .before .before .before .pre .1 .4), (c .before .before .before .before .pre .1 .0, kept-same (varsOf (a .places .now) (a .bound))))
 
 pub call-add-live : (t : ℕ) → call-lts.Need-add-live (call-claims t) (call-at t) call.Post call-Inv-loop call-μ-loop
 call-add-live t c = search needs
@@ -47,26 +52,26 @@ pub call-returns : (t : ℕ) → call-lts.Need-returns (call-claims t) (call-at 
 call-returns t c =
     let a = c .before .before .before .before .before .before .before .args in
     let i = c .before .before .loop in
-    calls-over (givenOf (a .heads .now) (a .rows .now) (a .types) (a .book .now) (a .starts .now)) (a .w .now) (a .at) (a .base) (a .n) (a .vars) (a .besides) (a .deep) (a .left) (i .w) (i .nodes) (i .fuel) (i .count) (i .inv) (c .calling .result) (c .calling .ensures) (c .before .if1 .taken)
+    calls-over (givenOf (a .heads .now) (a .rows .now) (a .types) (a .book .now) (a .starts .now)) (a .w .now) (a .at) (a .base) (a .n) (varsOf (a .places .now) (a .bound)) (a .besides) (a .deep) (a .left) (i .w) (i .nodes) (i .fuel) (i .count) (i .inv .0) (c .calling .result) (c .calling .ensures) (c .before .if1 .taken)
 
-pub call-mul-t29 : (t : ℕ) → call-lts.Need-mul-t29 (call-claims t) (call-at t) call.Post call-Inv-loop call-μ-loop
-call-mul-t29 t c = search needs
+pub call-mul-t30 : (t : ℕ) → call-lts.Need-mul-t30 (call-claims t) (call-at t) call.Post call-Inv-loop call-μ-loop
+call-mul-t30 t c = search needs
 
-pub call-add-t30 : (t : ℕ) → call-lts.Need-add-t30 (call-claims t) (call-at t) call.Post call-Inv-loop call-μ-loop
-call-add-t30 t c = search needs
+pub call-add-t31 : (t : ℕ) → call-lts.Need-add-t31 (call-claims t) (call-at t) call.Post call-Inv-loop call-μ-loop
+call-add-t31 t c = search needs
 
 pub call-seek-requires : (t : ℕ) → call-lts.Need-seek-requires (call-claims t) (call-at t) call.Post call-Inv-loop call-μ-loop
 call-seek-requires t c κs = search needs
 
 -- what a search leads to
 call-searched : (t : ℕ) (c : call-lts.After-seek (call-claims t) (call-at t) call.Post call-Inv-loop call-μ-loop)
-    → let a = c .before .before .before .before .before .before .before .before .args in
-    let i = c .before .before .before .loop in
-    Searched (givenOf (a .heads .now) (a .rows .now) (a .types) (a .book .now) (a .starts .now)) (a .w .now) (a .at) (a .base) (a .n) (a .vars) (a .besides) (a .deep) (a .left) (i .nodes) (i .count) (c .seek .last .1 .1 .1 .1 .1 .0) (c .seek .result)
+    → let a = c .before .before .before .before .before .before .before .before .before .args in
+    let i = c .before .before .before .before .loop in
+    Searched (givenOf (a .heads .now) (a .rows .now) (a .types) (a .book .now) (a .starts .now)) (a .w .now) (a .at) (a .base) (a .n) (varsOf (a .places .now) (a .bound)) (a .besides) (a .deep) (a .left) (i .nodes) (i .count) (c .seek .last .1 .1 .1 .1 .1 .0) (seekingIn (c .seek .last .1 .1 .1 .1 .1 .1 .1 .1 .1 .0) (c .seek .result))
 call-searched t c =
-    let a = c .before .before .before .before .before .before .before .before .args in
-    let i = c .before .before .before .loop in
-    searched (givenOf (a .heads .now) (a .rows .now) (a .types) (a .book .now) (a .starts .now)) (a .w .now) (a .at) (a .base) (a .n) (a .vars) (a .besides) (a .deep) (a .left) (i .w) (i .nodes) (i .fuel) (i .count) (i .inv) (c .before .before .if1 .left) (c .before .before .before .before .before .plan-of .result) (c .before .before .before .before .before .plan-of .ensures .1) (c .seek .last .1 .1 .1 .1 .1 .0) (c .seek .result) (c .seek .ensures)
+    let a = c .before .before .before .before .before .before .before .before .before .args in
+    let i = c .before .before .before .before .loop in
+    searched (givenOf (a .heads .now) (a .rows .now) (a .types) (a .book .now) (a .starts .now)) (a .w .now) (a .at) (a .base) (a .n) (varsOf (a .places .now) (a .bound)) (a .besides) (a .deep) (a .left) (i .w) (i .nodes) (i .fuel) (i .count) (i .inv .0) (c .before .before .before .if1 .left) (c .before .before .before .before .before .before .plan-of .result) (c .before .before .before .before .before .before .plan-of .ensures .1) (c .seek .last .1 .1 .1 .1 .1 .0) _ (seeks-still (varsOf (a .places .now) (a .bound)) (varsOf (i .places) (a .bound)) refl (i .inv .1 .1) (c .seek .ensures))
 
 pub call-enum-told : (t : ℕ) → call-lts.Need-enum-told (call-claims t) (call-at t) call.Post call-Inv-loop call-μ-loop
 call-enum-told t c = search needs
@@ -97,23 +102,23 @@ call-enum-known-found-2 t c = search needs
 
 pub call-replace-requires : (t : ℕ) → call-lts.Need-replace-requires (call-claims t) (call-at t) call.Post call-Inv-loop call-μ-loop
 call-replace-requires t c κs =
-    let q = c .before .before .before .before .before .before .before .before .before .before .before .before .before .before .before .pre .1 in
-    let x = call-searched t (c .before .before .before .before .before .before .before) in
-    let i = c .before .before .before .before .before .before .before .before .before .before .loop .inv in
-    let p = x .place (c .before .before .before .found2 .given .0 .0) (c .before .before .before .found2 .given .1) in
-    (omega (arith, c .before .before .before .before .before .before .before .before .before .before .before .before .before .before .before .pre .0), (x .room (q .5), q .6, p .0, i .few, p .1))
+    let q = c .before .before .before .before .before .before .before .before .before .before .before .before .before .before .before .before .before .pre .1 in
+    let x = call-searched t (c .before .before .before .before .before .before .before .before) in
+    let i = c .before .before .before .before .before .before .before .before .before .before .before .before .loop .inv .0 in
+    let p = x .place (c .before .before .before .before .found2 .given .0 .0) (c .before .before .before .before .found2 .given .1) in
+    (omega (arith, c .before .before .before .before .before .before .before .before .before .before .before .before .before .before .before .before .before .pre .0), (x .room (q .5), q .6, p .0, i .few, p .1))
 
 -- .. and a replacement
 call-placed : (t : ℕ) (c : call-lts.After-replace (call-claims t) (call-at t) call.Post call-Inv-loop call-μ-loop)
-    → let a = c .before .before .before .before .before .before .before .before .before .before .before .before .before .before .before .before .args in
-    let i = c .before .before .before .before .before .before .before .before .before .before .before .loop in
-    Placed (givenOf (a .heads .now) (a .rows .now) (a .types) (a .book .now) (a .starts .now)) (a .w .now) (a .at) (a .base) (a .n) (a .vars) (a .besides) (a .deep) (a .left) (i .nodes) (i .fuel) (i .count) (c .before .before .before .before .before .before .before .before .before .before .before .before .again .result) (c .replace .last .1 .1 .1 .1 .1 .0) (c .replace .result)
+    → let a = c .before .before .before .before .before .before .before .before .before .before .before .before .before .before .before .before .before .before .args in
+    let i = c .before .before .before .before .before .before .before .before .before .before .before .before .before .loop in
+    Placed (givenOf (a .heads .now) (a .rows .now) (a .types) (a .book .now) (a .starts .now)) (a .w .now) (a .at) (a .base) (a .n) (varsOf (a .places .now) (a .bound)) (a .besides) (a .deep) (a .left) (i .nodes) (i .fuel) (i .count) (c .before .before .before .before .before .before .before .before .before .before .before .before .before .before .again .result) (c .replace .last .1 .1 .1 .1 .1 .0) (c .replace .result)
 call-placed t c =
-    let a = c .before .before .before .before .before .before .before .before .before .before .before .before .before .before .before .before .args in
-    let i = c .before .before .before .before .before .before .before .before .before .before .before .loop in
-    let s = c .before .before .before .before .before .before .before .before .seek in
-    placed (givenOf (a .heads .now) (a .rows .now) (a .types) (a .book .now) (a .starts .now)) (a .w .now) (a .at) (a .base) (a .n) (a .vars) (a .besides) (a .deep) (a .left) (i .w) (i .nodes) (i .fuel) (i .count) (i .inv) (c .before .before .before .before .before .before .before .before .before .before .if1 .left) (c .before .before .before .before .before .before .before .before .before .before .before .before .before .plan-of .result) (c .before .before .before .before .before .before .before .before .before .before .before .before .before .plan-of .ensures .1) (s .last .1 .1 .1 .1 .1 .0) (s .result) (s .ensures)
-    (c .before .before .before .before .found2 .given .0 .0) (c .before .before .before .before .found2 .given .1) (c .replace .last .1 .1 .1 .1 .1 .0) (c .replace .result) (c .replace .ensures) (c .before .before .before .before .before .before .before .before .before .before .before .before .again .result) (c .before .before .before .before .before .before .before .before .before .before .before .before .again .ensures)
+    let a = c .before .before .before .before .before .before .before .before .before .before .before .before .before .before .before .before .before .before .args in
+    let i = c .before .before .before .before .before .before .before .before .before .before .before .before .before .loop in
+    let s = c .before .before .before .before .before .before .before .before .before .seek in
+    placed (givenOf (a .heads .now) (a .rows .now) (a .types) (a .book .now) (a .starts .now)) (a .w .now) (a .at) (a .base) (a .n) (varsOf (a .places .now) (a .bound)) (a .besides) (a .deep) (a .left) (i .w) (i .nodes) (i .fuel) (i .count) (i .inv .0) (c .before .before .before .before .before .before .before .before .before .before .before .before .if1 .left) (c .before .before .before .before .before .before .before .before .before .before .before .before .before .before .before .plan-of .result) (c .before .before .before .before .before .before .before .before .before .before .before .before .before .before .before .plan-of .ensures .1) (s .last .1 .1 .1 .1 .1 .0) _ (seeks-still (varsOf (a .places .now) (a .bound)) (varsOf (i .places) (a .bound)) refl (i .inv .1 .1) (s .ensures))
+    (c .before .before .before .before .before .found2 .given .0 .0) (c .before .before .before .before .before .found2 .given .1) (c .replace .last .1 .1 .1 .1 .1 .0) (c .replace .result) (c .replace .ensures) (c .before .before .before .before .before .before .before .before .before .before .before .before .before .before .again .result) (c .before .before .before .before .before .before .before .before .before .before .before .before .before .before .again .ensures)
 
 pub call-calling-requires-4 : (t : ℕ) → call-lts.Need-calling-requires-4 (call-claims t) (call-at t) call.Post call-Inv-loop call-μ-loop
 call-calling-requires-4 t c κs = search needs
@@ -127,7 +132,7 @@ call-returns-4 t c = call-placed t (c .before .before .before .before .before) .
 pub call-add-count : (t : ℕ) → call-lts.Need-add-count (call-claims t) (call-at t) call.Post call-Inv-loop call-μ-loop
 call-add-count t c =
     let h = call-placed t (c .before .before .before .before .before) .counted in
-    let l : c .before .before .before .before .before .before .before .before .before .before .before .before .before .before .before .before .before .before .before .before .before .args .left .attempts < 4294967296 = search (needs, c .before .before .before .before .before .before .before .before .before .before .before .before .before .before .before .before .before .before .before .before .before .good) in
+    let l : c .before .before .before .before .before .before .before .before .before .before .before .before .before .before .before .before .before .before .before .before .before .before .before .args .left .attempts < 4294967296 = search (needs, c .before .before .before .before .before .before .before .before .before .before .before .before .before .before .before .before .before .before .before .before .before .before .before .good) in
     omega arith
 
 pub call-calling-requires-5 : (t : ℕ) → call-lts.Need-calling-requires-5 (call-claims t) (call-at t) call.Post call-Inv-loop call-μ-loop
@@ -143,4 +148,4 @@ pub call-loop-less : (t : ℕ) → call-lts.Need-loop-less (call-claims t) (call
 call-loop-less t c = call-placed t (c .before .before .before .before .before .before) .spent
 
 pub call-loop-again : (t : ℕ) → call-lts.Need-loop-again (call-claims t) (call-at t) call.Post call-Inv-loop call-μ-loop
-call-loop-again t c = call-placed t (c .before .before .before .before .before .before) .again (c .before .before .if2 .left) (c .if3 .left)
+call-loop-again t c = let g = c .before .before .before .before .before .before .before .before .before .before .before .before .before .before .before .seek .ensures .grown in (call-placed t (c .before .before .before .before .before .before) .again (c .before .before .if2 .left) (c .if3 .left), still-after (c .before .before .before .before .before .before .before .before .before .before .before .before .before .before .before .before .before .before .before .loop .inv .1) (g .sound) (g .kept))

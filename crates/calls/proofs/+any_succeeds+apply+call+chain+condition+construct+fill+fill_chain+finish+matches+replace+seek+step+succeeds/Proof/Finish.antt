@@ -8,7 +8,7 @@ use Rattle.calls.proofs.+any_succeeds+apply+call+chain+condition+constr
 use Rattle.rewrite.proofs.arena.close.Reads as close-reads
 use Rattle.calls.proofs.building.Reads as building-reads
 use Rattle.calls.proofs.+any_succeeds+apply+call+chain+condition+construct+fill+fill_chain+finish+matches+replace+seek+step+succeeds.Proof.Common.{finish-at, fill-below}
-use Rattle.calls.specs.Engine.{givenOf}
+use Rattle.calls.specs.Engine.{givenOf, openOf}
 use Rattle.calls.proofs.Finishing.{finishes-stopped, finishes-closed}
 
 abbrev pub finish-claims : ℕ → finish-lts.Claims
@@ -23,7 +23,7 @@ finish-same-length t c = search needs
 pub finish-returns : (t : ℕ) → finish-lts.Need-returns (finish-claims t) (finish-at t) finish.Post
 finish-returns t c =
     let a = c .before .before .before .before .before .before .before .before .args in
-    finishes-stopped (givenOf (a .heads .now) (a .rows .now) (a .types) (a .book .now) (a .starts .now)) (a .w .now) (c .before .before .before .before .fill .last .1 .1 .1 .1 .1 .0) (a .at) (a .frame) (a .deep) (a .left) (c .before .before .before .before .fill .result) (c .before .before .before .before .fill .ensures) (c .if1 .taken)
+    finishes-stopped (givenOf (a .heads .now) (a .rows .now) (a .types) (a .book .now) (a .starts .now)) (a .w .now) (c .before .before .before .before .fill .last .1 .1 .1 .1 .1 .0) (a .at) (openOf (a .places .now) (a .frame)) (a .deep) (a .left) (c .before .before .before .before .fill .result) (c .before .before .before .before .fill .ensures) (c .if1 .taken)
 
 pub finish-close-requires : (t : ℕ) → finish-lts.Need-close-requires (finish-claims t) (finish-at t) finish.Post
 finish-close-requires t c κs =
@@ -40,4 +40,4 @@ finish-same-length-2 t c = search needs
 pub finish-returns-2 : (t : ℕ) → finish-lts.Need-returns-2 (finish-claims t) (finish-at t) finish.Post
 finish-returns-2 t c =
     let a = c .before .before .before .before .before .before .before .before .before .before .before .before .before .args in
-    finishes-closed (givenOf (a .heads .now) (a .rows .now) (a .types) (a .book .now) (a .starts .now)) (a .w .now) (c .before .before .before .before .before .before .before .before .before .fill .last .1 .1 .1 .1 .1 .0) (a .at) (a .frame) (a .deep) (a .left) (c .before .before .before .before .before .before .before .before .before .fill .result) (c .before .before .before .before .before .before .before .before .before .fill .ensures) (c .before .before .before .before .before .if1 .left) (c .before .before .before .close .last .1 .1 .0) (c .before .before .before .close .result) (c .before .before .before .close .ensures) (c .building .result) (c .building .ensures)
+    finishes-closed (givenOf (a .heads .now) (a .rows .now) (a .types) (a .book .now) (a .starts .now)) (a .w .now) (c .before .before .before .before .before .before .before .before .before .fill .last .1 .1 .1 .1 .1 .0) (a .at) (openOf (a .places .now) (a .frame)) (a .deep) (a .left) (c .before .before .before .before .before .before .before .before .before .fill .result) (c .before .before .before .before .before .before .before .before .before .fill .ensures) (c .before .before .before .before .before .if1 .left) (c .before .before .before .close .last .1 .1 .0) (c .before .before .before .close .result) (c .before .before .before .close .ensures) (c .building .result) (c .building .ensures)

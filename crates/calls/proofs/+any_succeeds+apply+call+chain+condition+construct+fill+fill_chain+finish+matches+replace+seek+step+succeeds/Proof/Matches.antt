@@ -1,7 +1,7 @@
 -- The parts of the proof that `calls::matches` meets its contract. Assumes nothing.
 use Rattle.rewrite.specs.declared.Verdict.{Verdict}
 use Rattle.calls.proofs.Testing.{foundVerdict, matches-over, matches-found}
-use Rattle.calls.specs.Engine.{givenOf, CallMatches}
+use Rattle.calls.specs.Engine.{givenOf, CallMatches, openOf}
 use Prim.Native.Nat.{ℕ}
 use mathlib.Core.Path.{_≡_, ap}
 use native.Mathlib.Omega.{arith}
@@ -22,7 +22,7 @@ pub matches-add-live : (t : ℕ) → matches-lts.Need-add-live (matches-claims t
 matches-add-live t c = search needs
 
 pub matches-returns : (t : ℕ) → matches-lts.Need-returns (matches-claims t) (matches-at t) matches.Post
-matches-returns t c = let a = c .before .before .before .before .before .args in matches-over (givenOf (a .heads .now) (a .rows .now) (a .types) (a .book .now) (a .starts .now)) (a .w .now) (a .at) (a .start) (a .n) (a .frame) (a .deep) (a .left) (c .if1 .taken)
+matches-returns t c = let a = c .before .before .before .before .before .args in matches-over (givenOf (a .heads .now) (a .rows .now) (a .types) (a .book .now) (a .starts .now)) (a .w .now) (a .at) (a .start) (a .n) (openOf (a .places .now) (a .frame)) (a .deep) (a .left) (c .if1 .taken)
 
 pub matches-seek-requires : (t : ℕ) → matches-lts.Need-seek-requires (matches-claims t) (matches-at t) matches.Post
 matches-seek-requires t c κs = let p = c .before .before .before .before .before .before .before .pre .1 in
@@ -30,10 +30,10 @@ matches-seek-requires t c κs = let p = c .before .before .before .before .befor
 
 -- after the search, with the verdict that it gives
 matches-sought : (t : ℕ) (c : matches-lts.After-seek (matches-claims t) (matches-at t) matches.Post) (v : Verdict) → foundVerdict (c .seek .result .found) ≡ v
-    → let a = c .before .before .before .before .before .before .before .before .args in CallMatches (givenOf (a .heads .now) (a .rows .now) (a .types) (a .book .now) (a .starts .now)) (a .w .now) (c .seek .last .1 .1 .1 .1 .1 .0) (a .at) (a .start) (a .n) (a .frame) (a .deep) (a .left) (record { verdict = v; left = c .seek .result .left })
+    → let a = c .before .before .before .before .before .before .before .before .args in CallMatches (givenOf (a .heads .now) (a .rows .now) (a .types) (a .book .now) (a .starts .now)) (a .w .now) (c .seek .last .1 .1 .1 .1 .1 .0) (a .at) (a .start) (a .n) (openOf (a .places .now) (a .frame)) (a .deep) (a .left) (record { verdict = v; left = c .seek .result .left })
 matches-sought t c v e =
     let a = c .before .before .before .before .before .before .before .before .args in
-    matches-found (givenOf (a .heads .now) (a .rows .now) (a .types) (a .book .now) (a .starts .now)) (a .w .now) (a .at) (a .start) (a .n) (a .frame) (a .deep) (a .left) (c .before .before .before .if1 .left) (c .seek .last .1 .1 .1 .1 .1 .0) (c .before .before .before .before .before .plan-of .result) (c .seek .result) (c .before .before .before .before .before .plan-of .ensures .1) (c .seek .ensures) v e
+    matches-found (givenOf (a .heads .now) (a .rows .now) (a .types) (a .book .now) (a .starts .now)) (a .w .now) (a .at) (a .start) (a .n) (openOf (a .places .now) (a .frame)) (a .deep) (a .left) (c .before .before .before .if1 .left) (c .seek .last .1 .1 .1 .1 .1 .0) (c .before .before .before .before .before .plan-of .result) _ (c .before .before .before .before .before .plan-of .ensures .1) (c .seek .ensures) v e
 
 pub matches-enum-told : (t : ℕ) → matches-lts.Need-enum-told (matches-claims t) (matches-at t) matches.Post
 matches-enum-told t c = search needs

@@ -9,7 +9,7 @@ use Rattle.calls.proofs.+any_succeeds+apply+call+chain+condition+constr
 use Rattle.calls.proofs.deconstruct.Reads as deconstruct-reads
 use Rattle.rules.proofs.part_of.Reads as part-of-reads
 use Rattle.calls.proofs.+any_succeeds+apply+call+chain+condition+construct+fill+fill_chain+finish+matches+replace+seek+step+succeeds.Proof.Common.{step-at, condition-below, construct-below}
-use Rattle.calls.specs.Engine.{givenOf}
+use Rattle.calls.specs.Engine.{givenOf, openOf}
 use Rattle.calls.proofs.Parting.{step-deconstruct, step-construct, step-condition}
 
 abbrev pub step-claims : ℕ → step-lts.Claims
@@ -40,19 +40,19 @@ pub step-same-length : (t : ℕ) → step-lts.Need-same-length (step-claims t) (
 step-same-length t c = search needs
 
 pub step-returns : (t : ℕ) → step-lts.Need-returns (step-claims t) (step-at t) step.Post
-step-returns t c = let a = c .before .before .before .before .before .before .before .before .args in
-    step-deconstruct (givenOf (a .heads .now) (a .rows .now) (a .types) (a .book .now) (a .starts .now)) (a .w .now) (a .at) (a .frame) (a .deep) (a .left) (a .w .now) _ _ (c .before .before .before .before .before .part-of .ensures) _ (c .before .before .before .part .given .1) (c .deconstruct .ensures) refl
+step-returns t c = let a = c .before .before .before .before .before .before .before .before .before .args in
+    step-deconstruct (givenOf (a .heads .now) (a .rows .now) (a .types) (a .book .now) (a .starts .now)) (a .w .now) (a .at) (openOf (a .places .now) (a .frame)) (a .deep) (a .left) (a .w .now) _ _ (c .before .before .before .before .before .before .part-of .ensures) _ (c .before .before .before .before .part .given .1) (c .deconstruct .ensures) refl
 
 pub step-same-length-2 : (t : ℕ) → step-lts.Need-same-length-2 (step-claims t) (step-at t) step.Post
 step-same-length-2 t c = search needs
 
 pub step-returns-2 : (t : ℕ) → step-lts.Need-returns-2 (step-claims t) (step-at t) step.Post
-step-returns-2 t c = let a = c .before .before .before .before .before .before .before .before .before .before .args in
-    step-construct (givenOf (a .heads .now) (a .rows .now) (a .types) (a .book .now) (a .starts .now)) (a .w .now) (a .at) (a .frame) (a .deep) (a .left) _ _ _ (c .before .before .before .before .before .before .before .part-of .ensures) _ (c .before .before .before .before .before .part2 .given .1) (c .before .before .construct .ensures)
+step-returns-2 t c = let a = c .before .before .before .before .before .before .before .before .before .before .before .args in
+    step-construct (givenOf (a .heads .now) (a .rows .now) (a .types) (a .book .now) (a .starts .now)) (a .w .now) (a .at) (openOf (a .places .now) (a .frame)) (a .deep) (a .left) _ _ _ (c .before .before .before .before .before .before .before .before .part-of .ensures) _ (c .before .before .before .before .before .before .part2 .given .1) (c .before .before .construct .ensures)
 
 pub step-same-length-3 : (t : ℕ) → step-lts.Need-same-length-3 (step-claims t) (step-at t) step.Post
 step-same-length-3 t c = search needs
 
 pub step-returns-3 : (t : ℕ) → step-lts.Need-returns-3 (step-claims t) (step-at t) step.Post
-step-returns-3 t c = let a = c .before .before .before .before .before .before .before .before .before .before .args in
-    step-condition (givenOf (a .heads .now) (a .rows .now) (a .types) (a .book .now) (a .starts .now)) (a .w .now) (a .at) (a .frame) (a .deep) (a .left) _ _ _ (c .before .before .before .before .before .before .before .part-of .ensures) _ (c .before .before .before .before .before .part3 .given .1) (c .before .before .condition .ensures)
+step-returns-3 t c = let a = c .before .before .before .before .before .before .before .before .before .before .before .args in
+    step-condition (givenOf (a .heads .now) (a .rows .now) (a .types) (a .book .now) (a .starts .now)) (a .w .now) (a .at) (openOf (a .places .now) (a .frame)) (a .deep) (a .left) _ _ _ (c .before .before .before .before .before .before .before .before .part-of .ensures) _ (c .before .before .before .before .before .before .part3 .given .1) (c .before .before .condition .ensures)

@@ -1,5 +1,5 @@
 -- The parts of the proof that `calls::succeeds` meets its contract. Assumes nothing.
-use Rattle.calls.specs.Engine.{givenOf}
+use Rattle.calls.specs.Engine.{givenOf, openOf}
 use Rattle.calls.proofs.Testing.{testVerdict, succeeds-deep, succeeds-called, succeeds-holds}
 use Prim.Native.Nat.{ℕ, _+_}
 use lib.ListN.{getD}
@@ -23,9 +23,9 @@ pub succeeds-word-requires : (t : ℕ) → succeeds-lts.Need-word-requires (succ
 succeeds-word-requires t c κs = search needs
 
 pub succeeds-returns : (t : ℕ) → succeeds-lts.Need-returns (succeeds-claims t) (succeeds-at t) succeeds.Post
-succeeds-returns t c = let a = c .before .before .before .before .before .before .before .args in
-    succeeds-deep (givenOf (a .heads .now) (a .rows .now) (a .types) (a .book .now) (a .starts .now)) (a .w .now) (a .pairs .now) (a .at) (a .start) (a .n) (a .frame) (a .deep) (a .left)
-    (c .before .before .before .word .result) (getD (a .pairs .now) (a .at + 1) 0) (c .before .before .before .word .ensures) refl (c .before .if1 .taken) (c .if2 .taken)
+succeeds-returns t c = let a = c .before .before .before .before .before .before .args in
+    succeeds-deep (givenOf (a .heads .now) (a .rows .now) (a .types) (a .book .now) (a .starts .now)) (a .w .now) (a .pairs .now) (a .at) (a .start) (a .n) (openOf (a .places .now) (a .frame)) (a .deep) (a .left)
+    (c .before .before .word .result) (getD (a .pairs .now) (a .at + 1) 0) (c .before .before .word .ensures) refl (c .before .if1 .taken) (c .if2 .taken)
 
 pub succeeds-add-gather : (t : ℕ) → succeeds-lts.Need-add-gather (succeeds-claims t) (succeeds-at t) succeeds.Post
 succeeds-add-gather t c = search needs
@@ -37,10 +37,10 @@ pub succeeds-word-requires-2 : (t : ℕ) → succeeds-lts.Need-word-requires-2 (
 succeeds-word-requires-2 t c κs = search needs
 
 pub succeeds-gather-requires : (t : ℕ) → succeeds-lts.Need-gather-requires (succeeds-claims t) (succeeds-at t) succeeds.Post
-succeeds-gather-requires t c κs = (omega arith, c .before .before .before .before .before .before .before .before .before .pre .1 .0 .sound)
+succeeds-gather-requires t c κs = (omega arith, c .before .before .before .before .before .before .before .before .before .pre .1 .0 .sound, refl)
 
-pub succeeds-add-t26 : (t : ℕ) → succeeds-lts.Need-add-t26 (succeeds-claims t) (succeeds-at t) succeeds.Post
-succeeds-add-t26 t c = search needs
+pub succeeds-add-matches : (t : ℕ) → succeeds-lts.Need-add-matches (succeeds-claims t) (succeeds-at t) succeeds.Post
+succeeds-add-matches t c = search needs
 
 pub succeeds-rule-at-requires : (t : ℕ) → succeeds-lts.Need-rule-at-requires (succeeds-claims t) (succeeds-at t) succeeds.Post
 succeeds-rule-at-requires t c κs = search needs
@@ -57,8 +57,8 @@ succeeds-same-length t c = search needs
 
 pub succeeds-returns-2 : (t : ℕ) → succeeds-lts.Need-returns-2 (succeeds-claims t) (succeeds-at t) succeeds.Post
 succeeds-returns-2 t c = let a = c .before .before .before .before .before .before .before .before .before .before .before .before .before .before .before .before .before .before .args in
-    succeeds-called (givenOf (a .heads .now) (a .rows .now) (a .types) (a .book .now) (a .starts .now)) (a .w .now) (a .pairs .now) (a .at) (a .start) (a .n) (a .frame) (a .deep) (a .left)
-    (c .before .before .before .before .before .before .before .before .before .before .before .before .before .before .word .result) (c .before .before .before .before .before .before .before .before .before .word2 .result) (c .before .before .before .before .before .before .before .before .before .before .before .before .before .before .word .ensures) (c .before .before .before .before .before .before .before .before .before .word2 .ensures) (c .before .before .before .before .before .before .before .before .before .before .before .before .if1 .taken) (c .before .before .before .before .before .before .before .before .before .before .before .if2 .left) (c .before .before .before .before .before .before .before .before .gather .result) (c .before .before .before .before .before .before .before .before .gather .ensures) (c .before .before .before .before .rule-at .result) (c .before .before .before .before .rule-at .ensures)
+    succeeds-called (givenOf (a .heads .now) (a .rows .now) (a .types) (a .book .now) (a .starts .now)) (a .w .now) (a .pairs .now) (a .at) (a .start) (a .n) (openOf (a .places .now) (a .frame)) (a .deep) (a .left)
+    (c .before .before .before .before .before .before .before .before .before .before .before .before .before .before .word .result) (c .before .before .before .before .before .before .before .before .before .before .before .word2 .result) (c .before .before .before .before .before .before .before .before .before .before .before .before .before .before .word .ensures) (c .before .before .before .before .before .before .before .before .before .before .before .word2 .ensures) (c .before .before .before .before .before .before .before .before .before .before .before .before .before .if1 .taken) (c .before .before .before .before .before .before .before .before .before .before .before .before .if2 .left) _ (c .before .before .before .before .before .before .before .before .gather .ensures) (c .before .before .before .before .before .rule-at .result) (c .before .before .before .before .before .rule-at .ensures)
     (c .before .before .matches .last .1 .1 .1 .1 .1 .0) (c .before .before .matches .kept .1 .1 .1 .1 .1 .0) (c .before .before .matches .result) (c .before .before .matches .ensures)
 
 pub succeeds-add-value-of : (t : ℕ) → succeeds-lts.Need-add-value-of (succeeds-claims t) (succeeds-at t) succeeds.Post
@@ -80,16 +80,16 @@ pub succeeds-same-length-2 : (t : ℕ) → succeeds-lts.Need-same-length-2 (succ
 succeeds-same-length-2 t c = search needs
 
 pub succeeds-returns-3 : (t : ℕ) → succeeds-lts.Need-returns-3 (succeeds-claims t) (succeeds-at t) succeeds.Post
-succeeds-returns-3 t c = let a = c .before .before .before .before .before .before .before .before .before .before .before .before .args in
-    succeeds-holds (givenOf (a .heads .now) (a .rows .now) (a .types) (a .book .now) (a .starts .now)) (a .w .now) (a .pairs .now) (a .at) (a .start) (a .n) (a .frame) (a .deep) (a .left)
-    (c .before .before .before .before .before .before .before .before .word .result) (getD (a .pairs .now) (a .at + 1) 0) (c .before .before .before .before .before .before .before .before .word .ensures) refl (c .before .before .before .before .before .before .if1 .left) (c .before .before .before .before .before .before .before .before .before .before .before .before .pre .1 .0 .sound) (c .before .before .before .before .value-of .result) (c .before .before .word3 .result) (c .before .before .before .before .value-of .ensures) (c .before .before .word3 .ensures)
+succeeds-returns-3 t c = let a = c .before .before .before .before .before .before .before .before .before .before .before .args in
+    succeeds-holds (givenOf (a .heads .now) (a .rows .now) (a .types) (a .book .now) (a .starts .now)) (a .w .now) (a .pairs .now) (a .at) (a .start) (a .n) (openOf (a .places .now) (a .frame)) (a .deep) (a .left)
+    (c .before .before .before .before .before .before .before .word .result) (getD (a .pairs .now) (a .at + 1) 0) (c .before .before .before .before .before .before .before .word .ensures) refl (c .before .before .before .before .before .before .if1 .left) (c .before .before .before .before .before .before .before .before .before .before .before .pre .1 .0 .sound) (c .before .before .before .before .value-of .result) (c .before .before .word3 .result) (c .before .before .before .before .value-of .ensures) (c .before .before .word3 .ensures)
     (c .before .holds .result) (c .before .holds .ensures) _ (ap testVerdict (c .if3 .taken))
 
 pub succeeds-same-length-3 : (t : ℕ) → succeeds-lts.Need-same-length-3 (succeeds-claims t) (succeeds-at t) succeeds.Post
 succeeds-same-length-3 t c = search needs
 
 pub succeeds-returns-4 : (t : ℕ) → succeeds-lts.Need-returns-4 (succeeds-claims t) (succeeds-at t) succeeds.Post
-succeeds-returns-4 t c = let a = c .before .before .before .before .before .before .before .before .before .before .before .before .args in
-    succeeds-holds (givenOf (a .heads .now) (a .rows .now) (a .types) (a .book .now) (a .starts .now)) (a .w .now) (a .pairs .now) (a .at) (a .start) (a .n) (a .frame) (a .deep) (a .left)
-    (c .before .before .before .before .before .before .before .before .word .result) (getD (a .pairs .now) (a .at + 1) 0) (c .before .before .before .before .before .before .before .before .word .ensures) refl (c .before .before .before .before .before .before .if1 .left) (c .before .before .before .before .before .before .before .before .before .before .before .before .pre .1 .0 .sound) (c .before .before .before .before .value-of .result) (c .before .before .word3 .result) (c .before .before .before .before .value-of .ensures) (c .before .before .word3 .ensures)
+succeeds-returns-4 t c = let a = c .before .before .before .before .before .before .before .before .before .before .before .args in
+    succeeds-holds (givenOf (a .heads .now) (a .rows .now) (a .types) (a .book .now) (a .starts .now)) (a .w .now) (a .pairs .now) (a .at) (a .start) (a .n) (openOf (a .places .now) (a .frame)) (a .deep) (a .left)
+    (c .before .before .before .before .before .before .before .word .result) (getD (a .pairs .now) (a .at + 1) 0) (c .before .before .before .before .before .before .before .word .ensures) refl (c .before .before .before .before .before .before .if1 .left) (c .before .before .before .before .before .before .before .before .before .before .before .pre .1 .0 .sound) (c .before .before .before .before .value-of .result) (c .before .before .word3 .result) (c .before .before .before .before .value-of .ensures) (c .before .before .word3 .ensures)
     (c .before .holds .result) (c .before .holds .ensures) _ (ap testVerdict (c .if3 .left))
