@@ -384,13 +384,18 @@ fn seek(
     let mut fuel = left;
     let mut i: usize = 0;
     let found = 'nodes: loop {
+        if last <= i {
+            break 'nodes seeking(Found::Nowhere, frame, fuel, 0);
+        }
+        let arena = &w[..frame.top];
+        let scope = &arena[base..end];
         let next = candidates::next_candidate(
             pairs,
             first,
-            w,
+            scope,
             plan.target,
-            base,
-            end,
+            0,
+            2 * n,
             i,
             last,
             frame.live,
@@ -407,7 +412,6 @@ fn seek(
         }
         let fewer = fuel.attempts - 1;
         fuel = State { attempts: fewer };
-        let arena = &w[..frame.top];
         let m = rewrite::match_pattern(
             pairs,
             arena,

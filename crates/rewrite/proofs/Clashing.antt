@@ -5,14 +5,15 @@ use mathlib.Core.Bool.{Bool, true, false}
 use mathlib.Core.Logic.{_⊎_, inl, inr, ⊎-elim}
 use native.Mathlib.Omega.{arith}
 use native.Mathlib.Nat.{add-zero}
-use lib.ListN.{length, getD}
+use lib.ListN.{length, getD, take, drop}
+use lib.Seq.{drop-drop, take-take}
 use lib.Dec.{ltb}
 use borrow.Author.Tests.{ltb-true, ltb-false}
 use Rattle.words.specs.Reader.{Words}
 use Rattle.meaning.specs.declared.State.{State}
 use Rattle.marks.specs.Marked.{typeIn, sizeIn}
 use Rattle.marks.specs.Post.{span}
-use Rattle.marks.proofs.Spans.{span-length, span-word}
+use Rattle.marks.proofs.Spans.{span-length, span-word, drop-take}
 use Rattle.rewrite.specs.Vars.{Vars, Sound, bound}
 use Rattle.rewrite.specs.Matching.{Match, MatchAnswers}
 use Rattle.rewrite.specs.Candidates.{BeginsWithNode, FirstOf, Begun, Clashes, unspent, Passed, Next, OtherValue, NextStart, ClashesAt, NextCandidate}
@@ -187,3 +188,37 @@ module _ (pairs w : Words) (target base end from last live : ℕ) (left : State)
 
     pub candidate-fails : (now : State) → r .left .attempts ≡ suc (now .attempts) → Clashes pairs (span w (base + 2 * r .node) end) live → Passing (ClashesAt pairs w end live) w target base from last left (r .node + 1) now
     candidate-fails now z x = passing-fail (ClashesAt pairs w end live) w target base from last left (r .node) (r .left) moved l _ refl (found .next .typed l) now z x
+
+-- A SEARCH OF A PART
+
+-- what is passed over in the part that begins at base is passed over in the whole
+module _ (pairs w part : Words) (target base n live : ℕ) (is : part ≡ span w base (base + 2 * n)) where
+  node-in : (i : ℕ) → i < n → getD part (0 + 2 * i) 0 ≡ getD w (base + 2 * i) 0
+  node-in i h = let z : base + (0 + 2 * i) ≡ base + 2 * i = omega arith in ap (λ x. getD x (0 + 2 * i) 0) is ∙ span-word w base (base + 2 * n) (0 + 2 * i) (omega arith) ∙ ap (λ k. getD w k 0) z
+
+  span-in : (i : ℕ) → i < n → span part (0 + 2 * i) (2 * n) ≡ span w (base + 2 * i) (base + 2 * n)
+  span-in i h =
+      let k = 2 * n - (0 + 2 * i) in
+      let z : k ≡ base + 2 * n - (base + 2 * i) = omega arith in
+      let y : base + (0 + 2 * i) ≡ base + 2 * i = omega arith in
+      ap (λ x. take k (drop (0 + 2 * i) x)) is ∙ ap (take k) (drop-take (base + 2 * n - base) (0 + 2 * i) (drop base w)) ∙ take-take k (base + 2 * n - base - (0 + 2 * i)) (drop (0 + 2 * i) (drop base w)) (omega arith)
+      ∙ ap (take k) (drop-drop (0 + 2 * i) base w ∙ ap (λ x. drop x w) y) ∙ ap (λ x. take x (drop (base + 2 * i) w)) z
+
+  clash-in : (i : ℕ) → i < n → ClashesAt pairs part (2 * n) live (0 + 2 * i) → ClashesAt pairs w (base + 2 * n) live (base + 2 * i)
+  clash-in i h c = rw (span-in i h) at c
+
+  passed-in : (from k : ℕ) (left now : State) → (0 < k → from + k ≤ n) → Passed (ClashesAt pairs part (2 * n) live) part target 0 from left k now → Passed (ClashesAt pairs w (base + 2 * n) live) w target base from left k now
+  passed-in from zero left now h e = e
+  passed-in from (suc k) left now h (inl x) = let l : from + k < n = omega (arith, h (omega arith)) in inl ((λ q. x .0 (ap typeIn (node-in (from + k) l) ∙ q)), passed-in from k left now (λ _. omega arith) (x .1))
+  passed-in from (suc k) left now h (inr x) =
+      let l : from + k < n = omega (arith, h (omega arith)) in
+      inr (ap typeIn (sym (node-in (from + k) l)) ∙ x .0, clash-in (from + k) l (x .1), passed-in from k left (unspent now) (λ _. omega arith) (x .2))
+
+  pub next-in : (from last : ℕ) (left : State) (r : Candidate) → last ≤ n → NextCandidate pairs part target 0 (2 * n) from last live left r → NextCandidate pairs w target base (base + 2 * n) from last live left r
+  next-in from last left r l x = record {
+    passed = x .passed;
+    node-is = x .node-is;
+    inside = x .inside;
+    nodes = passed-in from (x .passed) left (r .left) (λ h. omega (arith, l, x .inside h)) (x .nodes);
+    typed = λ h. ap typeIn (sym (node-in (r .node) (omega arith))) ∙ x .typed h;
+  }

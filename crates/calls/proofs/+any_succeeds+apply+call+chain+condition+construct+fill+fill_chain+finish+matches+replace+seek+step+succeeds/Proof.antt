@@ -56,7 +56,7 @@ use Rattle.calls.proofs.+any_succeeds+apply+call+chain+condition+constr
 use Rattle.calls.proofs.+any_succeeds+apply+call+chain+condition+construct+fill+fill_chain+finish+matches+replace+seek+step+succeeds.Proof.Finish.{finish-claims, finish-fill-requires, finish-same-length, finish-returns, finish-close-requires, finish-building-requires, finish-same-length-2, finish-returns-2}
 use Rattle.calls.proofs.+any_succeeds+apply+call+chain+condition+construct+fill+fill_chain+finish+matches+replace+seek+step+succeeds.Proof.Matches.{matches-claims, matches-plan-of-requires, matches-add-live, matches-returns, matches-seek-requires, matches-enum-told, matches-enum-told-2, matches-enum-known-found, matches-same-length, matches-returns-2, matches-same-length-2, matches-returns-3, matches-same-length-3, matches-returns-4}
 use Rattle.calls.proofs.+any_succeeds+apply+call+chain+condition+construct+fill+fill_chain+finish+matches+replace+seek+step+succeeds.Proof.Replace.{replace-claims, replace-finish-requires, replace-building-requires, replace-same-length, replace-returns, replace-replace-tree-requires, replace-building-requires-2, replace-same-length-2, replace-returns-2}
-use Rattle.calls.proofs.+any_succeeds+apply+call+chain+condition+construct+fill+fill_chain+finish+matches+replace+seek+step+succeeds.Proof.Seek.{seek-claims, seek-Inv-loop, seek-μ-loop, seek-Inv-nodes, seek-μ-nodes, seek-pairs-of-requires, seek-tried-requires, seek-mul-end, seek-add-end, seek-first-of-requires, seek-nodes-holds, seek-next-candidate-requires, seek-seeking-requires, seek-mul-p, seek-add-p, seek-seeking-requires-2, seek-sub-fewer, seek-slice-reshare-prefix-arena, seek-slice-aggregate-arena, seek-mul-match-pattern, seek-sub-match-pattern, seek-part-match-pattern-start, seek-part-match-pattern-end, seek-match-pattern-requires, seek-enum-told, seek-add-i, seek-nodes-less, seek-nodes-again, seek-enum-known-verdict, seek-seeking-requires-3, seek-enum-told-2, seek-after-match-requires, seek-loop-holds, seek-seeking-requires-4, seek-step-requires, seek-enum-told-3, seek-add-i-2, seek-nodes-less-2, seek-nodes-again-2, seek-enum-known-verdict-2, seek-seeking-requires-5, seek-enum-told-4, seek-sub-k, seek-loop-less, seek-loop-again, seek-same-length, seek-returns, seek-same-length-2, seek-returns-2, seek-same-length-3, seek-returns-3, seek-same-length-4, seek-returns-4, seek-same-length-5, seek-returns-5}
+use Rattle.calls.proofs.+any_succeeds+apply+call+chain+condition+construct+fill+fill_chain+finish+matches+replace+seek+step+succeeds.Proof.Seek.{seek-claims, seek-Inv-loop, seek-μ-loop, seek-Inv-nodes, seek-μ-nodes, seek-pairs-of-requires, seek-tried-requires, seek-mul-end, seek-add-end, seek-first-of-requires, seek-nodes-holds, seek-seeking-requires, seek-slice-reshare-prefix-arena, seek-slice-aggregate-arena, seek-mul-scope, seek-sub-scope, seek-part-scope-start, seek-part-scope-end, seek-mul-next-candidate, seek-next-candidate-requires, seek-seeking-requires-2, seek-mul-p, seek-add-p, seek-seeking-requires-3, seek-sub-fewer, seek-mul-match-pattern, seek-sub-match-pattern, seek-part-match-pattern-start, seek-part-match-pattern-end, seek-match-pattern-requires, seek-enum-told, seek-add-i, seek-nodes-less, seek-nodes-again, seek-enum-known-verdict, seek-seeking-requires-4, seek-enum-told-2, seek-after-match-requires, seek-loop-holds, seek-seeking-requires-5, seek-step-requires, seek-enum-told-3, seek-add-i-2, seek-nodes-less-2, seek-nodes-again-2, seek-enum-known-verdict-2, seek-seeking-requires-6, seek-enum-told-4, seek-sub-k, seek-loop-less, seek-loop-again, seek-same-length, seek-returns, seek-same-length-2, seek-returns-2, seek-same-length-3, seek-returns-3, seek-same-length-4, seek-returns-4, seek-same-length-5, seek-returns-5, seek-same-length-6, seek-returns-6}
 use Rattle.calls.proofs.+any_succeeds+apply+call+chain+condition+construct+fill+fill_chain+finish+matches+replace+seek+step+succeeds.Proof.Step.{step-claims, step-part-of-requires, step-enum-known-part, step-deconstruct-requires, step-enum-known-part-2, step-construct-requires, step-enum-known-part-3, step-condition-requires, step-same-length, step-returns, step-same-length-2, step-returns-2, step-same-length-3, step-returns-3}
 use Rattle.calls.proofs.+any_succeeds+apply+call+chain+condition+construct+fill+fill_chain+finish+matches+replace+seek+step+succeeds.Proof.Succeeds.{succeeds-claims, succeeds-word-requires, succeeds-returns, succeeds-add-word, succeeds-word-requires-2, succeeds-add-gather, succeeds-gather-requires, succeeds-add-matches, succeeds-rule-at-requires, succeeds-sub-matches, succeeds-matches-requires, succeeds-same-length, succeeds-returns-2, succeeds-add-value-of, succeeds-value-of-requires, succeeds-add-word-2, succeeds-word-requires-3, succeeds-holds-requires, succeeds-same-length-2, succeeds-returns-3, succeeds-same-length-3, succeeds-returns-4}
 
@@ -88,6 +88,6 @@ pub +any-succeeds+apply+call+chain+condition+construct+fill+fill-chain+finish+ma
     (λ t. finish-lts.spec (finish-claims t) (finish-at t) finish.Post (finish-fill-requires t) (finish-same-length t) (finish-returns t) (finish-close-requires t) (finish-building-requires t) (finish-same-length-2 t) (finish-returns-2 t))
     (λ t. matches-lts.spec (matches-claims t) (matches-at t) matches.Post (matches-plan-of-requires t) (matches-add-live t) (matches-returns t) (matches-seek-requires t) (matches-enum-told t) (matches-enum-told-2 t) (matches-enum-known-found t) (matches-same-length t) (matches-returns-2 t) (matches-same-length-2 t) (matches-returns-3 t) (matches-same-length-3 t) (matches-returns-4 t))
     (λ t. replace-lts.spec (replace-claims t) (replace-at t) replace.Post (replace-finish-requires t) (replace-building-requires t) (replace-same-length t) (replace-returns t) (replace-replace-tree-requires t) (replace-building-requires-2 t) (replace-same-length-2 t) (replace-returns-2 t))
-    (λ t. seek-lts.spec (seek-claims t) (seek-at t) seek.Post seek-Inv-loop seek-μ-loop seek-Inv-nodes seek-μ-nodes (seek-pairs-of-requires t) (seek-tried-requires t) (seek-mul-end t) (seek-add-end t) (seek-first-of-requires t) (seek-nodes-holds t) (seek-next-candidate-requires t) (seek-seeking-requires t) (seek-mul-p t) (seek-add-p t) (seek-seeking-requires-2 t) (seek-sub-fewer t) (seek-slice-reshare-prefix-arena t) (seek-slice-aggregate-arena t) (seek-mul-match-pattern t) (seek-sub-match-pattern t) (seek-part-match-pattern-start t) (seek-part-match-pattern-end t) (seek-match-pattern-requires t) (seek-enum-told t) (seek-add-i t) (seek-nodes-less t) (seek-nodes-again t) (seek-enum-known-verdict t) (seek-seeking-requires-3 t) (seek-enum-told-2 t) (seek-after-match-requires t) (seek-loop-holds t) (seek-seeking-requires-4 t) (seek-step-requires t) (seek-enum-told-3 t) (seek-add-i-2 t) (seek-nodes-less-2 t) (seek-nodes-again-2 t) (seek-enum-known-verdict-2 t) (seek-seeking-requires-5 t) (seek-enum-told-4 t) (seek-sub-k t) (seek-loop-less t) (seek-loop-again t) (seek-same-length t) (seek-returns t) (seek-same-length-2 t) (seek-returns-2 t) (seek-same-length-3 t) (seek-returns-3 t) (seek-same-length-4 t) (seek-returns-4 t) (seek-same-length-5 t) (seek-returns-5 t))
+    (λ t. seek-lts.spec (seek-claims t) (seek-at t) seek.Post seek-Inv-loop seek-μ-loop seek-Inv-nodes seek-μ-nodes (seek-pairs-of-requires t) (seek-tried-requires t) (seek-mul-end t) (seek-add-end t) (seek-first-of-requires t) (seek-nodes-holds t) (seek-seeking-requires t) (seek-slice-reshare-prefix-arena t) (seek-slice-aggregate-arena t) (seek-mul-scope t) (seek-sub-scope t) (seek-part-scope-start t) (seek-part-scope-end t) (seek-mul-next-candidate t) (seek-next-candidate-requires t) (seek-seeking-requires-2 t) (seek-mul-p t) (seek-add-p t) (seek-seeking-requires-3 t) (seek-sub-fewer t) (seek-mul-match-pattern t) (seek-sub-match-pattern t) (seek-part-match-pattern-start t) (seek-part-match-pattern-end t) (seek-match-pattern-requires t) (seek-enum-told t) (seek-add-i t) (seek-nodes-less t) (seek-nodes-again t) (seek-enum-known-verdict t) (seek-seeking-requires-4 t) (seek-enum-told-2 t) (seek-after-match-requires t) (seek-loop-holds t) (seek-seeking-requires-5 t) (seek-step-requires t) (seek-enum-told-3 t) (seek-add-i-2 t) (seek-nodes-less-2 t) (seek-nodes-again-2 t) (seek-enum-known-verdict-2 t) (seek-seeking-requires-6 t) (seek-enum-told-4 t) (seek-sub-k t) (seek-loop-less t) (seek-loop-again t) (seek-same-length t) (seek-returns t) (seek-same-length-2 t) (seek-returns-2 t) (seek-same-length-3 t) (seek-returns-3 t) (seek-same-length-4 t) (seek-returns-4 t) (seek-same-length-5 t) (seek-returns-5 t) (seek-same-length-6 t) (seek-returns-6 t))
     (λ t. step-lts.spec (step-claims t) (step-at t) step.Post (step-part-of-requires t) (step-enum-known-part t) (step-deconstruct-requires t) (step-enum-known-part-2 t) (step-construct-requires t) (step-enum-known-part-3 t) (step-condition-requires t) (step-same-length t) (step-returns t) (step-same-length-2 t) (step-returns-2 t) (step-same-length-3 t) (step-returns-3 t))
     (λ t. succeeds-lts.spec (succeeds-claims t) (succeeds-at t) succeeds.Post (succeeds-word-requires t) (succeeds-returns t) (succeeds-add-word t) (succeeds-word-requires-2 t) (succeeds-add-gather t) (succeeds-gather-requires t) (succeeds-add-matches t) (succeeds-rule-at-requires t) (succeeds-sub-matches t) (succeeds-matches-requires t) (succeeds-same-length t) (succeeds-returns-2 t) (succeeds-add-value-of t) (succeeds-value-of-requires t) (succeeds-add-word-2 t) (succeeds-word-requires-3 t) (succeeds-holds-requires t) (succeeds-same-length-2 t) (succeeds-returns-3 t) (succeeds-same-length-3 t) (succeeds-returns-4 t))
