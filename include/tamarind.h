@@ -1,7 +1,27 @@
-/* The proved rewriting core, for C programs. Link with libtamarind.a.
+/* The proved rewriting core of the counter pad, for C and C++ programs on
+ * 64-bit x86 Linux. Link with libtamarind.a.
  *
- * Memory is 32-bit words. A pointer to no words may be any pointer that is not
- * null. Nothing is kept between calls, and nothing but what is said is written.
+ * It rewrites a slip, a tree of 32-bit words, by a rule book into the words
+ * that are posted. Each function promises its whole outcome on every input: any
+ * words of any length may be passed, and what is not allowed is refused with a
+ * number and a position. docs/bench.md says what each number asks of a rule
+ * writer, docs/DATASHEET.md what a call costs; a release has both beside this.
+ *
+ * What a caller guarantees of every call:
+ * - A pointer points to as many words as its length says, aligned as uint32_t
+ *   is (4 bytes), and is not null, also where the length is 0.
+ * - Until the call returns, no one else writes to the words that are lent, or
+ *   reads `result` or `work`.
+ * - `result` and `work` share no word with each other or with an input. Inputs
+ *   may overlap, since they are only read.
+ *
+ * What a caller may rely on:
+ * - Nothing is kept between calls, so there is nothing to begin or to reset. The
+ *   core has no variables of its own, reserves no memory and makes no system
+ *   call.
+ * - Any number of threads may call at once, each with a result and a work
+ *   memory of its own.
+ * - Nothing is written but `result` and `work` of a run, as said there.
  */
 #ifndef TAMARIND_H
 #define TAMARIND_H
@@ -13,11 +33,122 @@
 extern "C" {
 #endif
 
+/* The edition of this header: 0 is the core as first specified, and a change
+ * request that a caller can see sets its own number.
+ *
+ * tamarind_edition() is the archive's. A program asks tamarind_is_this_edition()
+ * once when it starts, and makes no other call if the answer is 0: header and
+ * archive do not belong together. An archive that is older than editions does
+ * not link. */
+#define TAMARIND_EDITION 0
+
+uint32_t tamarind_edition(void);
+
+static inline int tamarind_is_this_edition(void) {
+    return tamarind_edition() == TAMARIND_EDITION;
+}
+
+/* Limits of a call. The first two are the fewest words of the two memories. */
+#define TAMARIND_RESULT_WORDS 4096
+#define TAMARIND_WORK_WORDS 16384
+#define TAMARIND_LEAST_BUDGET 1
+#define TAMARIND_GREATEST_BUDGET 1000000
+#define TAMARIND_MOST_GRAMMAR_WORDS 4096
+#define TAMARIND_MOST_RULES_WORDS 16384
+#define TAMARIND_MOST_TREE_WORDS 4096
+
+/* Limits of a grammar: its types, the forms of a type, the elements of a form;
+ * the elements that are literals. */
+#define TAMARIND_MOST_TYPES 64
+#define TAMARIND_MOST_FORMS 16
+#define TAMARIND_MOST_ELEMENTS 8
+#define TAMARIND_LEAST_LITERAL 65536
+#define TAMARIND_GREATEST_LITERAL 131071
+
+/* Limits of a tree: its nodes, its nesting; the value of a name or string, and
+ * of a number in hundredths. */
+#define TAMARIND_MOST_NODES 2048
+#define TAMARIND_MOST_NESTING 64
+#define TAMARIND_GREATEST_NAME 65535
+#define TAMARIND_GREATEST_NUMBER 999999999
+
+/* Limits of a rule book: its rules; the parameters, parts and variables of a
+ * rule; the pairs of a pattern or replacement; the applications of a group. */
+#define TAMARIND_MOST_RULES 64
+#define TAMARIND_MOST_PARAMETERS 4
+#define TAMARIND_MOST_PARTS 8
+#define TAMARIND_MOST_VARIABLES 16
+#define TAMARIND_MOST_PAIRS 128
+#define TAMARIND_MOST_APPLICATIONS 4
+
+/* Limits of a run: calls open at one time, the main rule's included, and the
+ * nodes that they hold. */
+#define TAMARIND_MOST_NESTED_CALLS 32
+#define TAMARIND_MOST_LIVE_NODES 6144
+
+/* Refusals: nothing was run. tamarind_meaning says what each stands for. */
+#define TAMARIND_REFUSAL_RESULT_TOO_SHORT 1
+#define TAMARIND_REFUSAL_WORK_TOO_SHORT 2
+#define TAMARIND_REFUSAL_BUDGET 3
+#define TAMARIND_REFUSAL_GRAMMAR_TOO_LONG 4
+#define TAMARIND_REFUSAL_RULES_TOO_LONG 5
+#define TAMARIND_REFUSAL_GRAMMAR_END 10
+#define TAMARIND_REFUSAL_GRAMMAR_WORD 11
+#define TAMARIND_REFUSAL_NO_FINITE_TREE 12
+#define TAMARIND_REFUSAL_RULES_END 20
+#define TAMARIND_REFUSAL_RULES_WORD 21
+#define TAMARIND_REFUSAL_RULES_REFERENCE 22
+#define TAMARIND_REFUSAL_RULES_PAIR 23
+#define TAMARIND_REFUSAL_RULES_LIMIT 24
+#define TAMARIND_REFUSAL_TREE_SIZE 30
+#define TAMARIND_REFUSAL_TREE_END 31
+#define TAMARIND_REFUSAL_TREE_WORD 32
+#define TAMARIND_REFUSAL_TREE_NESTING 33
+
+/* Stops: the run ended before it was done. */
+#define TAMARIND_STOP_BUDGET_SPENT 40
+#define TAMARIND_STOP_CALLS_TOO_DEEP 41
+#define TAMARIND_STOP_TOO_MANY_NODES 42
+#define TAMARIND_STOP_NESTS_TOO_DEEP 43
+#define TAMARIND_STOP_TOO_MANY_LIVE_NODES 44
+#define TAMARIND_STOP_OUT_OF_RANGE 45
+
+/* What the number of an answer or an outcome stands for. */
+static inline const char *tamarind_meaning(uint32_t number) {
+    switch (number) {
+    case 0: return "nothing is refused or stopped";
+    case TAMARIND_REFUSAL_RESULT_TOO_SHORT: return "result under 4,096 words";
+    case TAMARIND_REFUSAL_WORK_TOO_SHORT: return "work under 16,384 words";
+    case TAMARIND_REFUSAL_BUDGET: return "budget 0 or over 1,000,000";
+    case TAMARIND_REFUSAL_GRAMMAR_TOO_LONG: return "grammar over 4,096 words";
+    case TAMARIND_REFUSAL_RULES_TOO_LONG: return "rule book over 16,384 words";
+    case TAMARIND_REFUSAL_GRAMMAR_END: return "grammar ends early, or words left over";
+    case TAMARIND_REFUSAL_GRAMMAR_WORD: return "count, map, class, type or element not allowed in the grammar";
+    case TAMARIND_REFUSAL_NO_FINITE_TREE: return "a type of which no finite tree exists";
+    case TAMARIND_REFUSAL_RULES_END: return "rule book ends early, or words left over";
+    case TAMARIND_REFUSAL_RULES_WORD: return "count, map, reach or a type outside pairs not allowed in the rule book, or rule 0's bits";
+    case TAMARIND_REFUSAL_RULES_REFERENCE: return "variable not there yet, rule or operation not there or not usable here or on its scope, or argument count";
+    case TAMARIND_REFUSAL_RULES_PAIR: return "a pair, value, type or variable's type that cannot stand there, or pairs short or over";
+    case TAMARIND_REFUSAL_RULES_LIMIT: return "17th variable of a rule, or a pattern or replacement nested over 64";
+    case TAMARIND_REFUSAL_TREE_SIZE: return "tree of no words, of an odd count, or over 4,096";
+    case TAMARIND_REFUSAL_TREE_END: return "tree ends early, or words left over";
+    case TAMARIND_REFUSAL_TREE_WORD: return "type, form or value not allowed in the tree";
+    case TAMARIND_REFUSAL_TREE_NESTING: return "tree nested over 64";
+    case TAMARIND_STOP_BUDGET_SPENT: return "an attempt is due and the budget is spent";
+    case TAMARIND_STOP_CALLS_TOO_DEEP: return "a 33rd nested call, main being the first";
+    case TAMARIND_STOP_TOO_MANY_NODES: return "a tree would pass 2,048 nodes";
+    case TAMARIND_STOP_NESTS_TOO_DEEP: return "a finished tree's nesting would pass 64";
+    case TAMARIND_STOP_TOO_MANY_LIVE_NODES: return "live nodes would pass 6,144";
+    case TAMARIND_STOP_OUT_OF_RANGE: return "an operation's result under 0 or over 999,999,999, or divisor 0";
+    default: return "no number of this edition";
+    }
+}
+
 /* A single check's answer: the number of the refusal and the word at fault,
- * counted from 0; both 0 where nothing is refused. */
+ * counted from 0 in what is refused; both 0 where nothing is refused. */
 typedef struct {
     uint32_t number;
-    uint64_t position;
+    size_t position;
 } tamarind_answer;
 
 /* Checks a grammar: refusals 4, 10, 11 and 12. */
@@ -30,12 +161,6 @@ tamarind_answer tamarind_check_tree(const uint32_t *grammar, size_t grammar_len,
 /* Checks a rule book against a grammar: refusals 4, 5, 10 to 12, then 20 to 24. */
 tamarind_answer tamarind_check_rules(const uint32_t *grammar, size_t grammar_len,
                                      const uint32_t *rules, size_t rules_len);
-
-/* The fewest words of the two memories that a run accepts, and the greatest
- * budget. */
-#define TAMARIND_RESULT_WORDS 4096
-#define TAMARIND_WORK_WORDS 16384
-#define TAMARIND_GREATEST_BUDGET 1000000
 
 /* How a run ended. */
 #define TAMARIND_DONE 0
@@ -55,11 +180,15 @@ typedef struct {
 /* Checks everything (refusals 1 to 5, 10 to 12, 20 to 24, 30 to 33) and rewrites
  * the tree by the rule book with at most `budget` attempts.
  *
- * `result` and `work` share no word with each other or with the inputs, and may
- * hold any words. A refused run changes none of them. Otherwise the first
- * `filled` words of the result are a tree, its other words are unchanged, and
- * all words of `work` are 0. The words to post are the filled ones if the run is
- * done, otherwise those of `tree`. */
+ * Both memories may hold any words. Done or stopped, the first `filled` words of
+ * the result are a tree, its other words are unchanged, and all words of `work`
+ * are 0.
+ *
+ * A refused run has changed no word of either memory. What is posted is the tree
+ * itself, as it was given. The number and the position say what to mend: a
+ * length or the budget of this call (1 to 5), the grammar (10 to 12), the rule
+ * book (20 to 24) or the tree (30 to 33), and the word at fault in it. There is
+ * nothing to reset: the next run may follow at once, over the same memories. */
 tamarind_outcome tamarind_run(const uint32_t *grammar, size_t grammar_len,
                               const uint32_t *rules, size_t rules_len,
                               const uint32_t *tree, size_t tree_len,
@@ -67,8 +196,63 @@ tamarind_outcome tamarind_run(const uint32_t *grammar, size_t grammar_len,
                               uint32_t *result, size_t result_len,
                               uint32_t *work, size_t work_len);
 
+/* Where the words to post lie. */
+#define TAMARIND_POST_TREE 0
+#define TAMARIND_POST_RESULT 1
+
+/* The words to post: the first `words` words of the source. */
+typedef struct {
+    uint32_t source; /* one of the two above */
+    size_t words;
+} tamarind_posting;
+
+/* The words to post after a run: the filled ones of the result if the run is
+ * done and the result has so many, otherwise all words of the tree. */
+tamarind_posting tamarind_words_to_post(uint32_t ending, size_t filled,
+                                        size_t result_len, size_t tree_len);
+
+/* The same as a pointer, with the count in `*words`: give it what the run was
+ * given, before the next run over the same result. */
+static inline const uint32_t *tamarind_output(const tamarind_outcome *outcome,
+                                              const uint32_t *result, size_t result_len,
+                                              const uint32_t *tree, size_t tree_len,
+                                              size_t *words) {
+    tamarind_posting posting =
+        tamarind_words_to_post(outcome->ending, outcome->filled, result_len, tree_len);
+    *words = posting.words;
+    return posting.source == TAMARIND_POST_RESULT ? result : tree;
+}
+
 #ifdef __cplusplus
 }
 #endif
+
+/* The archive is compiled for the layouts below. A compiler that lays the
+ * structs out otherwise stops here, in every C from C99 on and in C++. */
+#if defined(__cplusplus) && __cplusplus >= 201103L
+#define TAMARIND_LAYOUT(name, holds) static_assert(holds, #name)
+#elif !defined(__cplusplus) && __STDC_VERSION__ >= 201112L
+#define TAMARIND_LAYOUT(name, holds) _Static_assert(holds, #name)
+#else
+#define TAMARIND_LAYOUT(name, holds) typedef char tamarind_layout_##name[(holds) ? 1 : -1]
+#endif
+
+TAMARIND_LAYOUT(size_t_has_8_bytes, sizeof(size_t) == 8);
+TAMARIND_LAYOUT(pointers_have_8_bytes, sizeof(void *) == 8);
+TAMARIND_LAYOUT(answer_size, sizeof(tamarind_answer) == 16);
+TAMARIND_LAYOUT(answer_number, offsetof(tamarind_answer, number) == 0);
+TAMARIND_LAYOUT(answer_position, offsetof(tamarind_answer, position) == 8);
+TAMARIND_LAYOUT(outcome_size, sizeof(tamarind_outcome) == 32);
+TAMARIND_LAYOUT(outcome_ending, offsetof(tamarind_outcome, ending) == 0);
+TAMARIND_LAYOUT(outcome_number, offsetof(tamarind_outcome, number) == 4);
+TAMARIND_LAYOUT(outcome_position, offsetof(tamarind_outcome, position) == 8);
+TAMARIND_LAYOUT(outcome_attempts, offsetof(tamarind_outcome, attempts) == 16);
+TAMARIND_LAYOUT(outcome_replacements, offsetof(tamarind_outcome, replacements) == 20);
+TAMARIND_LAYOUT(outcome_filled, offsetof(tamarind_outcome, filled) == 24);
+TAMARIND_LAYOUT(posting_size, sizeof(tamarind_posting) == 16);
+TAMARIND_LAYOUT(posting_source, offsetof(tamarind_posting, source) == 0);
+TAMARIND_LAYOUT(posting_words, offsetof(tamarind_posting, words) == 8);
+
+#undef TAMARIND_LAYOUT
 
 #endif

@@ -3,13 +3,15 @@
 
 #![allow(unsafe_code)]
 
+use core::mem::{offset_of, size_of};
+
 use crate::{Outcome, Refusal, Stop};
 
 /// A single check's answer, as the core returns it.
 #[repr(C)]
 pub struct Answer {
     number: u32,
-    position: u64,
+    position: usize,
 }
 
 impl From<Answer> for Result<(), Refusal> {
@@ -18,7 +20,7 @@ impl From<Answer> for Result<(), Refusal> {
             0 => Ok(()),
             number => Err(Refusal {
                 number,
-                position: answer.position as usize,
+                position: answer.position,
             }),
         }
     }
@@ -35,9 +37,29 @@ pub struct RunAnswer {
     filled: usize,
 }
 
+/// Where the words to post lie, as the core returns it.
+#[repr(C)]
+pub struct Posting {
+    source: u32,
+    words: usize,
+}
+
+// The layouts that the archive is compiled for, those of include/tamarind.h.
+const _: () = {
+    assert!(size_of::<usize>() == 8);
+    assert!(size_of::<Answer>() == 16 && offset_of!(Answer, position) == 8);
+    assert!(size_of::<RunAnswer>() == 32 && offset_of!(RunAnswer, number) == 4);
+    assert!(offset_of!(RunAnswer, position) == 8 && offset_of!(RunAnswer, attempts) == 16);
+    assert!(offset_of!(RunAnswer, replacements) == 20 && offset_of!(RunAnswer, filled) == 24);
+    assert!(size_of::<Posting>() == 16 && offset_of!(Posting, words) == 8);
+};
+
 const DONE: u32 = 0;
 const STOPPED: u32 = 1;
 const REFUSED: u32 = 2;
+
+const POST_TREE: u32 = 0;
+const POST_RESULT: u32 = 1;
 
 impl From<RunAnswer> for Outcome {
     fn from(answer: RunAnswer) -> Self {
@@ -104,7 +126,41 @@ pub fn run(
     }
 }
 
+/// The ending and the filled words of an outcome, as the core returned them.
+fn ending_of(outcome: &Outcome) -> (u32, usize) {
+    match *outcome {
+        Outcome::Refused(_) => (REFUSED, 0),
+        Outcome::Ended {
+            stop: None, filled, ..
+        } => (DONE, filled),
+        Outcome::Ended { filled, .. } => (STOPPED, filled),
+    }
+}
+
+pub fn words_to_post<'a>(outcome: &Outcome, result: &'a [u32], tree: &'a [u32]) -> &'a [u32] {
+    let (ending, filled) = ending_of(outcome);
+    // SAFETY: no pointer is passed.
+    let post = unsafe { tamarind_words_to_post(ending, filled, result.len(), tree.len()) };
+    match post.source {
+        POST_TREE => &tree[..post.words],
+        POST_RESULT => &result[..post.words],
+        source => unreachable!("the core has no source {source}"),
+    }
+}
+
+pub fn edition() -> u32 {
+    // SAFETY: nothing is passed.
+    unsafe { tamarind_edition() }
+}
+
 extern "C" {
+    fn tamarind_edition() -> u32;
+    fn tamarind_words_to_post(
+        ending: u32,
+        filled: usize,
+        result_len: usize,
+        tree_len: usize,
+    ) -> Posting;
     fn tamarind_check_grammar(grammar: *const u32, grammar_len: usize) -> Answer;
     fn tamarind_check_tree(
         grammar: *const u32,

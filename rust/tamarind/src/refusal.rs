@@ -1,40 +1,73 @@
 //! Refusals: nothing was run, and no lent word was changed.
 
-use std::error::Error;
-use std::fmt;
+use core::error::Error;
+use core::fmt;
+
+use crate::meaning;
 
 /// Why something was refused.
+///
+/// ```
+/// use tamarind::Refusal;
+///
+/// // A type that holds itself has no finite tree.
+/// let refusal = tamarind::check_grammar(&[1, 8, 1, 1, 0]).unwrap_err();
+/// assert_eq!(refusal.number, Refusal::NO_FINITE_TREE);
+/// assert_eq!(
+///     refusal.to_string(),
+///     "refused 12 at word 1: a type of which no finite tree exists"
+/// );
+/// ```
 #[derive(Clone, Copy, Debug, PartialEq, Eq)]
 pub struct Refusal {
-    /// The number of the refusal.
+    /// The number of the refusal, one of the constants below.
     pub number: u32,
     /// The word at fault, counted from 0 in what is refused.
     pub position: usize,
 }
 
+/// The numbers, by what is at fault.
+impl Refusal {
+    /// The result memory is too short.
+    pub const RESULT_TOO_SHORT: u32 = 1;
+    /// The work memory is too short.
+    pub const WORK_TOO_SHORT: u32 = 2;
+    /// The budget is not allowed.
+    pub const BUDGET: u32 = 3;
+    /// The grammar is too long.
+    pub const GRAMMAR_TOO_LONG: u32 = 4;
+    /// The rule book is too long.
+    pub const RULES_TOO_LONG: u32 = 5;
+    /// The grammar does not end where it must.
+    pub const GRAMMAR_END: u32 = 10;
+    /// A word of the grammar is not allowed.
+    pub const GRAMMAR_WORD: u32 = 11;
+    /// A type of the grammar has no finite tree.
+    pub const NO_FINITE_TREE: u32 = 12;
+    /// The rule book does not end where it must.
+    pub const RULES_END: u32 = 20;
+    /// A word of the rule book outside pairs is not allowed.
+    pub const RULES_WORD: u32 = 21;
+    /// A variable, rule or operation is not there or cannot be used.
+    pub const RULES_REFERENCE: u32 = 22;
+    /// A pair of the rule book cannot stand where it does.
+    pub const RULES_PAIR: u32 = 23;
+    /// A rule has too many variables, or is nested too deep.
+    pub const RULES_LIMIT: u32 = 24;
+    /// The tree's count of words is not allowed.
+    pub const TREE_SIZE: u32 = 30;
+    /// The tree does not end where it must.
+    pub const TREE_END: u32 = 31;
+    /// A word of the tree is not allowed.
+    pub const TREE_WORD: u32 = 32;
+    /// The tree is nested too deep.
+    pub const TREE_NESTING: u32 = 33;
+}
+
 impl Refusal {
     /// What the number stands for.
-    pub fn meaning(&self) -> &'static str {
-        match self.number {
-            1 => "result under 4,096 words",
-            2 => "work under 16,384 words",
-            3 => "budget 0 or over 1,000,000",
-            4 => "grammar too long",
-            5 => "rule book too long",
-            10 => "grammar ends early, or words left over",
-            11 => "count, map, class, type or element not allowed",
-            12 => "a type of which no finite tree exists",
-            20 => "rule book ends early, or words left over",
-            21 => "count, map, reach or a type outside pairs not allowed, or rule 0's bits",
-            22 => "variable not there yet, rule or operation not there or not usable here or on its scope, argument count",
-            23 => "a pair, value, type or variable's type that cannot stand there; pairs short or over",
-            24 => "17th variable, or nesting over 64",
-            30 => "no words, odd count, or over 4,096",
-            31 => "tree ends early, or words left over",
-            32 => "type, form or value not allowed",
-            33 => "nesting over 64",
-            _ => "unknown refusal",
-        }
+    pub const fn meaning(&self) -> &'static str {
+        meaning(self.number)
     }
 }
 

@@ -1,78 +1,26 @@
 //! Runs: what one is given, how it ends, and the words to post.
 
-use std::fmt;
+use core::fmt;
 
-use crate::{foreign, Refusal};
-
-/// The fewest words of result memory that a run accepts.
-pub const RESULT_WORDS: usize = 4_096;
-/// The fewest words of work memory that a run accepts.
-pub const WORK_WORDS: usize = 16_384;
-/// The greatest budget that a run accepts.
-pub const GREATEST_BUDGET: u32 = 1_000_000;
-
-/// Why a run ended before it was done.
-#[derive(Clone, Copy, Debug, PartialEq, Eq)]
-pub enum Stop {
-    BudgetSpent,
-    TooManyCalls,
-    TooManyNodes,
-    TooDeep,
-    TooManyLiveNodes,
-    BadOperation,
-}
-
-impl Stop {
-    const ALL: [Stop; 6] = [
-        Stop::BudgetSpent,
-        Stop::TooManyCalls,
-        Stop::TooManyNodes,
-        Stop::TooDeep,
-        Stop::TooManyLiveNodes,
-        Stop::BadOperation,
-    ];
-
-    /// The number of the stop, 40 to 45.
-    pub fn number(self) -> u32 {
-        match self {
-            Stop::BudgetSpent => 40,
-            Stop::TooManyCalls => 41,
-            Stop::TooManyNodes => 42,
-            Stop::TooDeep => 43,
-            Stop::TooManyLiveNodes => 44,
-            Stop::BadOperation => 45,
-        }
-    }
-
-    /// The stop with a number, if there is one.
-    pub fn from_number(number: u32) -> Option<Stop> {
-        Stop::ALL.into_iter().find(|stop| stop.number() == number)
-    }
-
-    /// What the number stands for.
-    pub fn meaning(self) -> &'static str {
-        match self {
-            Stop::BudgetSpent => "a trial is due and the budget is spent",
-            Stop::TooManyCalls => "a 33rd nested call, main being the first",
-            Stop::TooManyNodes => "a tree would pass 2,048 nodes",
-            Stop::TooDeep => "a finished tree's nesting would pass 64",
-            Stop::TooManyLiveNodes => "held nodes would pass 6,144",
-            Stop::BadOperation => "an operation's result under 0 or over 999,999,999, or divisor 0",
-        }
-    }
-}
-
-impl fmt::Display for Stop {
-    fn fmt(&self, f: &mut fmt::Formatter) -> fmt::Result {
-        write!(f, "stopped {}: {}", self.number(), self.meaning())
-    }
-}
+use crate::{foreign, Refusal, Stop};
 
 /// How a run ended.
+///
+/// Its text is for a log, and has no words of the result:
+///
+/// ```
+/// # let grammar = [3, 8, 1, 1, 1, 4, 2, 1, 2];
+/// # let rules = [1, 9, 2, 2, 1, 2, 200, 1, 2, 4200];
+/// # let tree = [0, 0, 1, 0, 2, 200, 1, 0, 2, 500, 1, 1];
+/// let mut pad = tamarind::Pad::new();
+/// let done = pad.run(&grammar, &rules, &tree, 3).outcome;
+/// assert_eq!(done.to_string(), "done, attempts 3, replacements 1");
+/// ```
 #[derive(Clone, Copy, Debug, PartialEq, Eq)]
 #[must_use]
 pub enum Outcome {
-    /// Nothing was run; the result and the work memory are unchanged.
+    /// Nothing was run; the result and the work memory are unchanged, and there
+    /// is nothing to reset.
     Refused(Refusal),
     /// The run is over: the result holds a tree, the work memory only zeros.
     Ended {
@@ -86,6 +34,14 @@ pub enum Outcome {
         /// words behind them are unchanged.
         filled: usize,
     },
+}
+
+impl Outcome {
+    /// Whether the rules were worked to their end, so that the result is what
+    /// is posted.
+    pub const fn is_done(&self) -> bool {
+        matches!(self, Outcome::Ended { stop: None, .. })
+    }
 }
 
 impl fmt::Display for Outcome {
@@ -108,11 +64,24 @@ impl fmt::Display for Outcome {
     }
 }
 
-/// Checks everything and rewrites the tree by the rules into the result, with
-/// at most `budget` attempts.
+/// Checks everything and rewrites the tree by the rule book into the result,
+/// with at most `budget` attempts. [`Pad::run`](crate::Pad::run) is the same
+/// over memories of its own.
 ///
-/// Both memories may hold any words. [`RESULT_WORDS`], [`WORK_WORDS`] and
-/// [`GREATEST_BUDGET`] say what is not refused.
+/// Both memories may hold any words. [`RESULT_WORDS`](crate::RESULT_WORDS),
+/// [`WORK_WORDS`](crate::WORK_WORDS) and
+/// [`GREATEST_BUDGET`](crate::GREATEST_BUDGET) say what is not refused.
+///
+/// ```
+/// use tamarind::{output, run, RESULT_WORDS, WORK_WORDS};
+///
+/// let grammar = [3, 8, 1, 1, 1, 4, 2, 1, 2];
+/// let rules = [1, 9, 2, 2, 1, 2, 200, 1, 2, 4200];
+/// let tree = [0, 0, 1, 0, 2, 200, 1, 1];
+/// let (mut result, mut work) = ([0; RESULT_WORDS], [0; WORK_WORDS]);
+/// let outcome = run(&grammar, &rules, &tree, 9, &mut result, &mut work);
+/// assert_eq!(output(&outcome, &result, &tree), [0, 0, 1, 0, 2, 4200, 1, 1]);
+/// ```
 pub fn run(
     grammar: &[u32],
     rules: &[u32],
@@ -127,11 +96,14 @@ pub fn run(
 /// The words to post after a run: the filled part of the result if the run is
 /// done, otherwise the tree itself. A filled count past the result's end gives
 /// the tree as well.
+///
+/// ```
+/// use tamarind::{output, Outcome, Refusal};
+///
+/// let (number, position) = (Refusal::TREE_SIZE, 0);
+/// let refused = Outcome::Refused(Refusal { number, position });
+/// assert_eq!(output(&refused, &[7, 7, 7, 7], &[1, 2]), [1, 2]);
+/// ```
 pub fn output<'a>(outcome: &Outcome, result: &'a [u32], tree: &'a [u32]) -> &'a [u32] {
-    match *outcome {
-        Outcome::Ended {
-            stop: None, filled, ..
-        } => result.get(..filled).unwrap_or(tree),
-        _ => tree,
-    }
+    foreign::words_to_post(outcome, result, tree)
 }

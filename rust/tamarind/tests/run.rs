@@ -104,7 +104,7 @@ fn rounding_and_quotient() {
     }
     let great = numbers(&[999_999_950]);
     let outcome = run_dirty(&GRAMMAR, &round, &great, 9);
-    assert_eq!(outcome, ended(Some(Stop::BadOperation), 1, 0, &great));
+    assert_eq!(outcome, ended(Some(Stop::OutOfRange), 1, 0, &great));
     let by_300 = [
         1, 13, 2, 1, 1, 64, 2, 1, 4, 2, 1, 2, 300, 4, 66, 0, 1, 0, 1_002, 1, 65, 1,
     ];
@@ -117,7 +117,7 @@ fn calls_and_nodes_stop() {
     // The main rule calls itself on the whole tree.
     let calls = [1, 8, 0, 1, 64, 0, 3, 66, 0, 1, 0, 0, 0];
     let outcome = run_dirty(&GRAMMAR, &calls, &TREE, 99);
-    assert_eq!(outcome, ended(Some(Stop::TooManyCalls), 32, 0, &TREE));
+    assert_eq!(outcome, ended(Some(Stop::CallsTooDeep), 32, 0, &TREE));
     // The sequence gets one number more each time: from 2,046 nodes on, twice.
     let longer = [1, 9, 1, 2, 1, 64, 1, 3, 1, 0, 2, 5, 65, 0];
     let tree = numbers(&[7; 1_022]);
@@ -133,7 +133,7 @@ fn nesting_and_live_nodes_stop() {
     let deeper = [1, 9, 0, 2, 1, 64, 0, 2, 0, 0, 65, 0];
     let tree = |nesting: usize| [vec![0; 2 * nesting - 1], vec![1]].concat();
     let outcome = run_dirty(&opts, &deeper, &tree(63), 99);
-    assert_eq!(outcome, ended(Some(Stop::TooDeep), 2, 1, &tree(64)));
+    assert_eq!(outcome, ended(Some(Stop::NestsTooDeep), 2, 1, &tree(64)));
     // Scope, variable and copy of 2,048 nodes are allowed, one node more not.
     let full = numbers(&[7; 1_023]);
     let copy = [1, 8, 0, 1, 64, 0, 1, 65, 0];
@@ -180,7 +180,7 @@ fn the_words_to_post_are_the_result_only_if_done_and_there() {
     assert_eq!(post(None, 3), [5, 6, 7]);
     assert_eq!(post(None, 4), [1, 2]);
     assert_eq!(post(None, usize::MAX), [1, 2]);
-    assert_eq!(post(Some(Stop::TooDeep), 2), [1, 2]);
+    assert_eq!(post(Some(Stop::NestsTooDeep), 2), [1, 2]);
     let refusal = Outcome::Refused(Refusal {
         number: 30,
         position: 0,
@@ -195,7 +195,7 @@ fn stops_and_outcomes_print_their_meaning() {
     }
     assert_eq!((Stop::from_number(39), Stop::from_number(46)), (None, None));
     let (stopped, _) = run_dirty(&GRAMMAR, &RULES, &TREE, 2);
-    let text = "stopped 40: a trial is due and the budget is spent, attempts 2, replacements 1";
+    let text = "stopped 40: an attempt is due and the budget is spent, attempts 2, replacements 1";
     assert_eq!(stopped.to_string(), text);
     let (refused, _) = run_dirty(&GRAMMAR, &RULES, &TREE, 0);
     let text = "refused 3 at word 0: budget 0 or over 1,000,000";

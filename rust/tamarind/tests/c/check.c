@@ -1,4 +1,6 @@
-/* Calls each function from C and prints each answer. */
+/* Calls each function from C or C++ and prints each answer. The header may be
+ * included twice, and in several files: meanings.c has it too. */
+#include "tamarind.h"
 #include "tamarind.h"
 
 #include <stdio.h>
@@ -15,17 +17,25 @@ enum { GUARD = 8, RESULT = TAMARIND_RESULT_WORDS + 5, WORK = TAMARIND_WORK_WORDS
 static uint32_t result[RESULT + GUARD], result_due[RESULT + GUARD];
 static uint32_t work[WORK + GUARD], work_due[WORK + GUARD];
 
+void print_meanings(void);
+
 static void print(tamarind_answer answer) {
-    printf("%u %llu\n", (unsigned)answer.number, (unsigned long long)answer.position);
+    printf("%u %zu\n", (unsigned)answer.number, answer.position);
 }
 
 static void fill(uint32_t *words, size_t count) {
     for (size_t word = 0; word < count; word++) words[word] = 0xdead0000u + (uint32_t)word;
 }
 
-/* Runs over dirty memories and prints the outcome, and whether both memories
- * are as they must be: `filled` has the words that the result gets, or is null
- * where the run must be refused. */
+/* What is posted after an outcome: which words, and how many. */
+static const char *posted(const tamarind_outcome *outcome, size_t result_len, size_t *words) {
+    const uint32_t *post = tamarind_output(outcome, result, result_len, tree, 12, words);
+    return post == result ? "result" : post == tree ? "tree" : "neither";
+}
+
+/* Runs over dirty memories and prints the outcome, whether both memories are as
+ * they must be, and what is posted: `filled` has the words that the result gets,
+ * or is null where the run must be refused. */
 static void run(const uint32_t *book, size_t book_len, uint32_t budget, const uint32_t *filled) {
     fill(result, RESULT + GUARD);
     fill(work, WORK + GUARD);
@@ -37,11 +47,21 @@ static void run(const uint32_t *book, size_t book_len, uint32_t budget, const ui
     }
     tamarind_outcome outcome =
         tamarind_run(grammar, 9, book, book_len, tree, 12, budget, result, RESULT, work, WORK);
-    printf("%u %u %llu %u %u %llu", (unsigned)outcome.ending, (unsigned)outcome.number,
-           (unsigned long long)outcome.position, (unsigned)outcome.attempts,
-           (unsigned)outcome.replacements, (unsigned long long)outcome.filled);
+    printf("%u %u %zu %u %u %zu", (unsigned)outcome.ending, (unsigned)outcome.number,
+           outcome.position, (unsigned)outcome.attempts, (unsigned)outcome.replacements,
+           outcome.filled);
     int right = !memcmp(result, result_due, sizeof result) && !memcmp(work, work_due, sizeof work);
-    printf(right ? " memories right\n" : " memories wrong\n");
+    size_t words;
+    const char *source = posted(&outcome, RESULT, &words);
+    printf(" memories %s, post %s %zu\n", right ? "right" : "wrong", source, words);
+}
+
+/* A done run with as many words filled, whose result is `result_len` long. */
+static void post(size_t filled, size_t result_len) {
+    tamarind_outcome outcome = {TAMARIND_DONE, 0, 0, 1, 1, filled};
+    size_t words;
+    const char *source = posted(&outcome, result_len, &words);
+    printf("post %s %zu\n", source, words);
 }
 
 int main(void) {
@@ -59,5 +79,10 @@ int main(void) {
     run(rules, 10, 2, rewritten);
     run(untyped, 10, 3, NULL);
     run(rules, 10, 0, NULL);
+    post(8, 8);
+    post(9, 8);
+    post(SIZE_MAX, 8);
+    printf("edition %u %d\n", (unsigned)tamarind_edition(), tamarind_is_this_edition());
+    print_meanings();
     return 0;
 }

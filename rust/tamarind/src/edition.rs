@@ -1,0 +1,44 @@
+//! Whether the archive that is linked belongs to this crate.
+
+use core::error::Error;
+use core::fmt;
+
+use crate::foreign;
+
+/// The edition of the core that this crate is for: 0 is the core as first
+/// specified, and a change request that a caller can see sets its own number.
+pub const EDITION: u32 = 0;
+
+/// The edition of the archive that is linked.
+pub fn edition() -> u32 {
+    foreign::edition()
+}
+
+/// Asks whether the archive that is linked is of this crate's edition. A program
+/// asks once when it starts, and makes no other call if it is not.
+///
+/// ```
+/// assert_eq!(tamarind::check_edition(), Ok(()));
+/// ```
+pub fn check_edition() -> Result<(), WrongEdition> {
+    match edition() {
+        EDITION => Ok(()),
+        linked => Err(WrongEdition { linked }),
+    }
+}
+
+/// The archive that is linked is of another edition than [`EDITION`].
+#[derive(Clone, Copy, Debug, PartialEq, Eq)]
+pub struct WrongEdition {
+    /// The archive's edition.
+    pub linked: u32,
+}
+
+impl fmt::Display for WrongEdition {
+    fn fmt(&self, f: &mut fmt::Formatter) -> fmt::Result {
+        let linked = self.linked;
+        write!(f, "libtamarind.a is of edition {linked}, not {EDITION}")
+    }
+}
+
+impl Error for WrongEdition {}
