@@ -18,15 +18,15 @@ pub enum Stop {
     /// 40: an attempt is due and the budget is spent.
     BudgetSpent,
     /// 41: a 33rd nested call.
-    TooManyCalls,
+    CallsTooDeep,
     /// 42: a tree would pass 2,048 nodes.
     TooManyNodes,
     /// 43: a finished tree's nesting would pass 64.
-    TooDeep,
+    NestsTooDeep,
     /// 44: live nodes would pass 6,144.
     TooManyLiveNodes,
     /// 45: an operation's result out of range, or divisor 0.
-    BadOperation,
+    OutOfRange,
 }
 
 impl Stop {
@@ -34,11 +34,11 @@ impl Stop {
     pub fn number(self) -> u32 {
         match self {
             Stop::BudgetSpent => 40,
-            Stop::TooManyCalls => 41,
+            Stop::CallsTooDeep => 41,
             Stop::TooManyNodes => 42,
-            Stop::TooDeep => 43,
+            Stop::NestsTooDeep => 43,
             Stop::TooManyLiveNodes => 44,
-            Stop::BadOperation => 45,
+            Stop::OutOfRange => 45,
         }
     }
 }
@@ -113,7 +113,7 @@ impl Engine<'_> {
         // Opening the call and taking all arguments is one step, in which the
         // lower number stops.
         if self.calls == limits::CALLS {
-            return Err(Stop::TooManyCalls);
+            return Err(Stop::CallsTooDeep);
         }
         self.calls += 1;
         self.hold(arguments.iter().map(Tree::size).sum())?;
@@ -310,7 +310,7 @@ impl Engine<'_> {
         }
         let tree = Tree::assemble(self.grammar, pieces);
         if tree.height() > limits::NESTING {
-            return Err(Stop::TooDeep);
+            return Err(Stop::NestsTooDeep);
         }
         Ok(tree)
     }
@@ -362,7 +362,7 @@ impl Engine<'_> {
         }
         // All else in the scope was within the limit before.
         if nesting - 1 + new.height() > limits::NESTING {
-            return Err(Stop::TooDeep);
+            return Err(Stop::NestsTooDeep);
         }
         scope.replace_at(position, new);
         self.live -= replaced;
@@ -412,6 +412,6 @@ fn operate(operation: Operation, scope: u32, argument: u32) -> Result<u32, Stop>
     };
     match result.and_then(|result| u32::try_from(result).ok()) {
         Some(result) if result <= limits::NUMBER_VALUE => Ok(result),
-        _ => Err(Stop::BadOperation),
+        _ => Err(Stop::OutOfRange),
     }
 }
