@@ -1,0 +1,86 @@
+//! Inputs of which one check takes long.
+
+use generate::{Input, Random};
+
+use crate::sequences::{built_elements, counted_elements, counted_grammar, elements};
+
+/// Inputs of which one check takes long, each with the check's name. They are
+/// irregular, so that the processor foresees little.
+pub fn slow_checks() -> [(&'static str, Input); 4] {
+    [
+        ("grammar", slow_grammar()),
+        ("tree", slow_tree()),
+        ("rules", slow_forms()),
+        ("rules", slow_chains()),
+    ]
+}
+
+fn unrun(grammar: Vec<u32>, rules: Vec<u32>, tree: Vec<u32>) -> Input {
+    Input {
+        grammar,
+        rules,
+        tree,
+        budget: 1,
+    }
+}
+
+/// 64 types, each of forms of the next one: a round of the search for finite
+/// trees reads all forms and finds one type more.
+fn slow_grammar() -> Input {
+    let mut random = Random::new(0);
+    let mut grammar = vec![64];
+    for next in 1..64 {
+        let mut forms = Vec::new();
+        while forms.len() < 16 && forms.iter().map(Vec::len).sum::<usize>() < 54 {
+            forms.push(irregular_form(&mut random, next));
+        }
+        grammar.extend([8, forms.len() as u32]);
+        grammar.extend(forms.concat());
+    }
+    grammar.extend([1, 2]);
+    unrun(grammar, vec![], vec![])
+}
+
+/// A form of literals and elements of a type, which is the last of them.
+fn irregular_form(random: &mut Random, ty: u32) -> Vec<u32> {
+    let count = random.between(1, 8);
+    let mut words = vec![count as u32];
+    let literal = 65_536;
+    words.extend((1..count).map(|_| random.pick(&[literal, ty])));
+    words.push(ty);
+    words
+}
+
+/// A program of irregular elements, as many as fit.
+fn slow_tree() -> Input {
+    let sequence = counted_elements(&mut Random::new(0), 2_047);
+    let tree = [vec![0, 0], sequence].concat();
+    unrun(counted_grammar(), vec![], tree)
+}
+
+/// Rules whose parts build sequences of them.
+fn slow_forms() -> Input {
+    let mut random = Random::new(0);
+    let mut rules = vec![7];
+    for _ in 0..7 {
+        let parts: Vec<u32> = (0..8).flat_map(|_| built_elements(&mut random)).collect();
+        rules.extend([vec![12, 0, 1, 64, 0, 8], parts, vec![1, 65, 0]].concat());
+    }
+    unrun(counted_grammar(), rules, vec![])
+}
+
+/// Rules that build sequences of chains, each of four applications with four
+/// arguments.
+fn slow_chains() -> Input {
+    let grammar = vec![3, 8, 1, 1, 1, 4, 2, 1, 2];
+    let application = [vec![1, 4], [65, 0].repeat(4)].concat();
+    let chain = [vec![66, 0, 4, 0], application.repeat(4)].concat();
+    let built = [vec![116], elements(5, &chain), vec![1, 1]].concat();
+    let part = [vec![4, 1], built].concat();
+    let copy = vec![1, 65, 0];
+    let parts = [vec![8], part.repeat(8), copy].concat();
+    let main = [vec![13, 2, 1, 1, 64, 2], parts.clone()].concat();
+    let other = [vec![14, 2, 4, 2, 2, 2, 2, 1, 64, 2], parts].concat();
+    let rules = [vec![8], main, other.repeat(7)].concat();
+    unrun(grammar, rules, vec![])
+}
