@@ -13,7 +13,6 @@ use Rattle.tree.proofs.Rest.{tree-rest}
 use Rattle.rules.specs.Rules as Rules
 use Rattle.rules.specs.Rules.{shapes, pieces, conditionOf}
 use Rattle.rules.specs.Layout.{PartAt, deconstructAt, constructAt, conditionAt, partAt, partOf, stretch}
-use Rattle.rules.specs.Views as Views
 use Rattle.rules.specs.Views.{pairsAt, partAs}
 use Rattle.rules.specs.declared.Deconstruct.{Deconstruct}
 use Rattle.rules.specs.declared.Construct.{Construct}

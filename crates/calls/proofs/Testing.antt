@@ -23,17 +23,16 @@ use Rattle.operations.specs.Operating.{argumentsOf, Compared}
 use Rattle.marks.specs.Marked.{Stands}
 use Rattle.rewrite.specs.Vars.{startAt, Sound}
 use Rattle.rewrite.specs.Matching.{bindings}
-use Rattle.rewrite.proofs.Matcher.{kept-same}
 use Rattle.rewrite.specs.declared.Verdict.{Verdict}
 use Rattle.rewrite.specs.declared.Verdict.the-variants.{Matches, Differs, Stops}
 use Rattle.rewrite.specs.Arena.{Arguments, NodesAt, Gathered, Standing}
 use Rattle.rules.specs.Views.{pairsAt, Planned, chainCount}
-use Rattle.calls.specs.Engine.{Open, Taking, Seeking, turnedBy, Room, Grown, Sure, TakenAs, TestedAs, SoughtAs, FoundFits, Tree, Held, Given, Setting, partOn, Conditions, Seeks, CallMatches, succeedsAt, chainAt, Succeeds, AnySucceeds}
+use Rattle.calls.specs.Engine.{Open, Taking, Seeking, turnedBy, Room, Sure, TakenAs, TestedAs, SoughtAs, FoundFits, Tree, Held, Given, Setting, partOn, Conditions, Seeks, CallMatches, succeedsAt, chainAt, Succeeds, AnySucceeds}
 use Rattle.rules.specs.declared.Plan.{Plan}
 use Rattle.calls.specs.declared.Found as Code
 use Rattle.calls.specs.declared.Found.the-variants.{At, Nowhere, Stopped}
 use Rattle.calls.specs.declared.Tested.{Tested}
-use Rattle.calls.proofs.Frames.{standing-stands, standing-whole, stands-standing, held-kept}
+use Rattle.calls.proofs.Frames.{grown-same, standing-stands, standing-whole, stands-standing, held-kept}
 use Rattle.rewrite.proofs.Leaves.{variable-stands}
 use Rattle.calls.proofs.Going.{sure-first, sure-as, variable-sure, live-fits, live-over, then-then}
 use Rattle.calls.proofs.Applied.{begin-sure, RuleGiven, rule-given, operation-given, rule-few, compare-arguments, value-there, operand-values}
@@ -353,10 +352,6 @@ module _ (given : Given) (w : Words) (negated : Bool) (at next : ℕ) (frame : O
   abbrev Part : Grammar → Rules.Rules → Bindings → Result (Option Bindings)
   Part g rules b = partOn deep (Rules.condition negated (getD (pairsAt (given .book) at) 1 0) (conditionOf (pairsAt (given .book) at))) g rules b left
 
-  -- nothing is bound
-  same-frame : Grown frame frame
-  same-frame = record { sound = room .sound; kept = kept-same (frame .vars); few = room .few; low = room .low; more = le-refl (frame .live); higher = le-refl (frame .top) }
-
   -- the variable's tree has n nodes and stands at the place
   module _ (ps : Words) (x place n : ℕ) (eps : ps ≡ pairsAt (given .book) at) (ex : x ≡ getD ps 1 0) (ep : place ≡ startAt (frame .vars) x) (na : NodesAt w place (frame .top) n) where
     record Located (g : Grammar) (rules : Rules.Rules) (b : Bindings) : Type 0 where
@@ -387,7 +382,7 @@ module _ (given : Given) (w : Words) (negated : Bool) (at next : ℕ) (frame : O
     condition-over h r e = rw e (record {
       next-is = refl;
       takes = record {
-        grown = same-frame;
+        grown = grown-same room;
         less = le-refl (left .attempts);
         long = refl;
         meant = λ g rules b st held s.
@@ -401,7 +396,7 @@ module _ (given : Given) (w : Words) (negated : Bool) (at next : ℕ) (frame : O
     condition-tested h w′ t ts v ev r e = rw (e, ev) (record {
       next-is = refl;
       takes = record {
-        grown = same-frame;
+        grown = grown-same room;
         less = ts .less;
         long = ts .long;
         meant = λ g rules b st held s.

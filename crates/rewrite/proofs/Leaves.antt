@@ -5,7 +5,7 @@ use mathlib.Core.List.{List, [], _∷_, _++_, append-assoc, append-nil}
 use mathlib.Core.Option.{Option, none, some}
 use native.Mathlib.Omega.{arith}
 use native.Mathlib.Numerals.{add-one}
-use lib.ListN.{length, getD, take, drop, set, replicate, getElem?, length-set, length-take, take-append-drop}
+use lib.ListN.{length, getD, take, drop, set, getElem?, length-set, length-take, take-append-drop}
 use lib.Seq.{sets-eq, drop-drop, getD-drop, getD-take}
 use borrow.Author.Tests.{le-leb, lt-leb}
 use Rattle.words.specs.Reader.{Words}

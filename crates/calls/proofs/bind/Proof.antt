@@ -5,30 +5,22 @@ use Rattle.calls.proofs.Finishing.{named-bound, named-none}
 use borrow.Author.Needs.{needs}
 use Rattle.calls.proofs.bind.Statement.{statement}
 use Rattle.calls.proofs.bind.Tie as tie
-use Rattle.calls.proofs.bind.Reads as reads
-use Rattle.calls.proofs.bind.Lts as lts
 
--- src/lib.rt:200:21
 cast-places : tie.Need-cast-places
 cast-places c = search needs
 
--- src/lib.rt:200:9
 mul-places : tie.Need-mul-places
 mul-places c = search needs
 
--- src/lib.rt:200:9
 element-write-places : tie.Need-element-write-places
 element-write-places c = omega (arith, c .if1 .taken, c .before .pre .0 .room)
 
--- src/lib.rt:201:16
 add-result : tie.Need-add-result
 add-result c = search needs
 
--- src/lib.rt:201:9
 returns : tie.Need-returns
 returns c = named-bound (varsOf (c .before .args .places .now) (c .before .args .n)) (c .before .args .start) (c .before .pre .0) (c .if1 .taken)
 
--- src/lib.rt:195:1
 returns-2 : tie.Need-returns-2
 returns-2 c = named-none (varsOf (c .before .args .places .now) (c .before .args .n)) (c .before .args .start) (c .before .pre .0) (c .if1 .left)
 

@@ -11,106 +11,73 @@ use mathlib.Core.Path.{_≡_, refl, ap, _∙_}
 use borrow.Author.Needs.{needs}
 use Rattle.calls.proofs.deconstruct.Statement.{statement}
 use Rattle.calls.proofs.deconstruct.Tie as tie
-use Rattle.calls.proofs.deconstruct.Reads as reads
-use Rattle.calls.proofs.deconstruct.Lts as lts
-use Rattle.calls.proofs.match_taken.Reads as match-taken-reads
-use Rattle.calls.proofs.taking.Reads as taking-reads
-use Rattle.rewrite.proofs.arena.nodes_at.Reads as nodes-at-reads
-use Rattle.rewrite.proofs.match_first.Reads as match-first-reads
-use Rattle.rewrite.proofs.match_pattern.Reads as match-pattern-reads
-use Rattle.rewrite.proofs.start_in.Reads as start-in-reads
-use Rattle.rules.proofs.pairs_of.Reads as pairs-of-reads
-use Rattle.words.proofs.word.Reads as word-reads
 
--- src/lib.rt:166:9
 pairs-of-requires : tie.Need-pairs-of-requires
 pairs-of-requires c κs = search needs
 
--- src/lib.rt:170:50
 word-requires : tie.Need-word-requires
 word-requires c κs = search needs
 
--- src/lib.rt:170:9
 start-in-requires : tie.Need-start-in-requires
 start-in-requires c κs = search needs
 
--- src/lib.rt:171:9
 nodes-at-requires : tie.Need-nodes-at-requires
 nodes-at-requires c κs = search needs
 
--- src/lib.rt:173:9
 taking-requires : tie.Need-taking-requires
 taking-requires c κs = search needs
 
--- src/lib.rt:173:9
 returns : tie.Need-returns
 returns c = rw (c .taking .ensures) (deconstruct-none (c .before .before .before .before .before .before .before .before .before .args .book .now) (c .before .before .before .before .before .before .before .before .before .args .w .now) (c .before .before .before .before .before .before .before .before .before .args .d) (c .before .before .before .before .before .before .before .before .before .args .next) (openOf (c .before .before .before .before .before .before .before .before .before .args .places .now) (c .before .before .before .before .before .before .before .before .before .args .frame)) (c .before .before .before .before .before .before .before .before .before .args .left) (c .before .before .before .before .before .before .before .before .before .pre) _ _ (c .before .before .before .start-in .ensures .0 ∙ ap (λ k. startAt (varsOf (c .before .before .before .before .before .before .before .before .before .args .places .now) (c .before .before .before .before .before .before .before .before .before .args .frame .bound)) k) (c .before .before .before .before .word .ensures)) (c .before .before .nodes-at .ensures) (c .before .if1 .taken))
 
--- src/lib.rt:175:23
 mul-end : tie.Need-mul-end
 mul-end c = search needs
 
--- src/lib.rt:175:15
 add-end : tie.Need-add-end
 add-end c = search needs
 
--- src/lib.rt:176:9
 slice-aggregate-arena : tie.Need-slice-aggregate-arena
 slice-aggregate-arena c = omega (arith, length-take (c .before .before .before .before .before .before .before .before .before .args .frame .top) (c .before .before .before .before .before .before .before .before .before .args .w .now), c .before .before .before .before .before .before .before .before .before .pre .low, c .before .before .before .before .before .before .before .before .before .pre .few, c .before .before .before .before .before .before .before .before .before .pre .long)
 
--- src/lib.rt:182:13
 mul-match-first : tie.Need-mul-match-first
 mul-match-first c = search needs
 
--- src/lib.rt:182:13
 sub-match-first : tie.Need-sub-match-first
 sub-match-first c = search needs
 
--- src/lib.rt:182:13
 part-match-first-start : tie.Need-part-match-first-start
 part-match-first-start c = search needs
 
--- src/lib.rt:182:13
 part-match-first-end : tie.Need-part-match-first-end
 part-match-first-end c = omega (arith, ends-by (c .before .before .before .nodes-at .ensures) (c .before .before .if1 .left), length-take (c .before .before .before .before .before .before .before .before .before .before .args .frame .top) (c .before .before .before .before .before .before .before .before .before .before .args .w .now), c .before .before .before .before .before .before .before .before .before .before .pre .low, c .before .before .before .before .before .before .before .before .before .before .pre .few, c .before .before .before .before .before .before .before .before .before .before .pre .long)
 
--- src/lib.rt:178:13
 match-first-requires : tie.Need-match-first-requires
 match-first-requires c κs = let i = ends-by (c .before .before .before .before .before .nodes-at .ensures) (c .before .before .before .before .if1 .left) in (c .before .before .before .before .before .before .before .before .before .pairs-of .ensures .1, omega (arith, c .before .before .before .before .before .before .before .before .before .before .before .before .pre .low, c .before .before .before .before .before .before .before .before .before .before .before .before .pre .few, part-within (c .before .before .before .before .before .before .before .before .before .before .before .before .args .w .now) (c .before .before .before .before .before .before .before .before .before .before .before .before .args .frame .top) (c .before .before .before .before .before .before .start-in .result) (c .before .before .before .before .before .before .start-in .result + 2 * c .before .before .before .before .before .nodes-at .result - c .before .before .before .before .before .before .start-in .result) (omega arith)), c .before .before .before .before .before .before .before .before .before .before .before .before .pre .sound, c .before .before .before .before .before .before .before .before .before .before .before .before .pre .few)
 
--- src/lib.rt:188:9
 match-taken-requires : tie.Need-match-taken-requires
 match-taken-requires c κs = search needs
 
--- src/lib.rt:188:9
 returns-2 : tie.Need-returns-2
 returns-2 c = let z : c .before .before .before .before .before .before .before .before .start-in .result + 2 * c .before .before .before .before .before .before .before .nodes-at .result - c .before .before .before .before .before .before .before .before .start-in .result ≡ 2 * c .before .before .before .before .before .before .before .nodes-at .result = omega arith in rw (c .match-taken .ensures) (deconstruct-matched (c .before .before .before .before .before .before .before .before .before .before .before .before .before .before .args .book .now) (c .before .before .before .before .before .before .before .before .before .before .before .before .before .before .args .w .now) (c .before .before .before .before .before .before .before .before .before .before .before .before .before .before .args .d) (c .before .before .before .before .before .before .before .before .before .before .before .before .before .before .args .next) (openOf (c .before .before .before .before .before .before .before .before .before .before .before .before .before .before .args .places .now) (c .before .before .before .before .before .before .before .before .before .before .before .before .before .before .args .frame)) (c .before .before .before .before .before .before .before .before .before .before .before .before .before .before .args .left) (c .before .before .before .before .before .before .before .before .before .before .before .before .before .before .pre) _ _ (c .before .before .before .before .before .before .before .before .start-in .ensures .0 ∙ ap (λ k. startAt (varsOf (c .before .before .before .before .before .before .before .before .before .before .before .before .before .before .args .places .now) (c .before .before .before .before .before .before .before .before .before .before .before .before .before .before .args .frame .bound)) k) (c .before .before .before .before .before .before .before .before .before .word .ensures)) (c .before .before .before .before .before .before .before .nodes-at .ensures) (take (c .before .before .before .before .before .before .before .before .before .before .before .before .before .before .args .frame .top) (c .before .before .before .before .before .before .before .before .before .before .before .before .before .before .args .w .now)) _ refl (ap (λ k. take k (drop (c .before .before .before .before .before .before .before .before .start-in .result) (take (c .before .before .before .before .before .before .before .before .before .before .before .before .before .before .args .frame .top) (c .before .before .before .before .before .before .before .before .before .before .before .before .before .before .args .w .now)))) z) _ (c .before .before .before .before .before .before .before .before .before .before .before .pairs-of .ensures .0) true (c .before .before .before .before .if2 .taken) (matchIn (c .before .match-first .last .1 .1 .1 .1 .1 .0) (c .before .match-first .result)) (c .before .match-first .ensures true))
 
--- src/lib.rt:190:50
 mul-match-pattern : tie.Need-mul-match-pattern
 mul-match-pattern c = search needs
 
--- src/lib.rt:190:50
 sub-match-pattern : tie.Need-sub-match-pattern
 sub-match-pattern c = search needs
 
--- src/lib.rt:190:50
 part-match-pattern-start : tie.Need-part-match-pattern-start
 part-match-pattern-start c = search needs
 
--- src/lib.rt:190:50
 part-match-pattern-end : tie.Need-part-match-pattern-end
 part-match-pattern-end c = omega (arith, ends-by (c .before .before .before .nodes-at .ensures) (c .before .before .if1 .left), length-take (c .before .before .before .before .before .before .before .before .before .before .args .frame .top) (c .before .before .before .before .before .before .before .before .before .before .args .w .now), c .before .before .before .before .before .before .before .before .before .before .pre .low, c .before .before .before .before .before .before .before .before .before .before .pre .few, c .before .before .before .before .before .before .before .before .before .before .pre .long)
 
--- src/lib.rt:190:9
 match-pattern-requires : tie.Need-match-pattern-requires
 match-pattern-requires c κs = let i = ends-by (c .before .before .before .before .before .nodes-at .ensures) (c .before .before .before .before .if1 .left) in (c .before .before .before .before .before .before .before .before .before .pairs-of .ensures .1, omega (arith, c .before .before .before .before .before .before .before .before .before .before .before .before .pre .low, c .before .before .before .before .before .before .before .before .before .before .before .before .pre .few), c .before .before .before .before .before .before .before .before .before .before .before .before .pre .sound, c .before .before .before .before .before .before .before .before .before .before .before .before .pre .few)
 
--- src/lib.rt:191:5
 match-taken-requires-2 : tie.Need-match-taken-requires-2
 match-taken-requires-2 c κs = search needs
 
--- src/lib.rt:154:1
 returns-3 : tie.Need-returns-3
 returns-3 c = let z : c .before .before .before .before .before .before .before .before .start-in .result + 2 * c .before .before .before .before .before .before .before .nodes-at .result - c .before .before .before .before .before .before .before .before .start-in .result ≡ 2 * c .before .before .before .before .before .before .before .nodes-at .result = omega arith in rw (c .match-taken2 .ensures) (deconstruct-matched (c .before .before .before .before .before .before .before .before .before .before .before .before .before .before .args .book .now) (c .before .before .before .before .before .before .before .before .before .before .before .before .before .before .args .w .now) (c .before .before .before .before .before .before .before .before .before .before .before .before .before .before .args .d) (c .before .before .before .before .before .before .before .before .before .before .before .before .before .before .args .next) (openOf (c .before .before .before .before .before .before .before .before .before .before .before .before .before .before .args .places .now) (c .before .before .before .before .before .before .before .before .before .before .before .before .before .before .args .frame)) (c .before .before .before .before .before .before .before .before .before .before .before .before .before .before .args .left) (c .before .before .before .before .before .before .before .before .before .before .before .before .before .before .pre) _ _ (c .before .before .before .before .before .before .before .before .start-in .ensures .0 ∙ ap (λ k. startAt (varsOf (c .before .before .before .before .before .before .before .before .before .before .before .before .before .before .args .places .now) (c .before .before .before .before .before .before .before .before .before .before .before .before .before .before .args .frame .bound)) k) (c .before .before .before .before .before .before .before .before .before .word .ensures)) (c .before .before .before .before .before .before .before .nodes-at .ensures) (take (c .before .before .before .before .before .before .before .before .before .before .before .before .before .before .args .frame .top) (c .before .before .before .before .before .before .before .before .before .before .before .before .before .before .args .w .now)) _ refl (ap (λ k. take k (drop (c .before .before .before .before .before .before .before .before .start-in .result) (take (c .before .before .before .before .before .before .before .before .before .before .before .before .before .before .args .frame .top) (c .before .before .before .before .before .before .before .before .before .before .before .before .before .before .args .w .now)))) z) _ (c .before .before .before .before .before .before .before .before .before .before .before .pairs-of .ensures .0) false (c .before .before .before .before .if2 .left) (matchIn (c .before .match-pattern .last .1 .1 .1 .1 .0) (c .before .match-pattern .result)) (c .before .match-pattern .ensures true))
 

@@ -8,12 +8,6 @@ use lib.ListN.{length}
 use borrow.Author.Needs.{needs}
 use Rattle.rewrite.proofs.match_pattern.Statement.{statement}
 use Rattle.rewrite.proofs.match_pattern.Tie as tie
-use Rattle.rewrite.proofs.match_pattern.Reads as reads
-use Rattle.rewrite.proofs.match_pattern.Lts as lts
-use Rattle.rewrite.proofs.failed.Reads as failed-reads
-use Rattle.rewrite.proofs.matches.Reads as matches-reads
-use Rattle.rewrite.proofs.pair_words.Reads as pair-words-reads
-use Rattle.rewrite.proofs.start_in.Reads as start-in-reads
 
 abbrev Inv-loop : tie.InvT-loop
 Inv-loop pairs arena part at places₀ bound held n₀ live₀ i₀ p₀ places n live i p = Going pairs arena part at (varsOf places₀ bound) held (varsOf places n) live i p
@@ -21,111 +15,84 @@ Inv-loop pairs arena part at places₀ bound held n₀ live₀ i₀ p₀ places 
 abbrev μ-loop : tie.MeasureT-loop
 μ-loop pairs arena part at places₀ bound held n₀ live₀ i₀ p₀ places n live i p = length pairs - i
 
--- src/lib.rt:162:5
 loop-holds : tie.Need-loop-holds Inv-loop μ-loop
 loop-holds c = going-start (c .before .before .before .args .pairs .now) (c .before .before .before .args .arena .now) (c .before .before .before .args .part .now) (c .before .before .before .args .at) (varsOf (c .before .before .before .args .places .now) (c .before .before .before .args .bound)) (c .before .before .before .args .held) (c .before .before .before .pre .2) (c .before .before .before .pre .3)
 
--- src/lib.rt:162:16
 sub-loop : tie.Need-sub-loop Inv-loop μ-loop
 sub-loop c = omega (arith, c .loop .inv .read)
 
--- src/lib.rt:163:17
 mul-t : tie.Need-mul-t Inv-loop μ-loop
 mul-t c = search needs
 
--- src/lib.rt:163:17
 shared-slice-read-t : tie.Need-shared-slice-read-t Inv-loop μ-loop
 shared-slice-read-t c = omega (arith, c .before .before .loop .inv .read, c .before .loop-test .taken)
 
--- src/lib.rt:164:23
 add-v : tie.Need-add-v Inv-loop μ-loop
 add-v c = omega (arith, c .before .before .loop .inv .read, c .before .loop-test .taken)
 
--- src/lib.rt:164:17
 mul-v : tie.Need-mul-v Inv-loop μ-loop
 mul-v c = search needs
 
--- src/lib.rt:164:17
 shared-slice-read-v : tie.Need-shared-slice-read-v Inv-loop μ-loop
 shared-slice-read-v c = omega (arith, c .before .before .before .loop .inv .read, c .before .before .loop-test .taken)
 
--- src/lib.rt:165:13
 start-in-requires : tie.Need-start-in-requires Inv-loop μ-loop
 start-in-requires c κs = search needs
 
--- src/lib.rt:166:13
 pair-words-requires : tie.Need-pair-words-requires Inv-loop μ-loop
 pair-words-requires c κs = (c .start-in .ensures .1, omega (arith, c .before .before .before .before .before .loop .inv .near, c .before .before .before .before .before .loop .inv .read, c .before .before .before .before .before .before .before .before .before .pre .0), c .before .before .before .before .before .loop .inv .fits)
 
--- src/lib.rt:168:13
 failed-requires : tie.Need-failed-requires Inv-loop μ-loop
 failed-requires c κs = search needs
 
--- src/lib.rt:168:13
 returns : tie.Need-returns Inv-loop μ-loop
 returns c = rw (c .failed .ensures) (pair-failed (c .before .before .before .before .before .before .before .before .before .before .before .before .args .pairs .now) (c .before .before .before .before .before .before .before .before .before .before .before .before .args .arena .now) (c .before .before .before .before .before .before .before .before .before .before .before .before .args .part .now) (c .before .before .before .before .before .before .before .before .before .before .before .before .args .at) (varsOf (c .before .before .before .before .before .before .before .before .before .before .before .before .args .places .now) (c .before .before .before .before .before .before .before .before .before .before .before .before .args .bound)) (c .before .before .before .before .before .before .before .before .before .before .before .before .args .held) (varsOf (c .before .before .before .before .before .before .before .before .loop .places) (c .before .before .before .before .before .before .before .before .loop .n)) (c .before .before .before .before .before .before .before .before .loop .live) (c .before .before .before .before .before .before .before .before .loop .i) (c .before .before .before .before .before .before .before .before .loop .p) (c .before .before .before .before .before .before .before .before .loop .inv) (c .before .before .before .before .before .before .before .loop-test .taken) _ _ _ _ refl refl (c .before .before .before .start-in .ensures .0) (c .before .before .pair-words .ensures .0) (c .before .if1 .taken))
 
--- src/lib.rt:171:26
 add-places : tie.Need-add-places Inv-loop μ-loop
 add-places c = omega (arith, c .before .before .before .before .before .before .before .before .loop .inv .near, c .before .before .before .before .before .before .before .before .loop .inv .read, c .before .before .before .before .before .before .before .before .before .before .before .before .pre .0, c .before .before .before .before .before .before .before .before .before .before .before .before .pre .1)
 
--- src/lib.rt:171:25
 cast-places : tie.Need-cast-places Inv-loop μ-loop
 cast-places c = omega (arith, c .before .before .before .before .before .before .before .before .loop .inv .near, c .before .before .before .before .before .before .before .before .loop .inv .read, c .before .before .before .before .before .before .before .before .before .before .before .before .pre .0, c .before .before .before .before .before .before .before .before .before .before .before .before .pre .1)
 
--- src/lib.rt:171:13
 mul-places : tie.Need-mul-places Inv-loop μ-loop
 mul-places c = let b = pair-bound (c .before .before .before .before .before .before .before .before .before .before .before .before .args .pairs .now) (c .before .before .before .before .before .before .before .before .before .before .before .before .args .arena .now) (c .before .before .before .before .before .before .before .before .before .before .before .before .args .part .now) (c .before .before .before .before .before .before .before .before .before .before .before .before .args .at) (varsOf (c .before .before .before .before .before .before .before .before .before .before .before .before .args .places .now) (c .before .before .before .before .before .before .before .before .before .before .before .before .args .bound)) (c .before .before .before .before .before .before .before .before .before .before .before .before .args .held) (varsOf (c .before .before .before .before .before .before .before .before .loop .places) (c .before .before .before .before .before .before .before .before .loop .n)) (c .before .before .before .before .before .before .before .before .loop .live) (c .before .before .before .before .before .before .before .before .loop .i) (c .before .before .before .before .before .before .before .before .loop .p) (c .before .before .before .before .before .before .before .before .loop .inv) (c .before .before .before .before .before .before .before .loop-test .taken) _ _ _ _ refl refl (c .before .before .before .start-in .ensures .0) (c .before .before .pair-words .ensures .0) (c .if2 .taken) (c .before .if1 .left) in omega (arith, b .0)
 
--- src/lib.rt:171:13
 element-write-places : tie.Need-element-write-places Inv-loop μ-loop
 element-write-places c = let b = pair-bound (c .before .before .before .before .before .before .before .before .before .before .before .before .args .pairs .now) (c .before .before .before .before .before .before .before .before .before .before .before .before .args .arena .now) (c .before .before .before .before .before .before .before .before .before .before .before .before .args .part .now) (c .before .before .before .before .before .before .before .before .before .before .before .before .args .at) (varsOf (c .before .before .before .before .before .before .before .before .before .before .before .before .args .places .now) (c .before .before .before .before .before .before .before .before .before .before .before .before .args .bound)) (c .before .before .before .before .before .before .before .before .before .before .before .before .args .held) (varsOf (c .before .before .before .before .before .before .before .before .loop .places) (c .before .before .before .before .before .before .before .before .loop .n)) (c .before .before .before .before .before .before .before .before .loop .live) (c .before .before .before .before .before .before .before .before .loop .i) (c .before .before .before .before .before .before .before .before .loop .p) (c .before .before .before .before .before .before .before .before .loop .inv) (c .before .before .before .before .before .before .before .loop-test .taken) _ _ _ _ refl refl (c .before .before .before .start-in .ensures .0) (c .before .before .pair-words .ensures .0) (c .if2 .taken) (c .before .if1 .left) in omega (arith, b .0, c .before .before .before .before .before .before .before .before .loop .inv .sound .room)
 
--- src/lib.rt:172:17
 add-n : tie.Need-add-n Inv-loop μ-loop
 add-n c = let b = pair-bound (c .before .before .before .before .before .before .before .before .before .before .before .before .args .pairs .now) (c .before .before .before .before .before .before .before .before .before .before .before .before .args .arena .now) (c .before .before .before .before .before .before .before .before .before .before .before .before .args .part .now) (c .before .before .before .before .before .before .before .before .before .before .before .before .args .at) (varsOf (c .before .before .before .before .before .before .before .before .before .before .before .before .args .places .now) (c .before .before .before .before .before .before .before .before .before .before .before .before .args .bound)) (c .before .before .before .before .before .before .before .before .before .before .before .before .args .held) (varsOf (c .before .before .before .before .before .before .before .before .loop .places) (c .before .before .before .before .before .before .before .before .loop .n)) (c .before .before .before .before .before .before .before .before .loop .live) (c .before .before .before .before .before .before .before .before .loop .i) (c .before .before .before .before .before .before .before .before .loop .p) (c .before .before .before .before .before .before .before .before .loop .inv) (c .before .before .before .before .before .before .before .loop-test .taken) _ _ _ _ refl refl (c .before .before .before .start-in .ensures .0) (c .before .before .pair-words .ensures .0) (c .if2 .taken) (c .before .if1 .left) in omega (arith, b .0)
 
--- src/lib.rt:173:20
 add-live : tie.Need-add-live Inv-loop μ-loop
 add-live c = omega (arith, c .before .before .before .before .before .before .before .before .loop .inv .fits, c .before .before .pair-words .ensures .1)
 
--- src/lib.rt:174:17
 add-p : tie.Need-add-p Inv-loop μ-loop
 add-p c = omega (arith, c .before .before .before .before .before .before .before .before .loop .inv .near, c .before .before .before .before .before .before .before .before .loop .inv .read, c .before .before .before .before .before .before .before .before .before .before .before .before .pre .0, c .before .before .pair-words .ensures .1)
 
--- src/lib.rt:175:17
 add-i : tie.Need-add-i Inv-loop μ-loop
 add-i c = omega (arith, c .before .before .before .before .before .before .before .before .loop .inv .read, c .before .before .before .before .before .before .before .loop-test .taken)
 
--- src/lib.rt:162:5
 loop-less : tie.Need-loop-less Inv-loop μ-loop
 loop-less c = omega (arith, c .before .before .before .before .before .before .before .before .loop .inv .read, c .before .before .before .before .before .before .before .loop-test .taken)
 
--- src/lib.rt:162:5
 loop-again : tie.Need-loop-again Inv-loop μ-loop
 loop-again c = pair-bound (c .before .before .before .before .before .before .before .before .before .before .before .before .args .pairs .now) (c .before .before .before .before .before .before .before .before .before .before .before .before .args .arena .now) (c .before .before .before .before .before .before .before .before .before .before .before .before .args .part .now) (c .before .before .before .before .before .before .before .before .before .before .before .before .args .at) (varsOf (c .before .before .before .before .before .before .before .before .before .before .before .before .args .places .now) (c .before .before .before .before .before .before .before .before .before .before .before .before .args .bound)) (c .before .before .before .before .before .before .before .before .before .before .before .before .args .held) (varsOf (c .before .before .before .before .before .before .before .before .loop .places) (c .before .before .before .before .before .before .before .before .loop .n)) (c .before .before .before .before .before .before .before .before .loop .live) (c .before .before .before .before .before .before .before .before .loop .i) (c .before .before .before .before .before .before .before .before .loop .p) (c .before .before .before .before .before .before .before .before .loop .inv) (c .before .before .before .before .before .before .before .loop-test .taken) _ _ _ _ refl refl (c .before .before .before .start-in .ensures .0) (c .before .before .pair-words .ensures .0) (c .if2 .taken) (c .before .if1 .left) .1
 
--- src/lib.rt:177:17
 add-p-2 : tie.Need-add-p-2 Inv-loop μ-loop
 add-p-2 c = omega (arith, c .before .before .before .before .before .before .before .before .loop .inv .near, c .before .before .before .before .before .before .before .before .loop .inv .read, c .before .before .before .before .before .before .before .before .before .before .before .before .pre .0, c .before .before .pair-words .ensures .1)
 
--- src/lib.rt:178:17
 add-i-2 : tie.Need-add-i-2 Inv-loop μ-loop
 add-i-2 c = omega (arith, c .before .before .before .before .before .before .before .before .loop .inv .read, c .before .before .before .before .before .before .before .loop-test .taken)
 
--- src/lib.rt:162:5
 loop-less-2 : tie.Need-loop-less-2 Inv-loop μ-loop
 loop-less-2 c = omega (arith, c .before .before .before .before .before .before .before .before .loop .inv .read, c .before .before .before .before .before .before .before .loop-test .taken)
 
--- src/lib.rt:162:5
 loop-again-2 : tie.Need-loop-again-2 Inv-loop μ-loop
 loop-again-2 c = pair-on (c .before .before .before .before .before .before .before .before .before .before .before .before .args .pairs .now) (c .before .before .before .before .before .before .before .before .before .before .before .before .args .arena .now) (c .before .before .before .before .before .before .before .before .before .before .before .before .args .part .now) (c .before .before .before .before .before .before .before .before .before .before .before .before .args .at) (varsOf (c .before .before .before .before .before .before .before .before .before .before .before .before .args .places .now) (c .before .before .before .before .before .before .before .before .before .before .before .before .args .bound)) (c .before .before .before .before .before .before .before .before .before .before .before .before .args .held) (varsOf (c .before .before .before .before .before .before .before .before .loop .places) (c .before .before .before .before .before .before .before .before .loop .n)) (c .before .before .before .before .before .before .before .before .loop .live) (c .before .before .before .before .before .before .before .before .loop .i) (c .before .before .before .before .before .before .before .before .loop .p) (c .before .before .before .before .before .before .before .before .loop .inv) (c .before .before .before .before .before .before .before .loop-test .taken) _ _ _ _ refl refl (c .before .before .before .start-in .ensures .0) (c .before .before .pair-words .ensures .0) (c .if2 .left) (c .before .if1 .left)
 
--- src/lib.rt:181:5
 matches-requires : tie.Need-matches-requires Inv-loop μ-loop
 matches-requires c κs = search needs
 
--- src/lib.rt:146:1
 returns-2 : tie.Need-returns-2 Inv-loop μ-loop
 returns-2 c = rw (c .matches .ensures) (going-end (c .before .before .before .before .before .before .args .pairs .now) (c .before .before .before .before .before .before .args .arena .now) (c .before .before .before .before .before .before .args .part .now) (c .before .before .before .before .before .before .args .at) (varsOf (c .before .before .before .before .before .before .args .places .now) (c .before .before .before .before .before .before .args .bound)) (c .before .before .before .before .before .before .args .held) (varsOf (c .before .before .loop .places) (c .before .before .loop .n)) (c .before .before .loop .live) (c .before .before .loop .i) (c .before .before .loop .p) (c .before .before .loop .inv) (omega (arith, c .before .loop-test .left)))
 

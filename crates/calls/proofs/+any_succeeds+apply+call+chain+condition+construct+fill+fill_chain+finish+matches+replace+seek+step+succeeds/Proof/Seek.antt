@@ -4,13 +4,13 @@ use Rattle.calls.proofs.Frames.{stretch-below, Still, still-after, grow
 use Rattle.rewrite.proofs.Clashing.{next-in}
 use Rattle.rewrite.specs.Candidates.{NextCandidate}
 use Rattle.rewrite.proofs.Matcher.{answers-kept, kept-same, kept-more}
-use Rattle.rewrite.specs.Vars.{Sound, varsOf}
+use Rattle.rewrite.specs.Vars.{varsOf}
 use Rattle.calls.specs.Engine.{givenOf, openOf}
 use Rattle.calls.proofs.Searching.{tried-few, tried-inside, spent, Searching, searching-start, searching-next, searching-none, searching-spent, searching-differs, searching-stops, Parting, parting-start, parting-on, trying-grown, trying-run, trying-done, trying-differs, trying-stops}
 use lib.ListN.{length-take, length-drop}
 use mathlib.Core.Bool.{true}
 use Prim.Native.Nat.{ℕ, _+_, _*_, _-_, _≤_, _<_}
-use mathlib.Core.Path.{_≡_, refl, sym, ap, subst}
+use mathlib.Core.Path.{_≡_, refl, ap, subst}
 use native.Mathlib.Omega.{arith}
 use borrow.Author.Needs.{needs}
 use lib.ListN.{take, drop}
