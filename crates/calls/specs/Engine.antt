@@ -70,6 +70,7 @@ pub record Taking : Type 0 where
   pub left : State
   pub next : ℕ
 
+-- .. with the places as the step leaves them
 abbrev pub takingIn : Words → Taken → Taking
 takingIn places t = record { verdict = t .verdict; frame = openOf places (t .frame); left = t .left; next = t .next }
 
@@ -80,6 +81,7 @@ pub record Seeking : Type 0 where
   pub left : State
   pub next : ℕ
 
+-- .. with the places as the search leaves them
 abbrev pub seekingIn : Words → Sought → Seeking
 seekingIn places s = record { found = s .found; frame = openOf places (s .frame); left = s .left; next = s .next }
 
