@@ -12,10 +12,8 @@
 static const uint32_t grammar[] = {3, 8, 1, 1, 1, 4, 2, 1, 2};
 static const uint32_t rules[] = {1, 9, 2, 2, 1, 2, 200, 1, 2, 4200};
 static const uint32_t tree[] = {0, 0, 1, 0, 2, 200, 1, 0, 2, 500, 1, 1};
-
 /* The same rules with a fault: they put a sequence where a number must stand. */
 static const uint32_t faulty[] = {1, 9, 2, 2, 1, 2, 200, 1, 1, 1};
-
 /* Lent to every run. They may hold any words, and are never cleared. */
 static uint32_t result[TAMARIND_RESULT_WORDS], work[TAMARIND_WORK_WORDS];
 
@@ -25,14 +23,10 @@ static void run_and_post(const uint32_t *book, size_t book_len, uint32_t budget)
     const tamarind_outcome o =
         tamarind_run(grammar, COUNT(grammar), book, book_len, tree, COUNT(tree), budget,
                      result, COUNT(result), work, COUNT(work));
-    const char *meaning = tamarind_meaning(o.number);
-    if (o.ending == TAMARIND_REFUSED) {
-        printf("refused %" PRIu32 " at word %zu: %s\n", o.number, o.position, meaning);
-    } else {
-        if (o.ending == TAMARIND_DONE) printf("done");
-        else printf("stopped %" PRIu32 ": %s", o.number, meaning);
-        printf(", attempts %" PRIu32 ", replacements %" PRIu32 "\n", o.attempts, o.replacements);
-    }
+    if (o.ending == TAMARIND_DONE) printf("done");
+    if (o.ending == TAMARIND_STOPPED) printf("stopped %" PRIu32 ": %s", o.number, tamarind_meaning(o.number));
+    if (o.ending == TAMARIND_REFUSED) printf("refused %" PRIu32 " at word %zu: %s\n", o.number, o.position, tamarind_meaning(o.number));
+    else printf(", attempts %" PRIu32 ", replacements %" PRIu32 "\n", o.attempts, o.replacements);
 
     size_t count;
     const uint32_t *words = tamarind_output(&o, result, COUNT(result), tree, COUNT(tree), &count);
