@@ -15,8 +15,8 @@ use Rattle.meaning.specs.Meaning.{Env, Bindings}
 use Rattle.marks.specs.Marked.{marked, Stands}
 use Rattle.marks.proofs.Marks.{marked-length}
 use Rattle.marks.proofs.Spans.{drop-take}
-use Rattle.rewrite.specs.Vars.{Vars, varsOf, EnvAt, startsOf, Sound, Kept}
-use Rattle.rewrite.proofs.Matcher.{kept-same, kept-more, kept-back, sound-back}
+use Rattle.rewrite.specs.Vars.{Vars, varsOf, EnvAt, Sound, Kept}
+use Rattle.rewrite.proofs.Matcher.{kept-same, kept-more, kept-back, sound-back, starts-kept}
 use Rattle.calls.specs.Engine.{Open, Room, Grown, Held}
 use Rattle.rewrite.specs.Arena.{Standing}
 
@@ -148,4 +148,4 @@ held-kept e h = record { stands = rw e (h .stands); counted = h .counted }
 
 -- .. and whatever lies past the variables that are bound
 pub held-still : {g : Grammar} {w : Words} {b : Bindings} {live top : ℕ} (u v : Vars) → v .n ≡ u .n → Kept u v → Held g w (record { vars = u; live = live; top = top }) b → Held g w (record { vars = v; live = live; top = top }) b
-held-still {g} {w} {b} u v e k h = let same : startsOf v ≡ startsOf u = ap (λ n. take n (v .starts)) e ∙ k .places in record { stands = rw same (h .stands); counted = h .counted }
+held-still {g} {w} {b} u v e k h = record { stands = rw (starts-kept u v e k) (h .stands); counted = h .counted }

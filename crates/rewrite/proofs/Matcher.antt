@@ -111,6 +111,10 @@ pub start-is : (v : Vars) (x : ℕ) → Sound v → x < v .n → startAt v x ≡
 unfolding startAt
 start-is v x s h = rw (lt-ltb x (v .n) h, lt-ltb x 16 (omega (arith, s .few))) (sym (getD-take (v .n) (v .starts) x 0 h))
 
+-- what is bound, whatever lies past it
+pub starts-kept : (u v : Vars) → v .n ≡ u .n → Kept u v → startsOf v ≡ startsOf u
+starts-kept u v e k = ap (λ n. take n (v .starts)) e ∙ k .places
+
 -- the answer does not depend on what lies past the variables that are bound
 pub answers-kept : {arena part : Words} {at live : ℕ} {f : Grammar → Words → Bindings → Comp (Option Bindings)} {r : Match} (u v : Vars) → v .n ≡ u .n → Kept u v → Answers arena part at v live f r → Answers arena part at u live f r
 answers-kept {arena} {part} {at} {live} {f} u v e k a = record {
@@ -121,11 +125,8 @@ answers-kept {arena} {part} {at} {live} {f} u v e k a = record {
   meant = λ g ws ts b left st ns. a .meant g ws ts b left (stage-as st) ns;
 }
   where
-    same : startsOf v ≡ startsOf u
-    same = ap (λ n. take n (v .starts)) e ∙ k .places
-
     stage-as : {g : Grammar} {ws : Words} {ts : List ℕ} {b : Bindings} → Stage g arena part at u live ws ts b → Stage g arena part at v live ws ts b
-    stage-as {g} {ws} {ts} {b} st = record { types = st .types; place = st .place; inside = st .inside; marks = st .marks; rest = st .rest; stands = rw same (st .stands); counted = st .counted }
+    stage-as {g} {ws} {ts} {b} st = record { types = st .types; place = st .place; inside = st .inside; marks = st .marks; rest = st .rest; stands = rw (starts-kept u v e k) (st .stands); counted = st .counted }
 
 -- A PAIR
 
