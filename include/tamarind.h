@@ -34,13 +34,14 @@ extern "C" {
 #endif
 
 /* The edition of this header: 0 is the core as first specified, and a change
- * request that a caller can see sets its own number.
+ * request that a caller can see sets its own number. 1 is T-01: operation 1,004
+ * rounds an exact half to the even whole number.
  *
  * tamarind_edition() is the archive's. A program asks tamarind_is_this_edition()
  * once when it starts, and makes no other call if the answer is 0: header and
  * archive do not belong together. An archive that is older than editions does
  * not link. */
-#define TAMARIND_EDITION 0
+#define TAMARIND_EDITION 1
 
 uint32_t tamarind_edition(void);
 

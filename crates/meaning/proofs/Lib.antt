@@ -1,4 +1,4 @@
--- The soundness of the meaning, from words too, and the claim about a list of runs.
+-- The soundness of the meaning, from words too, the claim about a list of runs, and what rounding is.
 pub mod Safe
 pub mod Matching
 pub mod Level
@@ -7,3 +7,4 @@ pub mod FromWords
 pub mod Runs
 pub mod Related
 pub mod Numbered
+pub mod Rounding

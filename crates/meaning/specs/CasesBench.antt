@@ -19,6 +19,7 @@ use Rattle.rules.specs.Layout as Layout
 use Rattle.judgement.specs.Wanted as Wanted
 use Rattle.judgement.specs.Typing as Typing
 use Rattle.meaning.specs.Computation as Computation
+use Rattle.meaning.specs.Rounding as Rounding
 use Rattle.meaning.specs.Operations as Operations
 use Rattle.meaning.specs.Meaning as Meaning
 use Rattle.meaning.specs.Outcome as Outcome
@@ -54,6 +55,10 @@ table =
     ∷ case 3 (3 ∷ 8 ∷ 1 ∷ 1 ∷ 1 ∷ 4 ∷ 2 ∷ 1 ∷ 2 ∷ []) (1 ∷ 9 ∷ 2 ∷ 1 ∷ 1 ∷ 64 ∷ 2 ∷ 3 ∷ 66 ∷ 0 ∷ 1 ∷ 0 ∷ 1004 ∷ 0 ∷ []) (0 ∷ 0 ∷ 1 ∷ 0 ∷ 2 ∷ 125 ∷ 1 ∷ 1 ∷ []) (ended done 1 1 (0 ∷ 0 ∷ 1 ∷ 0 ∷ 2 ∷ 100 ∷ 1 ∷ 1 ∷ []))
     ∷ case 3 (3 ∷ 8 ∷ 1 ∷ 1 ∷ 1 ∷ 4 ∷ 2 ∷ 1 ∷ 2 ∷ []) (1 ∷ 9 ∷ 2 ∷ 1 ∷ 1 ∷ 64 ∷ 2 ∷ 3 ∷ 66 ∷ 0 ∷ 1 ∷ 0 ∷ 1004 ∷ 0 ∷ []) (0 ∷ 0 ∷ 1 ∷ 0 ∷ 2 ∷ 150 ∷ 1 ∷ 1 ∷ []) (ended done 1 1 (0 ∷ 0 ∷ 1 ∷ 0 ∷ 2 ∷ 200 ∷ 1 ∷ 1 ∷ []))
     ∷ case 3 (3 ∷ 8 ∷ 1 ∷ 1 ∷ 1 ∷ 4 ∷ 2 ∷ 1 ∷ 2 ∷ []) (1 ∷ 9 ∷ 2 ∷ 1 ∷ 1 ∷ 64 ∷ 2 ∷ 3 ∷ 66 ∷ 0 ∷ 1 ∷ 0 ∷ 1004 ∷ 0 ∷ []) (0 ∷ 0 ∷ 1 ∷ 0 ∷ 2 ∷ 49 ∷ 1 ∷ 1 ∷ []) (ended done 1 1 (0 ∷ 0 ∷ 1 ∷ 0 ∷ 2 ∷ 0 ∷ 1 ∷ 1 ∷ []))
+    -- T-01: "150 gives 200, 250 gives 200, 50 gives 0, and 125 and 175 give 100 and 200 as before" (125 and 150 above)
+    ∷ case 3 (3 ∷ 8 ∷ 1 ∷ 1 ∷ 1 ∷ 4 ∷ 2 ∷ 1 ∷ 2 ∷ []) (1 ∷ 9 ∷ 2 ∷ 1 ∷ 1 ∷ 64 ∷ 2 ∷ 3 ∷ 66 ∷ 0 ∷ 1 ∷ 0 ∷ 1004 ∷ 0 ∷ []) (0 ∷ 0 ∷ 1 ∷ 0 ∷ 2 ∷ 250 ∷ 1 ∷ 1 ∷ []) (ended done 1 1 (0 ∷ 0 ∷ 1 ∷ 0 ∷ 2 ∷ 200 ∷ 1 ∷ 1 ∷ []))
+    ∷ case 3 (3 ∷ 8 ∷ 1 ∷ 1 ∷ 1 ∷ 4 ∷ 2 ∷ 1 ∷ 2 ∷ []) (1 ∷ 9 ∷ 2 ∷ 1 ∷ 1 ∷ 64 ∷ 2 ∷ 3 ∷ 66 ∷ 0 ∷ 1 ∷ 0 ∷ 1004 ∷ 0 ∷ []) (0 ∷ 0 ∷ 1 ∷ 0 ∷ 2 ∷ 50 ∷ 1 ∷ 1 ∷ []) (ended done 1 1 (0 ∷ 0 ∷ 1 ∷ 0 ∷ 2 ∷ 0 ∷ 1 ∷ 1 ∷ []))
+    ∷ case 3 (3 ∷ 8 ∷ 1 ∷ 1 ∷ 1 ∷ 4 ∷ 2 ∷ 1 ∷ 2 ∷ []) (1 ∷ 9 ∷ 2 ∷ 1 ∷ 1 ∷ 64 ∷ 2 ∷ 3 ∷ 66 ∷ 0 ∷ 1 ∷ 0 ∷ 1004 ∷ 0 ∷ []) (0 ∷ 0 ∷ 1 ∷ 0 ∷ 2 ∷ 175 ∷ 1 ∷ 1 ∷ []) (ended done 1 1 (0 ∷ 0 ∷ 1 ∷ 0 ∷ 2 ∷ 200 ∷ 1 ∷ 1 ∷ []))
     -- "Round 999,999,950: stop 45"
     ∷ case 3 (3 ∷ 8 ∷ 1 ∷ 1 ∷ 1 ∷ 4 ∷ 2 ∷ 1 ∷ 2 ∷ []) (1 ∷ 9 ∷ 2 ∷ 1 ∷ 1 ∷ 64 ∷ 2 ∷ 3 ∷ 66 ∷ 0 ∷ 1 ∷ 0 ∷ 1004 ∷ 0 ∷ []) (0 ∷ 0 ∷ 1 ∷ 0 ∷ 2 ∷ 999999950 ∷ 1 ∷ 1 ∷ []) (ended (stopped 45) 1 0 (0 ∷ 0 ∷ 1 ∷ 0 ∷ 2 ∷ 999999950 ∷ 1 ∷ 1 ∷ []))
     -- "1000 quotient 300: 300"
@@ -70,5 +75,5 @@ posted =
     ∷ []
 
 right : (found table ≡ given table) × (posted ≡ (8 ∷ 8 ∷ 9 ∷ 9 ∷ []) ∷ (0 ∷ 0 ∷ 1 ∷ 1 ∷ []) ∷ (8 ∷ 8 ∷ 9 ∷ 9 ∷ 7 ∷ []) ∷ (0 ∷ 0 ∷ 1 ∷ 1 ∷ []) ∷ [])
-unfolding given found Reader.word Reader.wordIn Reader.many Reader.end Views.equalWords Grammar.typesOf Grammar.field Grammar.element Grammar.form Grammar.kind Grammar.grammar Grammar.allKnown Grammar.anyFormKnown Grammar.finishes Grammar.round Grammar.rounds Grammar.finite Grammar.finiteRecords Grammar.readGrammar Grammar.grammarFits Kinds.kindOf Kinds.allows Kinds.allowed Kinds.childrenOf Kinds.children Kinds.isNumberKind Kinds.isNumber Tree.size Tree.levelsOf Tree.levels Tree.nestingFrom Tree.nesting Tree.areTrees Tree.isTree Tree.first Tree.after Tree.typeOf Tree.put Dues.pairs Dues.whole Reading.duesOf Reading.meetsNode Reading.readTreeOf Rules.operations Rules.applied Rules.shapes Rules.arguments Rules.applications Rules.pairsIn Rules.argumentsWritten Rules.applicationsWritten Rules.chainWritten Rules.unreadable Rules.chainOf Rules.conditionOf Rules.piecesAfter Rules.pieces Layout.strategyOf Layout.stretch Layout.field Layout.pairs Layout.variableAt Layout.deconstructFields Layout.conditionFields Layout.partOf Layout.reach Layout.replacement Layout.mainFits Layout.mainBits Layout.typeField Layout.searchFields Layout.constructFields Layout.partAt Layout.part Layout.parameters Layout.headFields Layout.head Layout.parts Layout.rule Layout.layout Layout.readLayout Layout.rulesFit Wanted.wants Typing.mayStand Typing.isSome Typing.appliesRule Typing.appliesOperation Typing.fitsScope Typing.usable Typing.wantedBy Typing.newVariable Typing.variable Typing.chain Typing.node Typing.meets Typing.typed Typing.variableThere Typing.partTyped Typing.partsTyped Typing.ruleTyped Typing.mainTarget Typing.rulesTyped Typing.readRules Computation.thenOf Computation.spendOf Computation.spend Computation.stopUnless Computation.surely Computation.check Computation.present Computation.choose Computation.whether Operations.rounded Operations.truncated Operations.inRange Operations.divisor Operations.withOne Operations.withNone Operations.compute Operations.compare Meaning.nodesWithin Meaning.nestingWithin Meaning.liveWithin Meaning.total Meaning.variable Meaning.variables Meaning.sameTree Meaning.bind Meaning.match Meaning.matchFirst Meaning.valueOf Meaning.valuesOf Meaning.withValue Meaning.isNumberToken Meaning.areNumberTokens Meaning.areTreesOf Meaning.fits Meaning.begin Meaning.resultAs Meaning.resultOf Meaning.opened Meaning.afterRound Meaning.apply Meaning.applyChain Meaning.fill Meaning.finish Meaning.succeeds Meaning.anySucceeds Meaning.part Meaning.parts Meaning.attempt Meaning.seek Meaning.replace Meaning.turn Meaning.rounds Meaning.callWith Meaning.call Meaning.callMatches Meaning.calls Meaning.runFrom Meaning.run Outcome.callFits Outcome.decode Outcome.endedAs Outcome.outcomeOf Outcome.outcome Outcome.output table posted
+unfolding given found Reader.word Reader.wordIn Reader.many Reader.end Views.equalWords Grammar.typesOf Grammar.field Grammar.element Grammar.form Grammar.kind Grammar.grammar Grammar.allKnown Grammar.anyFormKnown Grammar.finishes Grammar.round Grammar.rounds Grammar.finite Grammar.finiteRecords Grammar.readGrammar Grammar.grammarFits Kinds.kindOf Kinds.allows Kinds.allowed Kinds.childrenOf Kinds.children Kinds.isNumberKind Kinds.isNumber Tree.size Tree.levelsOf Tree.levels Tree.nestingFrom Tree.nesting Tree.areTrees Tree.isTree Tree.first Tree.after Tree.typeOf Tree.put Dues.pairs Dues.whole Reading.duesOf Reading.meetsNode Reading.readTreeOf Rules.operations Rules.applied Rules.shapes Rules.arguments Rules.applications Rules.pairsIn Rules.argumentsWritten Rules.applicationsWritten Rules.chainWritten Rules.unreadable Rules.chainOf Rules.conditionOf Rules.piecesAfter Rules.pieces Layout.strategyOf Layout.stretch Layout.field Layout.pairs Layout.variableAt Layout.deconstructFields Layout.conditionFields Layout.partOf Layout.reach Layout.replacement Layout.mainFits Layout.mainBits Layout.typeField Layout.searchFields Layout.constructFields Layout.partAt Layout.part Layout.parameters Layout.headFields Layout.head Layout.parts Layout.rule Layout.layout Layout.readLayout Layout.rulesFit Wanted.wants Typing.mayStand Typing.isSome Typing.appliesRule Typing.appliesOperation Typing.fitsScope Typing.usable Typing.wantedBy Typing.newVariable Typing.variable Typing.chain Typing.node Typing.meets Typing.typed Typing.variableThere Typing.partTyped Typing.partsTyped Typing.ruleTyped Typing.mainTarget Typing.rulesTyped Typing.readRules Computation.thenOf Computation.spendOf Computation.spend Computation.stopUnless Computation.surely Computation.check Computation.present Computation.choose Computation.whether Rounding.halfEven Operations.rounded Operations.truncated Operations.inRange Operations.divisor Operations.withOne Operations.withNone Operations.compute Operations.compare Meaning.nodesWithin Meaning.nestingWithin Meaning.liveWithin Meaning.total Meaning.variable Meaning.variables Meaning.sameTree Meaning.bind Meaning.match Meaning.matchFirst Meaning.valueOf Meaning.valuesOf Meaning.withValue Meaning.isNumberToken Meaning.areNumberTokens Meaning.areTreesOf Meaning.fits Meaning.begin Meaning.resultAs Meaning.resultOf Meaning.opened Meaning.afterRound Meaning.apply Meaning.applyChain Meaning.fill Meaning.finish Meaning.succeeds Meaning.anySucceeds Meaning.part Meaning.parts Meaning.attempt Meaning.seek Meaning.replace Meaning.turn Meaning.rounds Meaning.callWith Meaning.call Meaning.callMatches Meaning.calls Meaning.runFrom Meaning.run Outcome.callFits Outcome.decode Outcome.endedAs Outcome.outcomeOf Outcome.outcome Outcome.output table posted
 right = (refl, refl)

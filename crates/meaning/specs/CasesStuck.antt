@@ -15,6 +15,7 @@ use Rattle.words.specs.Views as Views
 use Rattle.grammar.specs.Kinds as Kinds
 use Rattle.tree.specs.Tree as Tree
 use Rattle.meaning.specs.Computation as Computation
+use Rattle.meaning.specs.Rounding as Rounding
 use Rattle.meaning.specs.Operations as Operations
 use Rattle.meaning.specs.Meaning as Meaning
 
@@ -91,5 +92,5 @@ found [] = []
 found (case r s p ∷ more) = run true numbers r tree 9 .ending ∷ run false numbers r tree 9 .ending ∷ found more
 
 right : found table ≡ given table
-unfolding Views.equalWords Kinds.kindOf Kinds.allows Kinds.allowed Kinds.childrenOf Kinds.children Kinds.isNumberKind Kinds.isNumber Tree.size Tree.levelsOf Tree.levels Tree.nestingFrom Tree.nesting Tree.areTrees Tree.isTree Tree.first Tree.after Tree.typeOf Tree.put Computation.thenOf Computation.spendOf Computation.spend Computation.stopUnless Computation.surely Computation.check Computation.present Computation.choose Computation.whether Operations.rounded Operations.truncated Operations.inRange Operations.divisor Operations.withOne Operations.withNone Operations.compute Operations.compare Meaning.nodesWithin Meaning.nestingWithin Meaning.liveWithin Meaning.total Meaning.variable Meaning.variables Meaning.sameTree Meaning.bind Meaning.match Meaning.matchFirst Meaning.valueOf Meaning.valuesOf Meaning.withValue Meaning.isNumberToken Meaning.areNumberTokens Meaning.areTreesOf Meaning.fits Meaning.begin Meaning.resultAs Meaning.resultOf Meaning.opened Meaning.afterRound Meaning.apply Meaning.applyChain Meaning.fill Meaning.finish Meaning.succeeds Meaning.anySucceeds Meaning.part Meaning.parts Meaning.attempt Meaning.seek Meaning.replace Meaning.turn Meaning.rounds Meaning.callWith Meaning.call Meaning.callMatches Meaning.calls Meaning.runFrom Meaning.run numbers tree main other apply table given found
+unfolding Views.equalWords Kinds.kindOf Kinds.allows Kinds.allowed Kinds.childrenOf Kinds.children Kinds.isNumberKind Kinds.isNumber Tree.size Tree.levelsOf Tree.levels Tree.nestingFrom Tree.nesting Tree.areTrees Tree.isTree Tree.first Tree.after Tree.typeOf Tree.put Computation.thenOf Computation.spendOf Computation.spend Computation.stopUnless Computation.surely Computation.check Computation.present Computation.choose Computation.whether Rounding.halfEven Operations.rounded Operations.truncated Operations.inRange Operations.divisor Operations.withOne Operations.withNone Operations.compute Operations.compare Meaning.nodesWithin Meaning.nestingWithin Meaning.liveWithin Meaning.total Meaning.variable Meaning.variables Meaning.sameTree Meaning.bind Meaning.match Meaning.matchFirst Meaning.valueOf Meaning.valuesOf Meaning.withValue Meaning.isNumberToken Meaning.areNumberTokens Meaning.areTreesOf Meaning.fits Meaning.begin Meaning.resultAs Meaning.resultOf Meaning.opened Meaning.afterRound Meaning.apply Meaning.applyChain Meaning.fill Meaning.finish Meaning.succeeds Meaning.anySucceeds Meaning.part Meaning.parts Meaning.attempt Meaning.seek Meaning.replace Meaning.turn Meaning.rounds Meaning.callWith Meaning.call Meaning.callMatches Meaning.calls Meaning.runFrom Meaning.run numbers tree main other apply table given found
 right = refl

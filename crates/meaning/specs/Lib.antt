@@ -1,5 +1,6 @@
 pub mod Limits
 pub mod Computation
+pub mod Rounding
 pub mod Operations
 pub mod Meaning
 pub mod Outcome

@@ -6,10 +6,11 @@ use lib.Dec.{eqb, leb, ltb}
 use Rattle.grammar.specs.Limits.{greatestNumber}
 use Rattle.rules.specs.Rules.{Operation, add, subtract, quotient, remainder, round, truncate, equal, greater}
 use Rattle.meaning.specs.Computation.{Comp, _>>_, return, never, stopUnless}
+use Rattle.meaning.specs.Rounding.{halfEven}
 
--- "1,004 round (half up)", to a whole number
+-- "Operation 1,004 rounds an exact half to the even whole number", so in hundredths times 100
 unfoldable pub rounded : ℕ → ℕ
-rounded a = (a + 50) / 100 * 100
+rounded a = halfEven a 100 * 100
 
 -- "1,005 truncate"
 unfoldable pub truncated : ℕ → ℕ

@@ -11,6 +11,7 @@ use Rattle.words.specs.Reader.{pick}
 use Rattle.rules.specs.Rules.{Operation, add, subtract, quotient, remainder, round, truncate, equal, greater, rule, operation, nothing, applied, operations}
 use Rattle.meaning.specs.declared.State.{State}
 use Rattle.meaning.specs.Computation.{ok, thenOf, stopUnless}
+use Rattle.meaning.specs.Rounding.{halfEven}
 use Rattle.meaning.specs.Operations.{rounded, truncated, inRange, divisor, withOne, withNone, compute, compare}
 use Rattle.operations.specs.declared.Number.{Number}
 use Rattle.operations.specs.declared.Number.the-variants.{Is, OutOfRange}
@@ -107,16 +108,16 @@ module _ (op a b x y : ℕ) (ex : x ≡ a) (ey : y ≡ b) where
   subtracts h l r e equal left k ns = absurd (omega (arith, numbered op equal k))
   subtracts h l r e greater left k ns = absurd (omega (arith, numbered op greater k))
 
-  pub rounds : op ≡ 1004 → (r : Number) → r ≡ inRangeAs ((x + 50) / 100 * 100) → Operated op a b r
+  pub rounds : op ≡ 1004 → (w : ℕ) → w ≡ halfEven x 100 → (r : Number) → r ≡ inRangeAs (w * 100) → Operated op a b r
   unfolding compute withNone numberOf rounded
-  rounds h r e add left k ns = absurd (omega (arith, numbered op add k))
-  rounds h r e subtract left k ns = absurd (omega (arith, numbered op subtract k))
-  rounds h r e quotient left k ns = absurd (omega (arith, numbered op quotient k))
-  rounds h r e remainder left k ns = absurd (omega (arith, numbered op remainder k))
-  rounds h r e round left k ns = range-means ((a + 50) / 100 * 100) left r (e ∙ rw ex)
-  rounds h r e truncate left k ns = absurd (omega (arith, numbered op truncate k))
-  rounds h r e equal left k ns = absurd (omega (arith, numbered op equal k))
-  rounds h r e greater left k ns = absurd (omega (arith, numbered op greater k))
+  rounds h w ew r e add left k ns = absurd (omega (arith, numbered op add k))
+  rounds h w ew r e subtract left k ns = absurd (omega (arith, numbered op subtract k))
+  rounds h w ew r e quotient left k ns = absurd (omega (arith, numbered op quotient k))
+  rounds h w ew r e remainder left k ns = absurd (omega (arith, numbered op remainder k))
+  rounds h w ew r e round left k ns = range-means (halfEven a 100 * 100) left r (e ∙ rw (ew, ex))
+  rounds h w ew r e truncate left k ns = absurd (omega (arith, numbered op truncate k))
+  rounds h w ew r e equal left k ns = absurd (omega (arith, numbered op equal k))
+  rounds h w ew r e greater left k ns = absurd (omega (arith, numbered op greater k))
 
   pub truncates : op ≡ 1005 → (r : Number) → r ≡ inRangeAs (x / 100 * 100) → Operated op a b r
   unfolding compute withNone numberOf truncated

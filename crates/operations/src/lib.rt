@@ -2,6 +2,7 @@
 use grammar::limits::GREATEST_NUMBER;
 ghost use mathlib.Core.Path.{_≡_};
 ghost use Prim.Native.Nat.{_+_, _*_, _/_, _<_};
+ghost use Rattle.meaning.specs.Rounding.{halfEven};
 ghost use Rattle.operations.specs.Operating.{inRangeAs, Operated, Compared};
 
 // A number, or a stop 45.
@@ -21,6 +22,23 @@ fn in_range(n: u64) -> Number
     Number::Is(n as u32)
 }
 
+// The whole number nearest to n / d, an exact half to the even one. The ways down and up are compared, since a rest doubled might not fit.
+pub fn half_even(n: u64, d: u64) -> u64
+    requires { ⌜ 0 < d ⌝ }
+    ensures { λ r. ⌜ r ≡ halfEven n d ⌝ }
+{
+    let whole = n / d;
+    let down = n % d;
+    let up = d - down;
+    if down < up {
+        return whole;
+    }
+    if down == up {
+        return whole + whole % 2;
+    }
+    whole + 1
+}
+
 // What the operation makes of the scope's value a, with the argument b if it takes one.
 pub fn operate(op: u32, a: u32, b: u32) -> Number
     ensures { λ r. ⌜ Operated op a b r ⌝ }
@@ -37,7 +55,7 @@ pub fn operate(op: u32, a: u32, b: u32) -> Number
         return in_range(x - y);
     }
     if op == 1004 {
-        return in_range((x + 50) / 100 * 100);
+        return in_range(half_even(x, 100) * 100);
     }
     if op == 1005 {
         return in_range(x / 100 * 100);

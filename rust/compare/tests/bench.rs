@@ -113,7 +113,9 @@ fn the_papers_refusals_and_operations() {
         run(3, GRAMMAR, RULES, &list(&[1_000_000_000, 500])),
         "refused 32 5\n"
     );
-    for (number, rounded) in [(125, 100), (150, 200), (49, 0)] {
+    let document_01 = [(125, 100), (150, 200), (49, 0)];
+    let half_to_even = [(250, 200), (50, 0), (175, 200), (999_999_850, 999_999_800)];
+    for (number, rounded) in document_01.into_iter().chain(half_to_even) {
         assert_eq!(
             run(3, GRAMMAR, ROUND, &list(&[number])),
             format!("done 1 1 8\n0 0 1 0 2 {rounded} 1 1\n")

@@ -578,8 +578,7 @@ pub fn operations_near_limit(seed: u64) -> Input {
             _ if great_by_small && place == 1 => random.pick(&SMALL),
             0 | 1 => random.pick(&SMALL),
             2 => random.pick(&GREAT),
-            // Near a half.
-            3 => (random.below(9) * 100 + random.between(48, 51)) as u32,
+            3 => near_a_half(random),
             _ => random.below(limits::NUMBER_VALUE as usize + 1) as u32,
         };
         tree.extend([1, 0, 2, number]);
@@ -618,4 +617,44 @@ pub fn operations_near_limit(seed: u64) -> Input {
         ..RuleText::default()
     };
     input(LIST, &[rule], tree, 40)
+}
+
+/// Numbers that are no whole numbers are rounded, each once: exact halves of
+/// odd and even wholes and numbers just off a half, some of them at the limit
+/// (stop 45).
+pub fn rounding(seed: u64) -> Input {
+    let random = &mut Random::new(seed);
+    let no_whole_number = PartText::Condition {
+        negated: true,
+        chain: vec![(66, 0), (1, 0), (1_008, 1), (65, 1)],
+    };
+    let rule = RuleText {
+        target: 2,
+        reach: 2,
+        pattern: vec![(64, 2)],
+        parts: vec![
+            construct(2, &[(66, 0), (1, 0), (1_005, 0)]),
+            no_whole_number,
+        ],
+        replacement: Some(vec![(66, 0), (1, 0), (1_004, 0)]),
+        ..RuleText::default()
+    };
+    let mut tree = vec![0, 0];
+    for _ in 0..random.between(1, 6) {
+        tree.extend([1, 0, 2, near_a_half(random)]);
+    }
+    tree.extend([1, 1]);
+    input(LIST, &[rule], tree, 40)
+}
+
+/// An exact half, or a number one or two hundredths from it: of a small whole
+/// number, one of the last, or any.
+fn near_a_half(random: &mut Random) -> u32 {
+    let last = (limits::NUMBER_VALUE as usize - 52) / 100;
+    let whole = match random.below(4) {
+        0 | 1 => random.below(10),
+        2 => last - random.below(4),
+        _ => random.below(last + 1),
+    };
+    (whole * 100 + random.pick(&[48, 49, 50, 50, 50, 51, 52])) as u32
 }

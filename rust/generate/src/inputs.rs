@@ -104,6 +104,7 @@ pub fn run_input(seed: u64) -> Input {
         7 => families::operations_near_limit(seed),
         8 => families::conditions(seed),
         9 => families::searches(seed),
+        10 => families::rounding(seed),
         _ => typed_input(seed),
     };
     if random.chance(50) {

@@ -4,8 +4,8 @@ use std::collections::BTreeMap;
 
 use generate::{
     calls_near_limit, check_input, counting_down, live_nodes_at_limit, live_nodes_near_limit,
-    nesting_near_limit, nodes_near_limit, operations_near_limit, reference_outcome, run_input,
-    run_list, shrink, to_bench, typed_input, Input,
+    nesting_near_limit, nodes_near_limit, operations_near_limit, reference_outcome, rounding,
+    run_input, run_list, shrink, to_bench, typed_input, Input,
 };
 use reference::bench;
 use reference::grammar::Grammar;
@@ -180,7 +180,7 @@ fn shrinking_keeps_the_failure_and_makes_it_small() {
 #[test]
 fn each_family_reaches_its_stop_and_misses_it() {
     type Family = (&'static str, u32, fn(u64) -> Input);
-    let families: [Family; 7] = [
+    let families: [Family; 8] = [
         ("calls_near_limit", 41, calls_near_limit),
         ("nodes_near_limit", 42, nodes_near_limit),
         ("nesting_near_limit", 43, nesting_near_limit),
@@ -188,6 +188,7 @@ fn each_family_reaches_its_stop_and_misses_it() {
         ("live_nodes_at_limit", 44, live_nodes_at_limit),
         ("operations_near_limit", 45, operations_near_limit),
         ("counting_down", 45, counting_down),
+        ("rounding", 45, rounding),
     ];
     for (name, number, family) in families {
         let (mut reached, mut missed) = (0, 0);
@@ -200,6 +201,36 @@ fn each_family_reaches_its_stop_and_misses_it() {
         }
         println!("of 500 runs of {name} {reached} stop with {number}, {missed} are done");
         assert!(reached >= LEAST && missed >= LEAST / 2, "{name}");
+    }
+}
+
+#[test]
+fn halves_of_odd_and_even_wholes_are_rounded_and_just_missed() {
+    // How often, by whether the whole is odd and by the hundredths above it.
+    let mut rounded: BTreeMap<(bool, u32), u32> = BTreeMap::new();
+    for seed in 0..500 {
+        let input = rounding(seed);
+        let Outcome::Ended {
+            stop: None, words, ..
+        } = reference_outcome(&input)
+        else {
+            continue;
+        };
+        for (before, after) in input.tree.chunks(2).zip(words.chunks(2)) {
+            if before[0] == 2 {
+                assert_eq!(after[1] % 100, 0, "seed {seed}");
+                let whole = before[1] / 100;
+                *rounded
+                    .entry((whole % 2 == 1, before[1] % 100))
+                    .or_default() += 1;
+            }
+        }
+    }
+    println!("numbers rounded, by an odd whole and its hundredths: {rounded:?}");
+    for odd in [false, true] {
+        for hundredths in 49..=51 {
+            assert!(rounded[&(odd, hundredths)] >= LEAST, "{odd} {hundredths}");
+        }
     }
 }
 

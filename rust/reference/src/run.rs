@@ -3,6 +3,8 @@
 //! A stop leaves the engine as it is at that step: only the main tree, the
 //! attempts and the replacements are read afterwards.
 
+use std::cmp::Ordering;
+
 use crate::grammar::Grammar;
 use crate::limits;
 use crate::rules::Reach;
@@ -407,11 +409,23 @@ fn operate(operation: Operation, scope: u32, argument: u32) -> Result<u32, Stop>
         Operation::Subtract => scope.checked_sub(argument),
         Operation::Quotient => scope.checked_div(argument).map(|whole| whole * 100),
         Operation::Remainder => scope.checked_rem(argument),
-        Operation::Round => Some((scope + 50) / 100 * 100),
+        Operation::Round => Some(round_half_even(scope, 100) * 100),
         Operation::Truncate => Some(scope / 100 * 100),
     };
     match result.and_then(|result| u32::try_from(result).ok()) {
         Some(result) if result <= limits::NUMBER_VALUE => Ok(result),
         _ => Err(Stop::OutOfRange),
+    }
+}
+
+/// The whole number nearest to `number / divisor`; an exact half is rounded
+/// to the even whole number (T-01). The divisor is not 0.
+pub fn round_half_even(number: u64, divisor: u64) -> u64 {
+    let below = number / divisor;
+    let past_below = number % divisor;
+    match past_below.cmp(&(divisor - past_below)) {
+        Ordering::Less => below,
+        Ordering::Equal if below.is_multiple_of(2) => below,
+        Ordering::Equal | Ordering::Greater => below + 1,
     }
 }

@@ -1,4 +1,5 @@
-//! Every bullet of the paper's chapter "The two-to-forty-two bench".
+//! Every bullet of the paper's chapter "The two-to-forty-two bench", and the
+//! examples that T-01 adds to the one on rounding.
 
 mod common;
 
@@ -94,7 +95,9 @@ fn trees_short_over_and_with_great_numbers() {
 
 #[test]
 fn round_and_quotient() {
-    for (number, rounded) in [(125, 100), (150, 200), (49, 0)] {
+    let document_01 = [(125, 100), (150, 200), (49, 0)];
+    let t01 = [(150, 200), (250, 200), (50, 0), (125, 100), (175, 200)];
+    for (number, rounded) in document_01.into_iter().chain(t01) {
         assert_eq!(
             bench(3, GRAMMAR, &unary(1_004), &list(&[number])),
             format!("done 1 1 8\n0 0 1 0 2 {rounded} 1 1")

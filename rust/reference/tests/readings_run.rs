@@ -1,9 +1,11 @@
-//! The readings M (meaning), H (live nodes and limits), O (operations) and A
-//! (answer), one test each. All numbers are worked out by hand.
+//! The readings M (meaning), H (live nodes and limits), O (operations) with
+//! T01 (half to even), and A (answer), one test each. All numbers are worked
+//! out by hand, but for those that a search finds.
 
 mod common;
 
 use common::*;
+use reference::run::round_half_even;
 
 /// A rule on the whole tree that binds it to variable 0.
 const WHOLE: RuleText = RuleText {
@@ -744,7 +746,7 @@ fn o1_quotient_and_remainder() {
 
 #[test]
 fn o2_round_and_truncate() {
-    for (scope, rounded) in [(0, "0"), (49, "0"), (50, "100"), (149, "100")] {
+    for (scope, rounded) in [(0, "0"), (49, "0"), (50, "0"), (149, "100")] {
         assert_eq!(operate_alone(1_004, scope), rounded);
     }
     assert_eq!(operate_alone(1_004, 999_999_949), "999999900");
@@ -752,6 +754,125 @@ fn o2_round_and_truncate() {
     assert_eq!(operate_alone(1_005, 99), "0");
     assert_eq!(operate_alone(1_005, 199), "100");
     assert_eq!(operate_alone(1_005, 999_999_999), "999999900");
+}
+
+#[test]
+fn t01_1_an_exact_half_goes_to_the_even_whole_number() {
+    let even_and_half = [
+        (50, "0"),
+        (250, "200"),
+        (450, "400"),
+        (4_000_050, "4000000"),
+    ];
+    let odd_and_half = [
+        (150, "200"),
+        (350, "400"),
+        (550, "600"),
+        (4_000_150, "4000200"),
+    ];
+    let under = [(49, "0"), (149, "100"), (249, "200"), (349, "300")];
+    let over = [(51, "100"), (151, "200"), (251, "300"), (351, "400")];
+    let others = [(0, "0"), (1, "0"), (99, "100"), (100, "100"), (200, "200")];
+    let quarters = [(125, "100"), (175, "200"), (225, "200"), (275, "300")];
+    for cases in [
+        &even_and_half[..],
+        &odd_and_half,
+        &under,
+        &over,
+        &others,
+        &quarters,
+    ] {
+        for &(scope, rounded) in cases {
+            assert_eq!(operate_alone(1_004, scope), rounded, "{scope}");
+        }
+    }
+}
+
+#[test]
+fn t01_2_halves_near_the_greatest_number() {
+    assert_eq!(operate_alone(1_004, 999_999_750), "999999800");
+    assert_eq!(operate_alone(1_004, 999_999_849), "999999800");
+    assert_eq!(operate_alone(1_004, 999_999_850), "999999800");
+    assert_eq!(operate_alone(1_004, 999_999_851), "999999900");
+    assert_eq!(operate_alone(1_004, 999_999_900), "999999900");
+    assert_eq!(operate_alone(1_004, 999_999_949), "999999900");
+    // The half between 9,999,999 and 10,000,000, which is even and too great.
+    assert_eq!(operate_alone(1_004, 999_999_950), "stopped 45");
+    assert_eq!(operate_alone(1_004, 999_999_951), "stopped 45");
+    assert_eq!(operate_alone(1_004, 999_999_999), "stopped 45");
+}
+
+#[test]
+fn t01_3_no_other_operation_rounds_to_even() {
+    let down = [
+        (50, "0", "50"),
+        (150, "100", "50"),
+        (175, "100", "75"),
+        (199, "100", "99"),
+        (250, "200", "50"),
+        (251, "200", "51"),
+        (350, "300", "50"),
+    ];
+    for (scope, whole, rest) in down {
+        assert_eq!(operate(1_002, scope, 100), whole, "{scope}");
+        assert_eq!(operate(1_003, scope, 100), rest, "{scope}");
+        assert_eq!(operate_alone(1_005, scope), whole, "{scope}");
+    }
+    // 1.5 and 3.5 times the argument.
+    assert_eq!(operate(1_002, 450, 300), "100");
+    assert_eq!(operate(1_003, 450, 300), "150");
+    assert_eq!(operate(1_002, 1_050, 300), "300");
+    assert_eq!(operate(1_003, 1_050, 300), "150");
+}
+
+/// What T-01 says of `number / divisor`, by a search: of all whole numbers
+/// the nearest, and of two that are equally near the even one.
+fn nearest_by_search(number: u64, divisor: u64) -> u64 {
+    let distance = |whole: u64| (whole * divisor).abs_diff(number);
+    let candidates = || (0..).take_while(|whole| whole * divisor <= number + divisor);
+    let least = candidates().map(distance).min();
+    let nearest: Vec<u64> = candidates()
+        .filter(|&whole| Some(distance(whole)) == least)
+        .collect();
+    match nearest[..] {
+        [only] => only,
+        [even, odd] | [odd, even] if even.is_multiple_of(2) && odd % 2 == 1 => even,
+        _ => panic!("one nearest, or an even and an odd one"),
+    }
+}
+
+#[test]
+fn t01_the_rounding_is_the_nearest_found_by_a_search() {
+    for divisor in [
+        1, 2, 3, 4, 5, 7, 10, 16, 25, 99, 100, 101, 250, 1_000, 1_001,
+    ] {
+        for number in 0..=4_000 {
+            assert_eq!(
+                round_half_even(number, divisor),
+                nearest_by_search(number, divisor),
+                "{number} by {divisor}"
+            );
+        }
+    }
+    for number in 0..=1_000 {
+        let rounded = nearest_by_search(number.into(), 100) * 100;
+        assert_eq!(operate_alone(1_004, number), rounded.to_string());
+    }
+}
+
+#[test]
+fn t01_the_rounding_of_great_numbers_does_not_wrap() {
+    const HALF: u64 = 1 << 63;
+    assert_eq!(round_half_even(u32::MAX.into(), 100), 42_949_673);
+    assert_eq!(round_half_even(u64::MAX, 1), u64::MAX);
+    // Halves under HALF, which is even, and over HALF - 2.
+    assert_eq!(round_half_even(u64::MAX, 2), HALF);
+    assert_eq!(round_half_even(u64::MAX - 2, 2), HALF - 2);
+    // Just under and over a half, a half, and one.
+    assert_eq!(round_half_even(HALF - 1, u64::MAX), 0);
+    assert_eq!(round_half_even(HALF, u64::MAX), 1);
+    assert_eq!(round_half_even(HALF - 1, u64::MAX - 1), 0);
+    assert_eq!(round_half_even(u64::MAX, u64::MAX), 1);
 }
 
 #[test]

@@ -98,7 +98,9 @@ fn grammar_rules_and_tree_are_refused_in_a_run() {
 #[test]
 fn rounding_and_quotient() {
     let round = [1, 9, 2, 1, 1, 64, 2, 3, 66, 0, 1, 0, 1_004, 0];
-    for (number, rounded) in [(125, 100), (150, 200), (49, 0)] {
+    let document_01 = [(125, 100), (150, 200), (49, 0)];
+    let half_to_even = [(250, 200), (50, 0), (175, 200), (999_999_850, 999_999_800)];
+    for (number, rounded) in document_01.into_iter().chain(half_to_even) {
         let outcome = run_dirty(&GRAMMAR, &round, &numbers(&[number]), 9);
         assert_eq!(outcome, ended(None, 1, 1, &numbers(&[rounded])));
     }

@@ -1,5 +1,6 @@
 -- `operations::operate` meets its contract. Assumes nothing.
 use Rattle.operations.proofs.Numbers.{adds, below-zero, subtracts, rounds, truncates, by-zero, divides, remains, quotient-fits, quotient-small}
+use Rattle.meaning.proofs.Rounding.{half-even-next}
 use native.Mathlib.Omega.{arith}
 use mathlib.Core.Path.{refl}
 use borrow.Author.Needs.{needs}
@@ -27,17 +28,17 @@ in-range-requires-2 c κs = search needs
 returns-3 : tie.Need-returns-3
 returns-3 c = subtracts (c .before .before .before .before .args .op) (c .before .before .before .before .args .a) (c .before .before .before .before .args .b) (c .before .before .before .before .args .a) (c .before .before .before .before .args .b) refl refl (c .before .before .if2 .taken) (c .before .if3 .left) _ (c .in-range2 .ensures)
 
-add-in-range-2 : tie.Need-add-in-range-2
-add-in-range-2 c = search needs
+half-even-requires : tie.Need-half-even-requires
+half-even-requires c κs = search needs
 
 mul-in-range : tie.Need-mul-in-range
-mul-in-range c = search needs
+mul-in-range c = omega (arith, half-even-next (c .before .before .before .before .args .a) 100, c .half-even .ensures)
 
 in-range-requires-3 : tie.Need-in-range-requires-3
 in-range-requires-3 c κs = search needs
 
 returns-4 : tie.Need-returns-4
-returns-4 c = rounds (c .before .before .before .before .args .op) (c .before .before .before .before .args .a) (c .before .before .before .before .args .b) (c .before .before .before .before .args .a) (c .before .before .before .before .args .b) refl refl (c .before .if4 .taken) _ (c .in-range3 .ensures)
+returns-4 c = rounds (c .before .before .before .before .before .args .op) (c .before .before .before .before .before .args .a) (c .before .before .before .before .before .args .b) (c .before .before .before .before .before .args .a) (c .before .before .before .before .before .args .b) refl refl (c .before .before .if4 .taken) _ (c .before .half-even .ensures) _ (c .in-range3 .ensures)
 
 mul-in-range-2 : tie.Need-mul-in-range-2
 mul-in-range-2 c = search needs
@@ -88,7 +89,7 @@ operate-spec =
     returns-2
     in-range-requires-2
     returns-3
-    add-in-range-2
+    half-even-requires
     mul-in-range
     in-range-requires-3
     returns-4
