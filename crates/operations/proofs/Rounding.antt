@@ -16,7 +16,7 @@ module _ (n d : ℕ) (some : 0 < d) where
   pub as-near : n % d ≡ d - n % d → n / d + n / d % 2 ≡ halfEven n d
   as-near h = half-at n d (omega (arith, rest-fits))
 
-  -- the way down is not the shorter one, so there is a way down
+  -- the way down is not the shorter one, so it is not 0
   module _ (far : d - n % d ≤ n % d) where
     pub nearer-above : (n % d ≡ d - n % d → ⊥) → n / d + 1 ≡ halfEven n d
     nearer-above h = half-over n d (omega (arith, rest-fits))

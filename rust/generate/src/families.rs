@@ -1,5 +1,5 @@
 //! Families of runs that reach one of the stops 41 to 45, or just miss it,
-//! and of searches and tests that random rules seldom make.
+//! and of searches, tests and roundings that random rules seldom make.
 
 use reference::bench::Input;
 use reference::limits;
