@@ -35,13 +35,14 @@ extern "C" {
 
 /* The edition of this header: 0 is the core as first specified, and a change
  * request that a caller can see sets its own number. 1 is T-01: operation 1,004
- * rounds an exact half to the even whole number.
+ * rounds an exact half to the even whole number. 2 is T-02: a number may be as
+ * great as 4,000,000,000 hundredths.
  *
  * tamarind_edition() is the archive's. A program asks tamarind_is_this_edition()
  * once when it starts, and makes no other call if the answer is 0: header and
  * archive do not belong together. An archive that is older than editions does
  * not link. */
-#define TAMARIND_EDITION 1
+#define TAMARIND_EDITION 2
 
 uint32_t tamarind_edition(void);
 
@@ -71,7 +72,7 @@ static inline int tamarind_is_this_edition(void) {
 #define TAMARIND_MOST_NODES 2048
 #define TAMARIND_MOST_NESTING 64
 #define TAMARIND_GREATEST_NAME 65535
-#define TAMARIND_GREATEST_NUMBER 999999999
+#define TAMARIND_GREATEST_NUMBER 4000000000u
 
 /* Limits of a rule book: its rules; the parameters, parts and variables of a
  * rule; the pairs of a pattern or replacement; the applications of a group. */
@@ -140,7 +141,7 @@ static inline const char *tamarind_meaning(uint32_t number) {
     case TAMARIND_STOP_TOO_MANY_NODES: return "a tree would pass 2,048 nodes";
     case TAMARIND_STOP_NESTS_TOO_DEEP: return "a finished tree's nesting would pass 64";
     case TAMARIND_STOP_TOO_MANY_LIVE_NODES: return "live nodes would pass 6,144";
-    case TAMARIND_STOP_OUT_OF_RANGE: return "an operation's result under 0 or over 999,999,999, or divisor 0";
+    case TAMARIND_STOP_OUT_OF_RANGE: return "an operation's result under 0 or over 4,000,000,000, or divisor 0";
     default: return "no number of this edition";
     }
 }

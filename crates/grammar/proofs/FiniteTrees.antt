@@ -9,6 +9,7 @@ use lib.Dec.{eqb, leb·zero}
 use borrow.Author.Tests.{lt-ltb, ltb-true}
 use Rattle.words.specs.Reader.{pick, and, or}
 use Rattle.words.proofs.Laws.{and-both, or-true}
+use Rattle.grammar.specs.Limits.{greatestName, greatestNumber}
 use Rattle.grammar.specs.Grammar.{Kind, token, opt, sequence, forms, Grammar, allKnown, anyFormKnown, finishes, round, rounds, finite}
 use Rattle.grammar.specs.Kinds.{kindOf, allows, allowed, childrenOf, children}
 use Rattle.grammar.specs.Finite.{Finite, none, node}
@@ -47,7 +48,7 @@ module _ (g : Grammar) (known : List Bool) (below : (t : ℕ) → getD known t f
 
   kind-finite : (t : ℕ) (k : Kind) → kindOf g t ≡ k → finishes known k ≡ true → Finite g (t ∷ [])
   unfolding finishes allows childrenOf
-  kind-finite t (token c) e h = node-of g t 0 (token c) e (leb·zero (pick (eqb c 2) 999999999 65535)) none
+  kind-finite t (token c) e h = node-of g t 0 (token c) e (leb·zero (pick (eqb c 2) greatestNumber greatestName)) none
   kind-finite t (opt c) e h = node-of g t 1 (opt c) e refl none
   kind-finite t (sequence c) e h = node-of g t 1 (sequence c) e refl none
   kind-finite t (forms fs) e h = let u = any-finite fs h in node-of g t (u .0) (forms fs) e (lt-ltb (u .0) (length fs) (u .1)) (u .2)

@@ -12,7 +12,7 @@ use Rattle.grammar.specs.Grammar.{Kind, token, opt, sequence, forms, Gra
 unfoldable pub kindOf : Grammar → ℕ → Kind
 kindOf g t = getD g t (forms [])
 
--- "A token's value is 0 to 65,535 for a name or string (0 is the empty token), 0 to 999,999,999 hundredths for a number."
+-- "A token's value is 0 to 65,535 for a name or string (0 is the empty token)"; T-02: "A number's value now runs to 4,000,000,000 hundredths"
 -- "An opt has value 0 and one tree of its element, or 1 and none." A sequence likewise. "Other types have a form's number"
 unfoldable pub allows : Kind → ℕ → Bool
 allows (token c) v = leb v (pick (eqb c 2) greatestNumber greatestName)

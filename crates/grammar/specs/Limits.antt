@@ -29,6 +29,6 @@ lastLiteral = 131071
 abbrev pub greatestName : ℕ
 greatestName = 65535
 
--- "0 to 999,999,999 hundredths for a number"
+-- T-02: "A number's value now runs to 4,000,000,000 hundredths"
 abbrev pub greatestNumber : ℕ
-greatestNumber = 999999999
+greatestNumber = 4000000000

@@ -15,4 +15,5 @@ pub const LAST_LITERAL: u32 = 131071;
 
 pub const GREATEST_NAME: u32 = 65535;
 
-pub const GREATEST_NUMBER: u32 = 999999999;
+// In hundredths.
+pub const GREATEST_NUMBER: u32 = 4000000000;

@@ -86,6 +86,20 @@ number-allows (opt x) t m e h = false-not e
 number-allows (sequence x) t m e h = false-not e
 number-allows (forms fs) t m e h = false-not e
 
+number-within : (kd : Kind) (v : ℕ) → isNumberKind kd ≡ true → allows kd v ≡ true → v ≤ greatestNumber
+unfolding isNumberKind allows
+number-within (token c) v e a = leb-true v greatestNumber (rw e at a)
+number-within (opt x) v e a = false-not e
+number-within (sequence x) v e a = false-not e
+number-within (forms fs) v e a = false-not e
+
+-- the value of a number token is in range
+pub value-within : {g : Grammar} {t : ℕ} (ws : Words) → isNumber g t ≡ true → Trees g (t ∷ []) ws → valueOf ws ≤ greatestNumber
+unfolding isNumber allowed valueOf
+value-within [] e r = absurd (tells r)
+value-within (w ∷ []) e r = absurd (tells r)
+value-within {g} {t} (w ∷ v ∷ ws) e r = number-within (kindOf g t) v e (tells r .1)
+
 -- a number token of any value in range
 pub number-tree : (g : Grammar) (t m : ℕ) → isNumber g t ≡ true → m ≤ greatestNumber → Tree g t (t ∷ m ∷ [])
 unfolding isNumber allowed children size nesting nestingFrom

@@ -1,4 +1,4 @@
--- The soundness of the meaning, from words too, the claim about a list of runs, and what rounding is.
+-- The soundness of the meaning, from words too, the claim about a list of runs, what rounding is, and that round never stops.
 pub mod Safe
 pub mod Matching
 pub mod Level
@@ -8,3 +8,4 @@ pub mod Runs
 pub mod Related
 pub mod Numbered
 pub mod Rounding
+pub mod RoundNeverStops

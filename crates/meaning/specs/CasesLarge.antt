@@ -62,8 +62,8 @@ table =
     -- H5, H7: a condition's copy of one number, and an operation on one
     -- the copy is the 6,144th node, and the operation adds none
     ∷ case 9 numbers (1 ∷ 12 ∷ 0 ∷ 2 ∷ 0 ∷ 0 ∷ 64 ∷ 1 ∷ 4 ∷ 4 ∷ 2 ∷ 1 ∷ 2 ∷ 250 ∷ 4 ∷ 1 ∷ 1 ∷ 65 ∷ 0 ∷ 4 ∷ 2 ∷ 3 ∷ 66 ∷ 1 ∷ 1 ∷ 0 ∷ 1004 ∷ 0 ∷ 1 ∷ 3 ∷ 1 ∷ 2 ∷ 1 ∷ 2 ∷ 0 ∷ 0 ∷ 1 ∷ 1 ∷ []) (list (replicate 1023 5)) (ended done 1 0 (list (replicate 1023 5)))
-    -- .. also where it stops by 45
-    ∷ case 9 numbers (1 ∷ 12 ∷ 0 ∷ 2 ∷ 0 ∷ 0 ∷ 64 ∷ 1 ∷ 4 ∷ 4 ∷ 2 ∷ 1 ∷ 2 ∷ 999999950 ∷ 4 ∷ 1 ∷ 1 ∷ 65 ∷ 0 ∷ 4 ∷ 2 ∷ 3 ∷ 66 ∷ 1 ∷ 1 ∷ 0 ∷ 1004 ∷ 0 ∷ 1 ∷ 3 ∷ 1 ∷ 2 ∷ 1 ∷ 2 ∷ 0 ∷ 0 ∷ 1 ∷ 1 ∷ []) (list (replicate 1023 5)) (ended (stopped 45) 1 0 (list (replicate 1023 5)))
+    -- .. also where it stops by 45; nor is its argument live
+    ∷ case 9 numbers (1 ∷ 12 ∷ 0 ∷ 2 ∷ 0 ∷ 0 ∷ 64 ∷ 1 ∷ 4 ∷ 4 ∷ 2 ∷ 1 ∷ 2 ∷ 4000000000 ∷ 4 ∷ 1 ∷ 1 ∷ 65 ∷ 0 ∷ 4 ∷ 2 ∷ 4 ∷ 66 ∷ 1 ∷ 1 ∷ 0 ∷ 1000 ∷ 1 ∷ 65 ∷ 1 ∷ 1 ∷ 3 ∷ 1 ∷ 2 ∷ 1 ∷ 2 ∷ 0 ∷ 0 ∷ 1 ∷ 1 ∷ []) (list (replicate 1023 5)) (ended (stopped 45) 1 0 (list (replicate 1023 5)))
     -- a condition's copy is the 6,144th
     ∷ case 9 numbers (1 ∷ 12 ∷ 0 ∷ 2 ∷ 0 ∷ 0 ∷ 64 ∷ 1 ∷ 4 ∷ 4 ∷ 2 ∷ 1 ∷ 2 ∷ 5 ∷ 4 ∷ 1 ∷ 1 ∷ 65 ∷ 0 ∷ 8 ∷ 4 ∷ 66 ∷ 1 ∷ 1 ∷ 0 ∷ 1008 ∷ 1 ∷ 65 ∷ 1 ∷ 1 ∷ 1 ∷ 1 ∷ 2 ∷ 6 ∷ 2 ∷ 0 ∷ 0 ∷ 1 ∷ 1 ∷ []) (list (replicate 1023 5)) (ended done 1 0 (list (replicate 1023 5)))
     -- .. or the 6,145th

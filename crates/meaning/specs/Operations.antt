@@ -16,7 +16,7 @@ rounded a = halfEven a 100 * 100
 unfoldable pub truncated : ℕ → ℕ
 truncated a = a / 100 * 100
 
--- 45: "an operation's result .. over 999,999,999"
+-- 45: "an operation's result .. over" the most a number may be
 unfoldable pub inRange : ℕ → Comp ℕ
 inRange n = do
   stopUnless 45 (leb n greatestNumber)

@@ -1,13 +1,18 @@
--- THE SOUNDNESS OF A RUN, stated: proofs/Sound.antt proves it. Assumes nothing: these are definitions.
+-- THE SOUNDNESS OF A RUN, stated: proofs/Sound.antt proves it; and that round never stops: proofs/RoundNeverStops.antt proves that. Assumes nothing: these are definitions.
 use Prim.Native.Nat.{ℕ, _≤_}
 use mathlib.Core.Path.{_≡_}
-use mathlib.Core.Bool.{true, false}
+use mathlib.Core.List.{[]}
+use mathlib.Core.Bool.{Bool, true, false}
 use Rattle.words.specs.Reader.{Words}
 use Rattle.grammar.specs.Grammar.{Grammar}
+use Rattle.grammar.specs.Kinds.{isNumber}
 use Rattle.tree.specs.Tree.{Tree}
-use Rattle.rules.specs.Rules.{Rules}
+use Rattle.rules.specs.Rules.{round, operation, Rules}
 use Rattle.judgement.specs.WellTyped.{WellTyped}
-use Rattle.meaning.specs.Meaning.{Ending, done, stopped, cannotGoOn, Called, run}
+use Rattle.meaning.specs.declared.State.{State}
+use Rattle.meaning.specs.Computation.{ok}
+use Rattle.meaning.specs.Operations.{rounded}
+use Rattle.meaning.specs.Meaning.{valueOf, withValue, Ending, done, stopped, cannotGoOn, Called, Calls, apply, run}
 
 -- "the end or a stop 40 to 45", never stuck
 abbrev pub WellEnded : Ending → Type 0
@@ -35,3 +40,8 @@ pub record Sound (g : Grammar) (t n : ℕ) (strict plain : Called) : Type 0 wher
 -- for well-typed rules and a tree of type 0, on any budget
 abbrev pub Soundness : Type 0
 Soundness = (g : Grammar) (rules : Rules) → WellTyped g rules → (tree : Words) → Tree g 0 tree → (budget : ℕ) → Sound g 0 budget (run true g rules tree budget) (run false g rules tree budget)
+
+-- T-02: "Round can no longer cause 45". Applied to any number token, strict or plain, it gives that token with the rounded value and leaves the state as it was
+abbrev pub RoundNeverStops : Type 0
+RoundNeverStops = (strict : Bool) (g : Grammar) (rules : Rules) (deeper : Calls) (t : ℕ) → isNumber g t ≡ true → (scope : Words) → Tree g t scope → (besides : ℕ) (left : State)
+    → apply strict g rules deeper (operation round) [] scope besides left ≡ ok (withValue scope (rounded (valueOf scope))) left

@@ -8,6 +8,7 @@ use lib.ListN.{getD}
 use lib.Dec.{ltb, leb, eqb}
 use borrow.Author.Tests.{le-leb, lt-leb, eq-eqb, ne-eqb, ltb-false}
 use Rattle.words.specs.Reader.{pick}
+use Rattle.grammar.specs.Limits.{greatestNumber}
 use Rattle.rules.specs.Rules.{Operation, add, subtract, quotient, remainder, round, truncate, equal, greater, rule, operation, nothing, applied, operations}
 use Rattle.meaning.specs.declared.State.{State}
 use Rattle.meaning.specs.Computation.{ok, thenOf, stopUnless}
@@ -59,15 +60,15 @@ numbered op o e = go (ltb op 1000) refl e
 
 -- IN RANGE
 
-pub range-over : (n : ℕ) → 999999999 < n → OutOfRange ≡ inRangeAs n
-range-over n h = rw (lt-leb n 999999999 h)
+pub range-over : (n : ℕ) → greatestNumber < n → OutOfRange ≡ inRangeAs n
+range-over n h = rw (lt-leb n greatestNumber h)
 
-pub range-in : (n : ℕ) → n ≤ 999999999 → Is n ≡ inRangeAs n
-range-in n h = rw (le-leb n 999999999 h)
+pub range-in : (n : ℕ) → n ≤ greatestNumber → Is n ≡ inRangeAs n
+range-in n h = rw (le-leb n greatestNumber h)
 
 range-means : (n : ℕ) (left : State) (r : Number) → r ≡ inRangeAs n → MeansNumber r left (inRange n left)
 unfolding inRange thenOf stopUnless
-range-means n left r e = rw e (go (leb n 999999999))
+range-means n left r e = rw e (go (leb n greatestNumber))
   where
     go : (b : Bool) → MeansNumber (pick b (Is n) OutOfRange) left (thenOf (stopUnless 45 b left) (λ u l. ok n l))
     go true = refl

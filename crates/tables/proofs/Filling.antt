@@ -12,6 +12,7 @@ use borrow.Author.Tests.{ltb-true, lt-ltb, le-leb, lt-leb, ne-eqb}
 use Rattle.words.specs.Reader.{Words, pick, or, value, many, accepted}
 use Rattle.words.proofs.Laws.{accepted-value, many-none, many-suc, many-length, or-true}
 use Rattle.words.proofs.Sets.{sets-append, set-below}
+use Rattle.grammar.specs.Limits.{greatestName, greatestNumber}
 use Rattle.grammar.specs.Grammar.{Kind, token, opt, sequence, forms, Grammar, isLiteral, typesOf, element, form, kind}
 use Rattle.grammar.specs.Values.{valuesOf}
 use Rattle.tables.specs.Tables.{mapOf, rowAt}
@@ -327,11 +328,11 @@ module _ (ws : Words) (at : ℕ) (a : accepted (kind ws (typeCount ws) at) ≡ t
     unfolding valuesOf
     values-forms h = value-told (λ k next x. let f = forms-told k next x h in sym (many-length (form ws (typeCount ws)) w (at + 2) (f .0) next (f .3)) ∙ sym (ap valuesOf (f .1)))
 
-    pub values-number : m ≡ 1 → w ≡ 2 → 1000000000 ≡ valuesOf (kindRead (kind ws (typeCount ws) at))
+    pub values-number : m ≡ 1 → w ≡ 2 → greatestNumber + 1 ≡ valuesOf (kindRead (kind ws (typeCount ws) at))
     unfolding valuesOf
     values-number h e = value-told (λ k next x. let f = token-told k next x h in sym (ap valuesOf (f .0) ∙ rw e))
 
-    pub values-name : m ≡ 1 → (w ≡ 2 → ⊥) → 65536 ≡ valuesOf (kindRead (kind ws (typeCount ws) at))
+    pub values-name : m ≡ 1 → (w ≡ 2 → ⊥) → greatestName + 1 ≡ valuesOf (kindRead (kind ws (typeCount ws) at))
     unfolding valuesOf
     values-name h e = value-told (λ k next x. let f = token-told k next x h in sym (ap valuesOf (f .0) ∙ rw (ne-eqb w 2 e)))
 

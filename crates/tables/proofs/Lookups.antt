@@ -8,6 +8,7 @@ use lib.ListN.{length, getD, List·getD-eq-default}
 use lib.Dec.{ltb, eqb}
 use borrow.Author.Tests.{ne-eqb}
 use Rattle.words.specs.Reader.{pick}
+use Rattle.grammar.specs.Limits.{greatestName, greatestNumber}
 use Rattle.grammar.specs.Grammar.{Kind, token, opt, sequence, forms, Grammar}
 use Rattle.grammar.specs.Kinds.{kindOf, allowed, childrenOf, children, isSequenceKind, isSequence, isNumberKind, isNumber}
 use Rattle.grammar.specs.Values.{valuesOf}
@@ -61,18 +62,18 @@ pub token-by : (g : Grammar) (t m : ℕ) → m ≡ mapOf (kindOf g t) → eqb m 
 unfolding isToken
 token-by g t m e = rw e
 
-values-number : (k : Kind) → length (formsOf k) ≤ 16 → eqb (valuesOf k) 1000000000 ≡ isNumberKind k
+values-number : (k : Kind) → length (formsOf k) ≤ 16 → eqb (valuesOf k) (greatestNumber + 1) ≡ isNumberKind k
 unfolding valuesOf isNumberKind formsOf
 values-number (token c) h = go (eqb c 2)
   where
-    go : (b : Bool) → eqb (pick b 1000000000 65536) 1000000000 ≡ b
+    go : (b : Bool) → eqb (pick b (greatestNumber + 1) (greatestName + 1)) (greatestNumber + 1) ≡ b
     go true = refl
     go false = refl
 values-number (opt e) h = refl
 values-number (sequence e) h = refl
-values-number (forms fs) h = ne-eqb (length fs) 1000000000 (λ e. omega arith)
+values-number (forms fs) h = ne-eqb (length fs) (greatestNumber + 1) (λ e. omega arith)
 
-pub number-by : (g : Grammar) (t n : ℕ) → length (formsOf (kindOf g t)) ≤ 16 → n ≡ valuesOf (kindOf g t) → eqb n 1000000000 ≡ isNumber g t
+pub number-by : (g : Grammar) (t n : ℕ) → length (formsOf (kindOf g t)) ≤ 16 → n ≡ valuesOf (kindOf g t) → eqb n (greatestNumber + 1) ≡ isNumber g t
 unfolding isNumber
 number-by g t n h e = rw e (values-number (kindOf g t) h)
 

@@ -37,7 +37,7 @@ numberOf TooManyNodes = 42
 numberOf NestsTooDeep = 43
 -- "held nodes would pass 6,144"
 numberOf TooManyLiveNodes = 44
--- "an operation's result under 0 or over 999,999,999, or divisor 0"
+-- "an operation's result under 0 or over 999,999,999, or divisor 0"; over 4,000,000,000 by T-02
 numberOf OutOfRange = 45
 
 -- the outcome that an answer says, with the result memory as it is afterwards: "The filled words are those from word 0, as many as the filled count"

@@ -51,8 +51,8 @@ inputs =
     ∷ (numbers, 0 ∷ 0 ∷ 1 ∷ 1 ∷ [])
     ∷ (numbers, 0 ∷ 0 ∷ [])
     ∷ (numbers, twelve ++ 1 ∷ 1 ∷ [])
-    ∷ (numbers, 0 ∷ 0 ∷ 1 ∷ 0 ∷ 2 ∷ 999999999 ∷ 1 ∷ 1 ∷ [])
-    ∷ (numbers, 0 ∷ 0 ∷ 1 ∷ 0 ∷ 2 ∷ 1000000000 ∷ 1 ∷ 1 ∷ [])
+    ∷ (numbers, 0 ∷ 0 ∷ 1 ∷ 0 ∷ 2 ∷ 4000000000 ∷ 1 ∷ 1 ∷ [])
+    ∷ (numbers, 0 ∷ 0 ∷ 1 ∷ 0 ∷ 2 ∷ 4000000001 ∷ 1 ∷ 1 ∷ [])
     -- a form that is not there; a sequence may not stand for its element, nor the element for it; no third value of a sequence
     ∷ (numbers, 0 ∷ 1 ∷ 1 ∷ 1 ∷ [])
     ∷ (numbers, 0 ∷ 0 ∷ 1 ∷ 0 ∷ 1 ∷ 1 ∷ [])
@@ -73,7 +73,7 @@ inputs =
     ∷ (3 ∷ 8 ∷ 1 ∷ [], twelve)
     ∷ (3 ∷ 3 ∷ 1 ∷ [], twelve)
     -- names, opts: the greatest name, one more; an opt with its element, with none, with a third value
-    ∷ (pair, 0 ∷ 0 ∷ 1 ∷ 65535 ∷ 2 ∷ 0 ∷ 3 ∷ 999999999 ∷ [])
+    ∷ (pair, 0 ∷ 0 ∷ 1 ∷ 65535 ∷ 2 ∷ 0 ∷ 3 ∷ 4000000000 ∷ [])
     ∷ (pair, 0 ∷ 0 ∷ 1 ∷ 65536 ∷ 2 ∷ 1 ∷ [])
     ∷ (pair, 0 ∷ 0 ∷ 1 ∷ 0 ∷ 2 ∷ 1 ∷ [])
     ∷ (pair, 0 ∷ 0 ∷ 1 ∷ 0 ∷ 2 ∷ 2 ∷ [])

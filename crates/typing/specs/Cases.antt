@@ -164,9 +164,10 @@ table =
     ∷ case sums (1 ∷ 8 ∷ 0 ∷ 3 ∷ 0 ∷ 0 ∷ 64 ∷ 1 ∷ 64 ∷ 2 ∷ 6 ∷ 0 ∷ 0 ∷ 66 ∷ 1 ∷ 1 ∷ 0 ∷ 1000 ∷ 1 ∷ 65 ∷ 1 ∷ 65 ∷ 1 ∷ []) (Refused 23 14)
     -- T17: the main rule may be applied, without arguments
     ∷ case numbers (1 ∷ 8 ∷ 0 ∷ 1 ∷ 64 ∷ 0 ∷ 4 ∷ 66 ∷ 0 ∷ 1 ∷ 0 ∷ 0 ∷ 1 ∷ 65 ∷ 0 ∷ []) (Refused 22 12)
-    -- T18: a node's value
-    ∷ case numbers (1 ∷ 9 ∷ 2 ∷ 2 ∷ 1 ∷ 2 ∷ 999999999 ∷ 1 ∷ 2 ∷ 0 ∷ []) (Passed 10)
-    ∷ case numbers (1 ∷ 9 ∷ 2 ∷ 2 ∷ 1 ∷ 2 ∷ 1000000000 ∷ 1 ∷ 2 ∷ 0 ∷ []) (Refused 23 6)
+    -- T18: a node's value. T-02: "in .. patterns, replacements", "4,000,000,000 passes and 4,000,000,001 is refused"
+    ∷ case numbers (1 ∷ 9 ∷ 2 ∷ 2 ∷ 1 ∷ 2 ∷ 4000000000 ∷ 1 ∷ 2 ∷ 4000000000 ∷ []) (Passed 10)
+    ∷ case numbers (1 ∷ 9 ∷ 2 ∷ 2 ∷ 1 ∷ 2 ∷ 4000000001 ∷ 1 ∷ 2 ∷ 0 ∷ []) (Refused 23 6)
+    ∷ case numbers (1 ∷ 9 ∷ 2 ∷ 2 ∷ 1 ∷ 2 ∷ 0 ∷ 1 ∷ 2 ∷ 4000000001 ∷ []) (Refused 23 9)
     ∷ case numbers (1 ∷ 9 ∷ 1 ∷ 1 ∷ 1 ∷ 1 ∷ 2 ∷ 1 ∷ 1 ∷ 1 ∷ []) (Refused 23 6)
     ∷ case numbers (1 ∷ 8 ∷ 0 ∷ 1 ∷ 0 ∷ 1 ∷ 1 ∷ 65 ∷ 0 ∷ []) (Refused 23 5)
     -- the variable to take apart, and the searched type

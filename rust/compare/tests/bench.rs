@@ -105,29 +105,42 @@ fn the_papers_refusals_and_operations() {
     assert_eq!(run(3, GRAMMAR, RULES, &[0, 0]), "refused 31 2\n");
     let over = [TREE, &[1, 1]].concat();
     assert_eq!(run(3, GRAMMAR, RULES, &over), "refused 31 12\n");
-    assert_eq!(
-        run(3, GRAMMAR, RULES, &list(&[999_999_999, 500])),
-        "done 2 0 12\n0 0 1 0 2 999999999 1 0 2 500 1 1\n"
-    );
-    assert_eq!(
-        run(3, GRAMMAR, RULES, &list(&[1_000_000_000, 500])),
-        "refused 32 5\n"
-    );
+    for number in [1_000_000_000, 4_000_000_000] {
+        assert_eq!(
+            run(3, GRAMMAR, RULES, &list(&[number, 500])),
+            format!("done 2 0 12\n0 0 1 0 2 {number} 1 0 2 500 1 1\n")
+        );
+    }
+    // All words are read; a number over the limit is refused where it stands.
+    for number in [4_000_000_001, u32::MAX] {
+        assert_eq!(
+            run(3, GRAMMAR, RULES, &list(&[number, 500])),
+            "refused 32 5\n"
+        );
+    }
     let document_01 = [(125, 100), (150, 200), (49, 0)];
-    let half_to_even = [(250, 200), (50, 0), (175, 200), (999_999_850, 999_999_800)];
-    for (number, rounded) in document_01.into_iter().chain(half_to_even) {
+    let half_to_even = [(250, 200), (50, 0), (175, 200)];
+    let great = [
+        (999_999_950, 1_000_000_000),
+        (3_999_999_850, 3_999_999_800_u32),
+        (3_999_999_950, 4_000_000_000),
+    ];
+    let rounds = document_01.into_iter().chain(half_to_even).chain(great);
+    for (number, rounded) in rounds {
         assert_eq!(
             run(3, GRAMMAR, ROUND, &list(&[number])),
             format!("done 1 1 8\n0 0 1 0 2 {rounded} 1 1\n")
         );
     }
+    for (number, divisor, quotient) in [(1_000, 300, 300), (40_000_000, 1, 4_000_000_000_u32)] {
+        assert_eq!(
+            run(3, GRAMMAR, QUOTIENT, &list(&[number, divisor])),
+            format!("done 1 1 8\n0 0 1 0 2 {quotient} 1 1\n")
+        );
+    }
     assert_eq!(
-        run(3, GRAMMAR, ROUND, &list(&[999_999_950])),
-        "stopped 45 1 0 8\n0 0 1 0 2 999999950 1 1\n"
-    );
-    assert_eq!(
-        run(3, GRAMMAR, QUOTIENT, &list(&[1000, 300])),
-        "done 1 1 8\n0 0 1 0 2 300 1 1\n"
+        run(3, GRAMMAR, QUOTIENT, &list(&[40_000_001, 1])),
+        "stopped 45 1 0 12\n0 0 1 0 2 40000001 1 0 2 1 1 1\n"
     );
 }
 
@@ -191,7 +204,7 @@ fn lengths_at_one_past_and_two_past_their_limits() {
     let (short, long) = (vec![most; 4_097], vec![most; 16_385]);
     assert_eq!(run(3, &short, &long, &short), "refused 4 0\n");
     // The greatest tree that can be filled.
-    let numbers = vec![999_999_999; 1_023];
+    let numbers = vec![4_000_000_000; 1_023];
     let tree = list(&numbers);
     let words: Vec<String> = tree.iter().map(u32::to_string).collect();
     let printed = format!("done 1023 0 4096\n{}\n", words.join(" "));

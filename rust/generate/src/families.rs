@@ -526,13 +526,19 @@ pub fn counting_down(seed: u64) -> Input {
 
 /// Operations and comparisons when about 6,144 nodes are live.
 fn operations_among_live_nodes(random: &mut Random) -> Input {
-    let number = random.pick(&[250, 999_999_950]);
+    let number = random.pick(&[250, limits::NUMBER_VALUE]);
     let mut parts = vec![construct(2, &[(2, number)]); random.between(1, 4)];
     // The sequence is variable 0, the first number variable 1.
     parts.push(construct(1, &[(65, 0)]));
     for _ in 0..random.between(1, 2) {
         parts.push(if random.chance(50) {
-            construct(2, &[(66, 1), (1, 0), (random.pick(&[1_004, 1_005]), 0)])
+            let changes = [
+                vec![(1_000, 1), (65, 1)],
+                vec![(1_004, 0)],
+                vec![(1_005, 0)],
+            ];
+            let change = random.pick(&changes);
+            construct(2, &[&[(66, 1), (1, 0)], &change[..]].concat())
         } else {
             PartText::Condition {
                 negated: random.chance(20),
@@ -557,33 +563,58 @@ fn operations_among_live_nodes(random: &mut Random) -> Input {
     input(LIST, &[rule], tree, 5)
 }
 
-/// Operations with numbers at the ends of their range (stop 45).
-pub fn operations_near_limit(seed: u64) -> Input {
-    let random = &mut Random::new(seed);
-    const SMALL: [u32; 8] = [0, 1, 2, 3, 50, 99, 100, 120];
-    const GREAT: [u32; 7] = [
-        9_999_999,
-        10_000_000,
-        500_000_000,
-        500_000_050,
-        999_999_949,
-        999_999_950,
-        999_999_999,
-    ];
-    let mut tree = vec![0, 0];
-    let great_by_small = random.chance(30);
-    for place in 0..random.between(2, 4) {
-        let number = match random.below(5) {
-            _ if great_by_small && place == 0 => random.pick(&GREAT),
-            _ if great_by_small && place == 1 => random.pick(&SMALL),
-            0 | 1 => random.pick(&SMALL),
-            2 => random.pick(&GREAT),
-            3 => near_a_half(random),
-            _ => random.below(limits::NUMBER_VALUE as usize + 1) as u32,
-        };
-        tree.extend([1, 0, 2, number]);
+/// The greatest number of document 01, before T-02.
+const FIRST_LIMIT: u32 = 999_999_999;
+const SMALL: [u32; 8] = [0, 1, 2, 3, 50, 99, 100, 120];
+const GREAT: [u32; 8] = [
+    FIRST_LIMIT - 49,
+    FIRST_LIMIT,
+    FIRST_LIMIT + 1,
+    1 << 31,
+    limits::NUMBER_VALUE / 2 + 1,
+    limits::NUMBER_VALUE - 50,
+    limits::NUMBER_VALUE - 1,
+    limits::NUMBER_VALUE,
+];
+
+/// Any number, or one at an end of the range.
+fn number_near_limit(random: &mut Random) -> u32 {
+    match random.below(5) {
+        0 | 1 => random.pick(&SMALL),
+        2 => random.pick(&GREAT),
+        3 => near_a_half(random),
+        _ => random.below(limits::NUMBER_VALUE as usize + 1) as u32,
     }
-    tree.extend([1, 1]);
+}
+
+/// Two numbers whose sum, or whose quotient in hundredths, is a limit, one past
+/// it, or about 2^32; the limit is today's or that of document 01.
+fn two_at_limit(random: &mut Random) -> [u32; 2] {
+    let most = random.pick(&[FIRST_LIMIT, limits::NUMBER_VALUE]);
+    let any = random.below(most as usize) as u32;
+    let part = random.pick(&[0, 1, 100, any]);
+    let rest = u32::MAX - most;
+    random.pick(&[
+        [most - part, part],
+        [most - part, part + 1],
+        [most, rest],
+        [most, rest + 1],
+        [most, most],
+        [most / 100, 1],
+        [most / 100 + 1, 1],
+        [u32::MAX / 100, 1],
+        [u32::MAX / 100 + 1, 1],
+    ])
+}
+
+/// The chain that adds the second number to the first, or divides by it.
+fn sum_or_quotient(random: &mut Random) -> Vec<Pair> {
+    vec![(66, 0), (1, 0), (random.pick(&[1_000, 1_002]), 1), (65, 1)]
+}
+
+/// A chain of any operations on the first number, with the first two as
+/// arguments.
+fn any_operations(random: &mut Random) -> Vec<Pair> {
     let length = random.pick(&[1, 1, 1, 2, 3, 4]);
     let mut chain = vec![(66, 0), (length, 0)];
     for _ in 0..length {
@@ -592,9 +623,55 @@ pub fn operations_near_limit(seed: u64) -> Input {
         chain.push((operation, arguments as u32));
         chain.extend(vec![(65, random.pick(&[0, 1, 1, 1])); arguments]);
     }
-    let mut replacement = vec![(1, 0)];
-    replacement.extend(chain);
-    replacement.push((65, 2));
+    chain
+}
+
+/// Great numbers in a tree, a pattern, a construct and a replacement. In half
+/// of the inputs one of them is over the limit, mostly by one (refusals 23 and
+/// 32).
+pub fn numbers_at_limit(seed: u64) -> Input {
+    let random = &mut Random::new(seed);
+    let mut numbers = [0; 4].map(|_| random.pick(&GREAT));
+    if random.chance(50) {
+        let over = limits::NUMBER_VALUE + 1;
+        numbers[random.below(4)] = random.pick(&[over, over, over, u32::MAX]);
+    }
+    let [number, matched, built, replacing] = numbers;
+    let rule = RuleText {
+        target: 2,
+        reach: 1,
+        pattern: vec![(2, matched)],
+        parts: vec![construct(2, &[(2, built)])],
+        replacement: Some(vec![(2, replacing)]),
+        ..RuleText::default()
+    };
+    input(LIST, &[rule], vec![0, 0, 1, 0, 2, number, 1, 1], 5)
+}
+
+/// Operations with numbers at the ends of their range (stop 45).
+pub fn operations_near_limit(seed: u64) -> Input {
+    let random = &mut Random::new(seed);
+    let (first_two, chain) = match random.below(10) {
+        0..=3 => (two_at_limit(random), sum_or_quotient(random)),
+        4..=6 => {
+            let two = [random.pick(&GREAT), random.pick(&SMALL)];
+            (two, any_operations(random))
+        }
+        _ => {
+            let two = [number_near_limit(random), number_near_limit(random)];
+            (two, any_operations(random))
+        }
+    };
+    let mut numbers = first_two.to_vec();
+    for _ in 0..random.between(0, 2) {
+        numbers.push(number_near_limit(random));
+    }
+    let mut tree = vec![0, 0];
+    for number in numbers {
+        tree.extend([1, 0, 2, number]);
+    }
+    tree.extend([1, 1]);
+    let replacement = [&[(1, 0)], &chain[..], &[(65, 2)]].concat();
     let parts = if random.chance(50) {
         vec![]
     } else {
@@ -620,8 +697,8 @@ pub fn operations_near_limit(seed: u64) -> Input {
 }
 
 /// Numbers that are no whole numbers are rounded, each once: exact halves of
-/// odd and even wholes and numbers just off a half, some of them at the limit
-/// (stop 45).
+/// odd and even wholes and numbers just off a half, some of them rounded to the
+/// greatest number.
 pub fn rounding(seed: u64) -> Input {
     let random = &mut Random::new(seed);
     let no_whole_number = PartText::Condition {

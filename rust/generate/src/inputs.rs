@@ -67,6 +67,7 @@ pub fn check_input(seed: u64) -> Input {
         86..=89 => input.tree = tree_at_limits(seed, &decoded),
         90 => input.budget = random.pick(&[0, 1, limits::BUDGET, limits::BUDGET + 1, u32::MAX]),
         91..=95 => input = damaged_family(&mut random, seed),
+        96 | 97 => input = families::numbers_at_limit(seed),
         _ => {}
     }
     input

@@ -14,7 +14,8 @@ mod trees;
 
 pub use families::{
     calls_near_limit, conditions, counting_down, live_nodes_at_limit, live_nodes_near_limit,
-    nesting_near_limit, nodes_near_limit, operations_near_limit, rounding, searches,
+    nesting_near_limit, nodes_near_limit, numbers_at_limit, operations_near_limit, rounding,
+    searches,
 };
 pub use grammars::{any_grammar, damaged_grammar, grammar, long_grammar};
 pub use inputs::{

@@ -297,7 +297,7 @@ fn endless_types(grammar: &Grammar) -> Vec<bool> {
 /// A value of a token: few different ones, so that equal tokens are common,
 /// and those at the ends of each range.
 pub fn token_value(random: &mut Random, class: TokenClass) -> u32 {
-    const NUMBERS: [u32; 16] = [
+    const NUMBERS: [u32; 19] = [
         0,
         1,
         49,
@@ -310,10 +310,13 @@ pub fn token_value(random: &mut Random, class: TokenClass) -> u32 {
         300,
         500,
         4_200,
-        10_000_000,
-        999_999_949,
+        40_000_000,
         999_999_950,
         999_999_999,
+        1_000_000_000,
+        limits::NUMBER_VALUE - 51,
+        limits::NUMBER_VALUE - 50,
+        limits::NUMBER_VALUE,
     ];
     match class {
         TokenClass::Number if random.chance(70) => random.below(5) as u32 * 100,

@@ -1,4 +1,5 @@
-//! The limits that document 01 sets, one name each.
+//! The limits that document 01 sets, one name each. T-02 of document 02 moves
+//! that of a number.
 
 /// Most words of a grammar (refusal 4).
 pub const GRAMMAR_WORDS: usize = 4_096;
@@ -21,8 +22,10 @@ pub const FORMS: u32 = 16;
 pub const ELEMENTS: u32 = 8;
 /// Greatest value of a name or string token.
 pub const TEXT_VALUE: u32 = 65_535;
-/// Greatest value of a number token, in hundredths.
-pub const NUMBER_VALUE: u32 = 999_999_999;
+/// Greatest value of a number token (refusals 23 and 32, stop 45). T-02: "A
+/// number's value now runs to 4,000,000,000 hundredths, in slips, patterns,
+/// replacements and results." It is a whole number, so round cannot pass it.
+pub const NUMBER_VALUE: u32 = 4_000_000_000;
 
 /// Most rules.
 pub const RULES: u32 = 64;

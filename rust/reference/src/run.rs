@@ -401,7 +401,8 @@ fn grown(size: usize, nodes: usize) -> Result<usize, Stop> {
     }
 }
 
-/// The result of an operation on numbers, all in hundredths.
+/// The result of an operation on numbers, all in hundredths. A sum or product
+/// may pass 2^32, so it is worked in u64 and judged once, at the end.
 fn operate(operation: Operation, scope: u32, argument: u32) -> Result<u32, Stop> {
     let (scope, argument) = (u64::from(scope), u64::from(argument));
     let result = match operation {

@@ -1,5 +1,6 @@
-//! Every bullet of the paper's chapter "The two-to-forty-two bench", and the
-//! examples that T-01 adds to the one on rounding.
+//! Every bullet of the paper's chapter "The two-to-forty-two bench", with the
+//! examples that T-01 adds to the one on rounding, and the greatest number as
+//! T-02 moves it.
 
 mod common;
 
@@ -83,12 +84,14 @@ fn trees_short_over_and_with_great_numbers() {
     assert_eq!(bench(3, GRAMMAR, RULES, &[0, 0]), "refused 31 2");
     let over = [TREE, &[1, 1]].concat();
     assert_eq!(bench(3, GRAMMAR, RULES, &over), "refused 31 12");
+    for number in [999_999_999, 1_000_000_000, 4_000_000_000] {
+        assert_eq!(
+            bench(3, GRAMMAR, RULES, &list(&[number, 500])),
+            format!("done 2 0 12\n0 0 1 0 2 {number} 1 0 2 500 1 1")
+        );
+    }
     assert_eq!(
-        bench(3, GRAMMAR, RULES, &list(&[999_999_999, 500])),
-        "done 2 0 12\n0 0 1 0 2 999999999 1 0 2 500 1 1"
-    );
-    assert_eq!(
-        bench(3, GRAMMAR, RULES, &list(&[1_000_000_000, 500])),
+        bench(3, GRAMMAR, RULES, &list(&[4_000_000_001, 500])),
         "refused 32 5"
     );
 }
@@ -97,16 +100,13 @@ fn trees_short_over_and_with_great_numbers() {
 fn round_and_quotient() {
     let document_01 = [(125, 100), (150, 200), (49, 0)];
     let t01 = [(150, 200), (250, 200), (50, 0), (125, 100), (175, 200)];
-    for (number, rounded) in document_01.into_iter().chain(t01) {
+    let t02 = [(999_999_950, 1_000_000_000)];
+    for (number, rounded) in document_01.into_iter().chain(t01).chain(t02) {
         assert_eq!(
             bench(3, GRAMMAR, &unary(1_004), &list(&[number])),
             format!("done 1 1 8\n0 0 1 0 2 {rounded} 1 1")
         );
     }
-    assert_eq!(
-        bench(3, GRAMMAR, &unary(1_004), &list(&[999_999_950])),
-        "stopped 45 1 0 8\n0 0 1 0 2 999999950 1 1"
-    );
     assert_eq!(
         bench(3, GRAMMAR, &binary(1_002), &list(&[1000, 300])),
         "done 1 1 8\n0 0 1 0 2 300 1 1"

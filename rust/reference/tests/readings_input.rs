@@ -1,4 +1,5 @@
-//! The readings B (bench), C (call), G (grammar) and S (tree), one test each.
+//! The readings B (bench), C (call), G (grammar) and S (tree) with T02-1 and
+//! T02-3 (larger amounts), one test each.
 
 mod common;
 
@@ -32,6 +33,41 @@ fn b1_numbers_over_u32_are_unread() {
     let word = |text: &str| answer(example().replace(" 500 ", text).as_bytes());
     assert_eq!(word(" 4294967295 "), "refused 32 9\n");
     assert_eq!(word(" 4294967296 "), "unread\n");
+}
+
+#[test]
+fn t02_3_a_number_too_great_is_refused_where_it_stands() {
+    let example = example();
+    let words: Vec<&str> = example.split(' ').collect();
+    let with = |index: usize, text| {
+        let mut words = words.clone();
+        words[index] = text;
+        answer(words.join(" ").as_bytes())
+    };
+    // Behind the budget stand a length and 9 words, a length and 10 words, a
+    // length and 12 words.
+    let lengths = [1, 11, 22];
+    let (grammar, rules, tree) = (2, 12, 23);
+    assert_eq!(
+        with(tree + 9, "4000000000"),
+        "done 3 1 12\n0 0 1 0 2 4200 1 0 2 4000000000 1 1\n"
+    );
+    for too_great in ["4000000001", "4294967295"] {
+        assert_eq!(with(0, too_great), "refused 3 0\n");
+        assert_eq!(with(grammar + 8, too_great), "refused 11 8\n");
+        assert_eq!(with(rules + 6, too_great), "refused 23 6\n");
+        assert_eq!(with(rules + 9, too_great), "refused 23 9\n");
+        assert_eq!(with(tree + 5, too_great), "refused 32 5\n");
+        assert_eq!(with(tree + 9, too_great), "refused 32 9\n");
+        // No place makes it unread but a length, being past its limit.
+        for index in 0..words.len() {
+            let unread = with(index, too_great) == "unread\n";
+            assert_eq!(unread, lengths.contains(&index), "{too_great} at {index}");
+        }
+    }
+    for index in 0..words.len() {
+        assert_eq!(with(index, "4294967296"), "unread\n", "{index}");
+    }
 }
 
 #[test]
@@ -252,6 +288,29 @@ fn s1_the_root_has_type_0_and_each_child_the_type_due() {
     assert_eq!(tree_refusal(&[1, 1, 1], &[0, 65_536]), Some((32, 1)));
     assert_eq!(tree_refusal(&[1, 1, 3], &[0, 65_536]), Some((32, 1)));
     assert_eq!(tree_refusal(&[1, 1, 3], &[0, 0]), None);
+}
+
+#[test]
+fn t02_1_values_of_tokens_in_a_tree() {
+    let with = |class, value| tree_refusal(&[1, 1, class], &[0, value]);
+    for value in [0, 999_999_999, 1_000_000_000, 1 << 31, 4_000_000_000] {
+        assert_eq!(with(2, value), None, "{value}");
+    }
+    for value in [4_000_000_001, u32::MAX] {
+        assert_eq!(with(2, value), Some((32, 1)), "{value}");
+    }
+    // At the value, wherever the number stands.
+    let third = |value| tree_refusal(GRAMMAR, &list(&[4_000_000_000, 0, value]));
+    assert_eq!(third(4_000_000_000), None);
+    assert_eq!(third(4_000_000_001), Some((32, 13)));
+    assert_eq!(third(u32::MAX), Some((32, 13)));
+    // Names and strings keep 65,535.
+    for class in [1, 3] {
+        assert_eq!(with(class, 65_535), None);
+        for value in [65_536, 999_999_999, 4_000_000_000, u32::MAX] {
+            assert_eq!(with(class, value), Some((32, 1)), "{value}");
+        }
+    }
 }
 
 #[test]

@@ -1,5 +1,5 @@
-//! The readings L (layout of the rules) and T (typing), one test each.
-//! Positions are counted by hand.
+//! The readings L (layout of the rules) and T (typing) with T02-1 (larger
+//! amounts), one test each. Positions are counted by hand.
 
 mod common;
 
@@ -559,13 +559,48 @@ fn t17_rule_0_applied_and_scopes_that_cannot_hold_the_target() {
 #[test]
 fn t18_values_of_nodes_in_pairs() {
     assert_eq!(
-        refusal(&[1, 9, 2, 2, 1, 2, 1_000_000_000, 1, 2, 4200]),
+        refusal(&[1, 9, 2, 2, 1, 2, 4_000_000_001, 1, 2, 4200]),
         Some((23, 6))
     );
     assert_eq!(
-        refusal(&[1, 9, 2, 2, 1, 2, 200, 1, 2, 1_000_000_000]),
+        refusal(&[1, 9, 2, 2, 1, 2, 200, 1, 2, 4_000_000_001]),
         Some((23, 9))
     );
     assert_eq!(refusal(&[1, 8, 0, 1, 0, 1, 1, 64, 0]), Some((23, 5)));
     assert_eq!(refusal(&[1, 9, 1, 1, 1, 1, 2, 1, 1, 1]), Some((23, 6)));
+}
+
+#[test]
+fn t02_1_values_of_tokens_in_pairs() {
+    // One token as pattern, value at word 5, and as replacement, at word 8.
+    let with = |class, pattern, replacement| {
+        let rules = [1, 8, 0, 1, 0, pattern, 1, 0, replacement];
+        refusal_under(&[1, 1, class], &rules)
+    };
+    for value in [0, 999_999_999, 1_000_000_000, 1 << 31, 4_000_000_000] {
+        assert_eq!(with(2, value, value), None, "{value}");
+    }
+    for value in [4_000_000_001, u32::MAX] {
+        assert_eq!(with(2, value, 0), Some((23, 5)), "{value}");
+        assert_eq!(with(2, 0, value), Some((23, 8)), "{value}");
+        assert_eq!(with(2, value, value), Some((23, 5)), "{value}");
+    }
+    // Patterns and replacements of parts.
+    let taken_apart = |value| with_part(&[1, 0, 4, 0, 0, 1, 0, 2, value, 1, 1]);
+    let searched = |value| with_part(&[3, 2, 0, 1, 2, value]);
+    let built = |value| with_part(&[4, 2, 1, 2, value]);
+    assert_eq!(refusal(&taken_apart(4_000_000_000)), None);
+    assert_eq!(refusal(&taken_apart(4_000_000_001)), Some((23, 15)));
+    assert_eq!(refusal(&searched(4_000_000_000)), None);
+    assert_eq!(refusal(&searched(4_000_000_001)), Some((23, 12)));
+    assert_eq!(refusal(&built(4_000_000_000)), None);
+    assert_eq!(refusal(&built(4_000_000_001)), Some((23, 11)));
+    // Names and strings keep 65,535.
+    for class in [1, 3] {
+        assert_eq!(with(class, 65_535, 65_535), None);
+        for value in [65_536, 999_999_999, 4_000_000_000, u32::MAX] {
+            assert_eq!(with(class, value, 0), Some((23, 5)), "{value}");
+            assert_eq!(with(class, 0, value), Some((23, 8)), "{value}");
+        }
+    }
 }

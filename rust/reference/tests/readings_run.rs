@@ -1,6 +1,6 @@
 //! The readings M (meaning), H (live nodes and limits), O (operations) with
-//! T01 (half to even), and A (answer), one test each. All numbers are worked
-//! out by hand, but for those that a search finds.
+//! T01 (half to even) and T02 (larger amounts), and A (answer), one test each.
+//! All numbers are worked out by hand, but for those that a search finds.
 
 mod common;
 
@@ -447,13 +447,13 @@ fn h6_arguments_count_each_and_in_one_step_with_the_call() {
 fn h7_an_operation_holds_nothing_more() {
     // 2,048 + 2,047 + 1 + 2,047 are live, then the copy: 6,144. The last part
     // always fails.
-    let with = |number| {
+    let with = |application: &[(u32, u32)], number| {
         let texts = [RuleText {
             pattern: &[(0, 0), (64, 1)],
             parts: &[
                 construct(2, &[(2, number)]),
                 construct(1, &[(65, 0)]),
-                construct(2, &[(66, 1), (1, 0), (1_004, 0)]),
+                construct(2, &[&[(66, 1), (1, 0)], application].concat()),
                 deconstruct(3, &[(2, 1)]),
             ],
             replacement: &[(0, 0), (1, 1)],
@@ -461,8 +461,11 @@ fn h7_an_operation_holds_nothing_more() {
         }];
         line(GRAMMAR, 9, &texts, &list_of_nodes(2_048))
     };
-    assert_eq!(with(250), "done 1 0 4096");
-    assert_eq!(with(999_999_950), "stopped 45 1 0 4096");
+    let round = [(1_004, 0)];
+    let add_itself = [(1_000, 1), (65, 1)];
+    assert_eq!(with(&round, 250), "done 1 0 4096");
+    assert_eq!(with(&add_itself, 250), "done 1 0 4096");
+    assert_eq!(with(&add_itself, 2_000_000_001), "stopped 45 1 0 4096");
 }
 
 #[test]
@@ -475,14 +478,14 @@ fn h8_open_calls() {
         "stopped 41 32 0 132"
     );
     // An operation in the 32nd call is no call: it gives 45, not 41.
-    let rounding = RuleText {
-        parts: &[construct(2, &[(66, 0), (1, 0), (1_004, 0)])],
+    let doubling = RuleText {
+        parts: &[construct(2, &[(66, 0), (1, 0), (1_000, 1), (65, 0)])],
         ..RECURSIVE
     };
     let mut numbers = vec![5; 31];
-    numbers.push(999_999_950);
+    numbers.push(2_000_000_001);
     assert_eq!(
-        line(GRAMMAR, 99, &[rounding], &list(&numbers)),
+        line(GRAMMAR, 99, &[doubling], &list(&numbers)),
         "stopped 45 32 0 132"
     );
     // Calls of tests are nested calls too.
@@ -736,12 +739,12 @@ fn result(text: &str) -> String {
 #[test]
 fn o1_quotient_and_remainder() {
     assert_eq!(operate(1_003, 250, 120), "10");
-    assert_eq!(operate(1_003, 999_999_999, 1), "0");
+    assert_eq!(operate(1_003, 4_000_000_000, 1), "0");
     assert_eq!(operate(1_002, 1_000, 300), "300");
     assert_eq!(operate(1_002, 299, 300), "0");
-    assert_eq!(operate(1_002, 9_999_999, 1), "999999900");
-    assert_eq!(operate(1_002, 10_000_000, 1), "stopped 45");
-    assert_eq!(operate(1_002, 999_999_999, 1), "stopped 45");
+    assert_eq!(operate(1_002, 40_000_000, 1), "4000000000");
+    assert_eq!(operate(1_002, 40_000_001, 1), "stopped 45");
+    assert_eq!(operate(1_002, 4_000_000_000, 1), "stopped 45");
 }
 
 #[test]
@@ -749,11 +752,12 @@ fn o2_round_and_truncate() {
     for (scope, rounded) in [(0, "0"), (49, "0"), (50, "0"), (149, "100")] {
         assert_eq!(operate_alone(1_004, scope), rounded);
     }
-    assert_eq!(operate_alone(1_004, 999_999_949), "999999900");
-    assert_eq!(operate_alone(1_004, 999_999_950), "stopped 45");
+    assert_eq!(operate_alone(1_004, 3_999_999_949), "3999999900");
+    assert_eq!(operate_alone(1_004, 3_999_999_950), "4000000000");
     assert_eq!(operate_alone(1_005, 99), "0");
     assert_eq!(operate_alone(1_005, 199), "100");
-    assert_eq!(operate_alone(1_005, 999_999_999), "999999900");
+    assert_eq!(operate_alone(1_005, 3_999_999_999), "3999999900");
+    assert_eq!(operate_alone(1_005, 4_000_000_000), "4000000000");
 }
 
 #[test]
@@ -790,16 +794,25 @@ fn t01_1_an_exact_half_goes_to_the_even_whole_number() {
 
 #[test]
 fn t01_2_halves_near_the_greatest_number() {
-    assert_eq!(operate_alone(1_004, 999_999_750), "999999800");
-    assert_eq!(operate_alone(1_004, 999_999_849), "999999800");
     assert_eq!(operate_alone(1_004, 999_999_850), "999999800");
-    assert_eq!(operate_alone(1_004, 999_999_851), "999999900");
-    assert_eq!(operate_alone(1_004, 999_999_900), "999999900");
     assert_eq!(operate_alone(1_004, 999_999_949), "999999900");
-    // The half between 9,999,999 and 10,000,000, which is even and too great.
-    assert_eq!(operate_alone(1_004, 999_999_950), "stopped 45");
-    assert_eq!(operate_alone(1_004, 999_999_951), "stopped 45");
-    assert_eq!(operate_alone(1_004, 999_999_999), "stopped 45");
+    // The half between 9,999,999 and 10,000,000, which is even; with T-02 it
+    // is no longer too great.
+    assert_eq!(operate_alone(1_004, 999_999_950), "1000000000");
+    assert_eq!(operate_alone(1_004, 999_999_951), "1000000000");
+    assert_eq!(operate_alone(1_004, 999_999_999), "1000000000");
+
+    assert_eq!(operate_alone(1_004, 3_999_999_750), "3999999800");
+    assert_eq!(operate_alone(1_004, 3_999_999_849), "3999999800");
+    assert_eq!(operate_alone(1_004, 3_999_999_850), "3999999800");
+    assert_eq!(operate_alone(1_004, 3_999_999_851), "3999999900");
+    assert_eq!(operate_alone(1_004, 3_999_999_900), "3999999900");
+    assert_eq!(operate_alone(1_004, 3_999_999_949), "3999999900");
+    // The half between 39,999,999 and 40,000,000, which is even.
+    assert_eq!(operate_alone(1_004, 3_999_999_950), "4000000000");
+    assert_eq!(operate_alone(1_004, 3_999_999_951), "4000000000");
+    assert_eq!(operate_alone(1_004, 3_999_999_999), "4000000000");
+    assert_eq!(operate_alone(1_004, 4_000_000_000), "4000000000");
 }
 
 #[test]
@@ -882,35 +895,226 @@ fn o3_divisor_0_and_results_out_of_range() {
         assert_eq!(operate(operation, 0, 0), "stopped 45");
         assert_eq!(operate(operation, 0, 1), "0");
     }
-    assert_eq!(operate(1_000, 999_999_998, 1), "999999999");
-    assert_eq!(operate(1_000, 999_999_999, 1), "stopped 45");
+    assert_eq!(operate(1_000, 3_999_999_999, 1), "4000000000");
+    assert_eq!(operate(1_000, 4_000_000_000, 1), "stopped 45");
     assert_eq!(operate(1_001, 5, 5), "0");
     assert_eq!(operate(1_001, 5, 6), "stopped 45");
 }
 
+/// Two types of numbers, one of each.
+const TWO_NUMBERS: &[u32] = &[3, 8, 1, 2, 1, 2, 1, 2, 1, 2];
+
+/// Whether one number compared with another of the other type holds.
+fn compare(operation: u32, one: u32, two: u32) -> bool {
+    let texts = [RuleText {
+        pattern: &[(0, 0), (64, 1), (64, 2)],
+        parts: &[condition(&[(66, 0), (1, 0), (operation, 1), (65, 1)])],
+        replacement: &[(0, 0), (1, 1), (2, 1)],
+        ..NONE
+    }];
+    match &line(TWO_NUMBERS, 9, &texts, &[0, 0, 1, one, 2, two])[..] {
+        "done 1 1 6" => true,
+        "done 1 0 6" => false,
+        other => panic!("a comparison never stops: {other}"),
+    }
+}
+
 #[test]
 fn o4_number_types_may_differ() {
-    let grammar = [3, 8, 1, 2, 1, 2, 1, 2, 1, 2];
     let adding = [RuleText {
         pattern: &[(0, 0), (64, 1), (64, 2)],
         replacement: &[(0, 0), (66, 0), (1, 0), (1_000, 1), (65, 1), (65, 1)],
         ..NONE
     }];
     assert_eq!(
-        on(&grammar, 9, &adding, &[0, 0, 1, 250, 2, 120]),
+        on(TWO_NUMBERS, 9, &adding, &[0, 0, 1, 250, 2, 120]),
         "done 1 1 6\n0 0 1 370 2 120"
     );
-    let compare = |operation, one, two| {
-        let texts = [RuleText {
-            pattern: &[(0, 0), (64, 1), (64, 2)],
-            parts: &[condition(&[(66, 0), (1, 0), (operation, 1), (65, 1)])],
-            replacement: &[(0, 0), (1, 1), (2, 1)],
-            ..NONE
-        }];
-        line(&grammar, 9, &texts, &[0, 0, 1, one, 2, two]) == "done 1 1 6"
-    };
     assert!(compare(1_008, 5, 5) && !compare(1_008, 5, 6));
     assert!(compare(1_009, 6, 5) && !compare(1_009, 5, 5) && !compare(1_009, 5, 6));
+}
+
+#[test]
+fn t02_1_numbers_of_a_run_to_the_new_limit() {
+    let with = |number, pattern: &[(u32, u32)], replacement: &[(u32, u32)]| {
+        let texts = [RuleText {
+            target: 2,
+            reach: 1,
+            pattern,
+            replacement,
+            ..NONE
+        }];
+        on_list(9, &texts, &list(&[number]))
+    };
+    let greatest = [(2, 4_000_000_000)];
+    assert_eq!(
+        with(3_999_999_999, &greatest, &[(2, 5)]),
+        "done 1 0 8\n0 0 1 0 2 3999999999 1 1"
+    );
+    assert_eq!(
+        with(4_000_000_000, &greatest, &[(2, 5)]),
+        "done 1 1 8\n0 0 1 0 2 5 1 1"
+    );
+    assert_eq!(
+        with(5, &[(2, 5)], &greatest),
+        "done 1 1 8\n0 0 1 0 2 4000000000 1 1"
+    );
+    // A result of 4,000,000,000 is a number like others for what follows.
+    let doubled_and = |operation: &[(u32, u32)]| {
+        let chain = [&[(66, 0), (2, 0), (1_000, 1), (65, 0)], operation].concat();
+        with(2_000_000_000, &[(64, 2)], &chain)
+    };
+    assert_eq!(
+        doubled_and(&[(1_005, 0)]),
+        "done 1 1 8\n0 0 1 0 2 4000000000 1 1"
+    );
+    assert_eq!(
+        doubled_and(&[(1_001, 1), (65, 0)]),
+        "done 1 1 8\n0 0 1 0 2 2000000000 1 1"
+    );
+    assert_eq!(
+        doubled_and(&[(1_000, 1), (65, 0)]),
+        "stopped 45 1 0 8\n0 0 1 0 2 2000000000 1 1"
+    );
+}
+
+#[test]
+fn t02_2_the_true_sum_is_judged() {
+    assert_eq!(operate(1_000, 4_000_000_000, 0), "4000000000");
+    assert_eq!(operate(1_000, 0, 4_000_000_000), "4000000000");
+    assert_eq!(operate(1_000, 2_000_000_000, 2_000_000_000), "4000000000");
+    assert_eq!(operate(1_000, 1, 3_999_999_999), "4000000000");
+    assert_eq!(operate(1_000, 1, 4_000_000_000), "stopped 45");
+    assert_eq!(operate(1_000, 2_000_000_000, 2_000_000_001), "stopped 45");
+    // 2^32 - 1, 2^32 and 2^32 + 1, which would wrap to 0 and 1.
+    assert_eq!(operate(1_000, 4_000_000_000, 294_967_295), "stopped 45");
+    assert_eq!(operate(1_000, 4_000_000_000, 294_967_296), "stopped 45");
+    assert_eq!(operate(1_000, 4_000_000_000, 294_967_297), "stopped 45");
+    assert_eq!(operate(1_000, 1 << 31, 1 << 31), "stopped 45");
+    // 8,000,000,000 would wrap to 3,705,032,704, which is in range.
+    assert_eq!(operate(1_000, 4_000_000_000, 4_000_000_000), "stopped 45");
+}
+
+#[test]
+fn t02_2_the_true_difference_is_judged() {
+    assert_eq!(operate(1_001, 4_000_000_000, 0), "4000000000");
+    assert_eq!(operate(1_001, 4_000_000_000, 1), "3999999999");
+    assert_eq!(operate(1_001, 4_000_000_000, 3_999_999_999), "1");
+    assert_eq!(operate(1_001, 4_000_000_000, 4_000_000_000), "0");
+    assert_eq!(operate(1_001, 3_999_999_999, 4_000_000_000), "stopped 45");
+    // These would wrap to 4,000,000,000 and 294,967,296, which are in range.
+    assert_eq!(operate(1_001, 0, 294_967_296), "stopped 45");
+    assert_eq!(operate(1_001, 0, 4_000_000_000), "stopped 45");
+}
+
+#[test]
+fn t02_2_the_true_product_of_a_quotient_is_judged() {
+    assert_eq!(operate(1_002, 39_999_999, 1), "3999999900");
+    assert_eq!(operate(1_002, 40_000_000, 1), "4000000000");
+    assert_eq!(operate(1_002, 40_000_001, 1), "stopped 45");
+    assert_eq!(operate(1_002, 80_000_001, 2), "4000000000");
+    assert_eq!(operate(1_002, 80_000_002, 2), "stopped 45");
+    assert_eq!(operate(1_002, 4_000_000_000, 100), "4000000000");
+    assert_eq!(operate(1_002, 4_000_000_000, 99), "stopped 45");
+    assert_eq!(operate(1_002, 4_000_000_000, 4_000_000_000), "100");
+    assert_eq!(operate(1_002, 3_999_999_999, 4_000_000_000), "0");
+    // 4,294,967,200 and 4,294,967,300 lie about 2^32, 8,589,934,600 is just
+    // over 2^33: these two would wrap to 4 and 8.
+    assert_eq!(operate(1_002, 42_949_672, 1), "stopped 45");
+    assert_eq!(operate(1_002, 42_949_673, 1), "stopped 45");
+    assert_eq!(operate(1_002, 85_899_346, 1), "stopped 45");
+    // 400,000,000,000 would wrap to 568,041,472.
+    assert_eq!(operate(1_002, 4_000_000_000, 1), "stopped 45");
+}
+
+#[test]
+fn t02_2_the_quotient_of_a_remainder_may_pass_any_limit() {
+    // In hundredths the quotients would be 400,000,000,000, 200,000,000,000,
+    // 133,333,333,300 and 4,000,000,100.
+    assert_eq!(operate(1_003, 4_000_000_000, 1), "0");
+    assert_eq!(operate(1_003, 4_000_000_000, 2), "0");
+    assert_eq!(operate(1_003, 4_000_000_000, 3), "1");
+    assert_eq!(operate(1_003, 40_000_001, 1), "0");
+    assert_eq!(operate(1_003, 4_000_000_000, 3_999_999_999), "1");
+    assert_eq!(operate(1_003, 4_000_000_000, 4_000_000_000), "0");
+    assert_eq!(operate(1_003, 3_999_999_999, 4_000_000_000), "3999999999");
+}
+
+#[test]
+fn t02_2_every_pair_of_numbers_about_the_limits() {
+    let edges = [
+        2,
+        100,
+        40_000_000,
+        42_949_673,
+        294_967_296,
+        1_000_000_000,
+        2_000_000_000,
+        1 << 31,
+        4_000_000_000,
+    ];
+    let mut numbers = vec![0];
+    numbers.extend(edges.iter().flat_map(|edge| [edge - 1, *edge, edge + 1]));
+    numbers.retain(|&number| number <= 4_000_000_000);
+    let in_range = |result: i128| match result {
+        0..=4_000_000_000 => result.to_string(),
+        _ => "stopped 45".to_string(),
+    };
+    for &scope in &numbers {
+        for &argument in &numbers {
+            let about = format!("{scope} and {argument}");
+            let (a, b) = (i128::from(scope), i128::from(argument));
+            assert_eq!(operate(1_000, scope, argument), in_range(a + b), "{about}");
+            assert_eq!(operate(1_001, scope, argument), in_range(a - b), "{about}");
+            // A divisor of 0 is out of range like a result under 0.
+            let whole = a.checked_div(b);
+            let quotient = whole.map_or(-1, |whole| whole * 100);
+            let remainder = whole.map_or(-1, |whole| a - b * whole);
+            assert_eq!(
+                operate(1_002, scope, argument),
+                in_range(quotient),
+                "{about}"
+            );
+            assert_eq!(
+                operate(1_003, scope, argument),
+                in_range(remainder),
+                "{about}"
+            );
+            assert_eq!(compare(1_008, scope, argument), a == b, "{about}");
+            assert_eq!(compare(1_009, scope, argument), a > b, "{about}");
+        }
+    }
+}
+
+#[test]
+fn t02_2_comparisons_about_the_limits() {
+    assert!(compare(1_008, 4_000_000_000, 4_000_000_000));
+    assert!(!compare(1_008, 4_000_000_000, 3_999_999_999));
+    assert!(compare(1_009, 4_000_000_000, 3_999_999_999));
+    assert!(!compare(1_009, 4_000_000_000, 4_000_000_000));
+    assert!(!compare(1_009, 3_999_999_999, 4_000_000_000));
+    // From 2^31 on a number is greater still, not under 0.
+    assert!(compare(1_009, 1 << 31, (1 << 31) - 1));
+    assert!(compare(1_009, 4_000_000_000, 0) && !compare(1_009, 0, 4_000_000_000));
+}
+
+#[test]
+fn t02_round_gives_the_nearest_whole_number_and_never_45() {
+    let below_the_limit = 3_999_995_000..=4_000_000_000;
+    let about_the_old_limit = 999_999_500..=1_000_000_500;
+    let about_2_31 = (1 << 31) - 500..=(1 << 31) + 500;
+    // The step shares no divisor with 200, so all hundredths of even and odd
+    // whole numbers come.
+    let all_over = (0..=4_000_000_000).step_by(399_989);
+    for number in below_the_limit
+        .chain(about_the_old_limit)
+        .chain(about_2_31)
+        .chain(all_over)
+    {
+        // A float has 53 bits: halves are exact and nothing else comes near.
+        let rounded = (f64::from(number) / 100.0).round_ties_even() * 100.0;
+        assert_eq!(operate_alone(1_004, number), rounded.to_string());
+    }
 }
 
 #[test]

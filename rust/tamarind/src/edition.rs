@@ -8,7 +8,8 @@ use crate::foreign;
 /// The edition of the core that this crate is for: 0 is the core as first
 /// specified, and a change request that a caller can see sets its own number.
 /// 1 is T-01: operation 1,004 rounds an exact half to the even whole number.
-pub const EDITION: u32 = 1;
+/// 2 is T-02: a number may be as great as 4,000,000,000 hundredths.
+pub const EDITION: u32 = 2;
 
 /// The edition of the archive that is linked.
 pub fn edition() -> u32 {

@@ -35,7 +35,7 @@ pub const MOST_NESTING: usize = 64;
 /// The greatest value of a name or string (refusals 23 and 32).
 pub const GREATEST_NAME: u32 = 65_535;
 /// The greatest value of a number, in hundredths (refusals 23 and 32, stop 45).
-pub const GREATEST_NUMBER: u32 = 999_999_999;
+pub const GREATEST_NUMBER: u32 = 4_000_000_000;
 
 /// Most rules of a rule book (refusal 21).
 pub const MOST_RULES: u32 = 64;

@@ -32,7 +32,7 @@ pub const fn meaning(number: u32) -> &'static str {
         42 => "a tree would pass 2,048 nodes",
         43 => "a finished tree's nesting would pass 64",
         44 => "live nodes would pass 6,144",
-        45 => "an operation's result under 0 or over 999,999,999, or divisor 0",
+        45 => "an operation's result under 0 or over 4,000,000,000, or divisor 0",
         _ => "no number of this edition",
     }
 }

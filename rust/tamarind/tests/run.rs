@@ -88,10 +88,12 @@ fn grammar_rules_and_tree_are_refused_in_a_run() {
     assert_eq!(run_dirty(&GRAMMAR, &RULES, &[0, 0], 3), refused(31, 2));
     let longer = [&TREE[..], &[1, 1]].concat();
     assert_eq!(run_dirty(&GRAMMAR, &RULES, &longer, 3), refused(31, 12));
-    let greatest = numbers(&[999_999_999]);
-    let passes = run_dirty(&GRAMMAR, &RULES, &greatest, 3);
-    assert_eq!(passes, ended(None, 1, 0, &greatest));
-    let over = numbers(&[1_000_000_000]);
+    for number in [1_000_000_000, 4_000_000_000] {
+        let tree = numbers(&[number]);
+        let passes = run_dirty(&GRAMMAR, &RULES, &tree, 3);
+        assert_eq!(passes, ended(None, 1, 0, &tree));
+    }
+    let over = numbers(&[4_000_000_001]);
     assert_eq!(run_dirty(&GRAMMAR, &RULES, &over, 3), refused(32, 5));
 }
 
@@ -99,19 +101,50 @@ fn grammar_rules_and_tree_are_refused_in_a_run() {
 fn rounding_and_quotient() {
     let round = [1, 9, 2, 1, 1, 64, 2, 3, 66, 0, 1, 0, 1_004, 0];
     let document_01 = [(125, 100), (150, 200), (49, 0)];
-    let half_to_even = [(250, 200), (50, 0), (175, 200), (999_999_850, 999_999_800)];
-    for (number, rounded) in document_01.into_iter().chain(half_to_even) {
+    let half_to_even = [(250, 200), (50, 0), (175, 200)];
+    let great = [
+        (999_999_950, 1_000_000_000),
+        (3_999_999_850, 3_999_999_800),
+        (3_999_999_950, 4_000_000_000),
+    ];
+    let rounds = document_01.into_iter().chain(half_to_even).chain(great);
+    for (number, rounded) in rounds {
         let outcome = run_dirty(&GRAMMAR, &round, &numbers(&[number]), 9);
         assert_eq!(outcome, ended(None, 1, 1, &numbers(&[rounded])));
     }
-    let great = numbers(&[999_999_950]);
-    let outcome = run_dirty(&GRAMMAR, &round, &great, 9);
-    assert_eq!(outcome, ended(Some(Stop::OutOfRange), 1, 0, &great));
     let by_300 = [
         1, 13, 2, 1, 1, 64, 2, 1, 4, 2, 1, 2, 300, 4, 66, 0, 1, 0, 1_002, 1, 65, 1,
     ];
     let outcome = run_dirty(&GRAMMAR, &by_300, &numbers(&[1_000]), 9);
     assert_eq!(outcome, ended(None, 1, 1, &numbers(&[300])));
+}
+
+#[test]
+fn sums_and_quotients_up_to_the_greatest_number() {
+    // The first two numbers are taken for the sum, or the whole quotient.
+    let with = |operation| {
+        let pattern = [5, 1, 0, 64, 2, 1, 0, 64, 2, 64, 1];
+        let replacement = [6, 1, 0, 66, 0, 1, 0, operation, 1, 65, 1, 65, 2];
+        [&[1, 9, 1, 1][..], &pattern, &replacement].concat()
+    };
+    for (operation, a, b, result) in [
+        (1_000, 3_999_999_999, 1, Some(4_000_000_000)),
+        (1_000, 4_000_000_000, 1, None),
+        (1_000, 4_000_000_000, 294_967_296, None),
+        (1_000, 4_000_000_000, 4_000_000_000, None),
+        (1_002, 40_000_000, 1, Some(4_000_000_000)),
+        (1_002, 40_000_001, 1, None),
+        (1_002, 42_949_673, 1, None),
+        (1_003, 4_000_000_000, 1, Some(0)),
+    ] {
+        let tree = numbers(&[a, b]);
+        let outcome = run_dirty(&GRAMMAR, &with(operation), &tree, 9);
+        let due = match result {
+            Some(number) => ended(None, 1, 1, &numbers(&[number])),
+            None => ended(Some(Stop::OutOfRange), 1, 0, &tree),
+        };
+        assert_eq!(outcome, due, "{operation} {a} {b}");
+    }
 }
 
 #[test]

@@ -14,6 +14,7 @@ fn of_header() -> Constants {
     let text = read(format!("{ROOT}/include/tamarind.h"));
     let defined = |line: &str| {
         let (name, value) = line.strip_prefix("#define TAMARIND_")?.split_once(' ')?;
+        let value = value.trim_end_matches('u');
         Some((name.to_string(), value.parse().ok()?))
     };
     text.lines().filter_map(defined).collect()
