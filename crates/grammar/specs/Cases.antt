@@ -1,4 +1,4 @@
--- The single check of a grammar, run on document 01's grammars, their near misses and damaged ones: one table, one proof. Assumes nothing.
+-- The single check of a grammar, run on document 01's grammars, their near misses and damaged ones; the values of tokens at their limits: a table and a proof each. Assumes nothing.
 use mathlib.Core.Path.{_≡_, refl}
 use mathlib.Core.List.{List, [], _∷_, _++_, map}
 use mathlib.Core.Bool.{Bool, true, false}

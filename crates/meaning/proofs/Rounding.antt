@@ -113,15 +113,15 @@ module _ (n d : ℕ) (some : 0 < d) where
         let other : q ≡ k → ⊥ = λ e. let f : q * d ≡ k * d = rw e in omega arith in
         row-odd d q k some (omega (arith, as-far, close k b)) (a .even k (sym as-far) (λ e. other (sym e))) (b .even q as-far other)
 
+  only-near : (q k : ℕ) → NearestEven n d q → NearestEven n d k → q ≡ k
+  only-near q k a b = sides d q k (λ l. absurd (no-row q k a b l)) (λ e. e) (λ l. absurd (no-row k q b a l))
+
   -- a number that does not pass a whole number is not rounded past it
   pub half-even-within : (m : ℕ) → n ≤ m * d → halfEven n d ≤ m
   half-even-within m h =
       let under : n / d < m + 1 = lt-of-mul-lt-mul-right d (omega (arith, parts, next d m)) in
       let over : 0 < n % d → n / d < m = λ r. lt-of-mul-lt-mul-right d (omega (arith, parts)) in
       by-half n d (λ k. k ≤ m) (λ r. omega arith) (λ r. omega (arith, over (omega arith))) (λ r. omega (arith, over (omega arith)))
-
-  only-near : (q k : ℕ) → NearestEven n d q → NearestEven n d k → q ≡ k
-  only-near q k a b = sides d q k (λ l. absurd (no-row q k a b l)) (λ e. e) (λ l. absurd (no-row k q b a l))
 
 -- THE LAW
 pub rounds-half-even : RoundsHalfEven
