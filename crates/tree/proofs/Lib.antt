@@ -8,3 +8,4 @@ pub mod Accepted
 pub mod Reading
 pub mod Ends
 pub mod Check
+pub mod Owed

@@ -3,14 +3,16 @@
 use mathlib.Core.Path.{_≡_, refl}
 use mathlib.Core.List.{List, [], _∷_, _++_, map}
 use Prim.Native.Nat.{ℕ, zero, suc}
+use lib.ListN.{drop}
 use Rattle.words.specs.Reader.{Words, word, wordIn, many, end}
 use Rattle.words.specs.Views.{answer}
 use Rattle.words.specs.declared.Check.{Check}
 use Rattle.words.specs.declared.Check.the-variants.{Passed, Refused}
-use Rattle.grammar.specs.Grammar.{typesOf, field, element, form, kind, grammar, allKnown, anyFormKnown, finishes, round, rounds, finite, finiteRecords, readGrammar, grammarFits, checkGrammar}
+use Rattle.grammar.specs.Grammar.{token, sequence, forms, Grammar, typesOf, field, element, form, kind, grammar, allKnown, anyFormKnown, finishes, round, rounds, finite, finiteRecords, readGrammar, grammarFits, checkGrammar}
 use Rattle.grammar.specs.Kinds.{kindOf, allows, allowed, childrenOf, children}
 use Rattle.tree.specs.Tree.{levelsOf, levels}
 use Rattle.tree.specs.Dues.{pairs, whole}
+use Rattle.tree.specs.Owed.{owed}
 use Rattle.tree.specs.Reading.{duesOf, meetsNode, readTreeOf, checkTree}
 
 -- program of repeat number
@@ -133,3 +135,19 @@ outputs =
 right : map run inputs ≡ outputs
 unfolding word wordIn many end typesOf field element form kind grammar allKnown anyFormKnown finishes round rounds finite finiteRecords readGrammar grammarFits checkGrammar kindOf allows allowed childrenOf children levelsOf levels pairs whole duesOf meetsNode readTreeOf checkTree numbers nests itself pair twelve times deep run inputs outputs
 right = refl
+
+-- THE TREES OWED after 0 to 6 nodes of the twelve-word slip, and from its second and its third node on
+
+program : Grammar
+program = forms ((1 ∷ []) ∷ []) ∷ sequence 2 ∷ token 2 ∷ []
+
+owing : List (List ℕ)
+owing =
+    map (λ k. owed program twelve k 1) (0 ∷ 1 ∷ 2 ∷ 3 ∷ 4 ∷ 5 ∷ 6 ∷ [])
+    ∷ map (λ k. owed program (drop 2 twelve) k 1) (0 ∷ 1 ∷ 2 ∷ 3 ∷ 4 ∷ 5 ∷ [])
+    ∷ map (λ k. owed program (drop 4 twelve) k 1) (0 ∷ 1 ∷ [])
+    ∷ []
+
+owing-right : owing ≡ (1 ∷ 1 ∷ 2 ∷ 1 ∷ 2 ∷ 1 ∷ 0 ∷ []) ∷ (1 ∷ 2 ∷ 1 ∷ 2 ∷ 1 ∷ 0 ∷ []) ∷ (1 ∷ 0 ∷ []) ∷ []
+unfolding kindOf childrenOf children owed twelve program owing
+owing-right = refl

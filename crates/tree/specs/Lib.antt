@@ -4,5 +4,6 @@ pub mod Rest
 pub mod Forest
 pub mod Dues
 pub mod Reading
+pub mod Owed
 pub mod Views
 pub mod Cases

@@ -1,7 +1,7 @@
 //! The figures of the stack: what is painted, and what the frames add up to.
 
 use crate::exports::{run, Export, Measured, EXPORTS};
-use crate::frames::{deepest, Deepest, Frames, NESTED_CALLS};
+use crate::frames::{deepest, Deepest, Frames, Left, MOST};
 use crate::nesting::{Chain, Last, Nest, Way, MOST_CALLS, MOST_NESTING};
 use crate::painted::Stack;
 use generate::Input;
@@ -31,9 +31,9 @@ pub fn figures(frames: &Frames, stack: &mut Stack) -> Vec<Figure> {
         let measured = inputs.iter().map(|input| measure(stack, input));
         let deep = measured.max_by_key(|measured| measured.stack);
         let Measured { stack, pushed, .. } = deep.expect("inputs");
-        let chain = deepest(frames, name, NESTED_CALLS, false);
+        let chain = deepest(frames, name, MOST, false);
         let chain = chain.expect("a function of the archive");
-        let needed = deepest(frames, name, NESTED_CALLS, true);
+        let needed = deepest(frames, name, MOST, true);
         let room = needed.map(|needed| chain.bytes + 8 - needed.bytes);
         Figure {
             name,
@@ -44,6 +44,84 @@ pub fn figures(frames: &Frames, stack: &mut Stack) -> Vec<Figure> {
         }
     };
     EXPORTS.map(figure).to_vec()
+}
+
+/// A figure that grows with a number: so much for each, and so much beside.
+#[derive(Clone, Copy, Debug, PartialEq, Eq)]
+pub struct Line {
+    pub beside: usize,
+    pub each: usize,
+}
+
+/// An exported function's stack by what nests, from its frames: the greatest of
+/// what it takes in any case, of what the tree's nesting takes and of what the open
+/// calls take. A line that never counts is `None`.
+#[derive(Clone, Debug)]
+pub struct Growth {
+    pub name: &'static str,
+    pub least: usize,
+    pub by_nesting: Option<Line>,
+    pub by_calls: Option<Line>,
+}
+
+/// The nesting of the deepest node that can be read: that of one that is refused.
+pub const MOST_READ: usize = MOST_NESTING + 1;
+
+impl Growth {
+    /// The stack, where the deepest node that is read has this nesting and so many
+    /// calls are open.
+    pub fn at(&self, nesting: usize, calls: usize) -> usize {
+        let on = |line: Option<Line>, n| line.map_or(0, |line| line.beside + line.each * n);
+        let nested = on(self.by_nesting, nesting).max(on(self.by_calls, calls));
+        self.least.max(nested)
+    }
+}
+
+/// The growth of all exported functions.
+pub fn growth(frames: &Frames) -> Vec<Growth> {
+    let row = |(name, _): Export| {
+        let at = |nesting, calls| stack_at(frames, name, nesting, calls);
+        let line = |most: usize, last: usize, before: usize| {
+            let each = last - before;
+            (each > 0).then(|| Line {
+                beside: last - each * most,
+                each,
+            })
+        };
+        Growth {
+            name,
+            least: at(1, 1),
+            by_nesting: line(MOST_READ, at(MOST_READ, 1), at(MOST_READ - 1, 1)),
+            by_calls: line(MOST_CALLS, at(1, MOST_CALLS), at(1, MOST_CALLS - 1)),
+        }
+    };
+    EXPORTS.map(row).to_vec()
+}
+
+/// The sum of a function's frames along the deepest chain, where nodes are read up
+/// to this nesting and so many calls are open.
+pub fn stack_at(frames: &Frames, name: &str, nesting: usize, calls: usize) -> usize {
+    let left = Left {
+        calls: calls - 1,
+        levels: nesting - 1,
+    };
+    let chain = deepest(frames, name, left, false);
+    chain.expect("a function of the archive").bytes
+}
+
+/// Each exported function's stack, painted, on slips of these lengths: the most
+/// that any chain of 32 nested calls takes.
+pub fn by_length(stack: &mut Stack) -> Vec<(&'static str, [usize; SLIPS.len()])> {
+    let chains = deep_chains(MOST_CALLS);
+    let row = |(name, measure): Export| {
+        let stacks = SLIPS.map(|nodes| {
+            let inputs = chains.iter().map(|chain| chain.on_slip_of(nodes));
+            let stacks = inputs.map(|input| measure(stack, &input).stack);
+            stacks.max().expect("chains")
+        });
+        (name, stacks)
+    };
+    EXPORTS.map(row).to_vec()
 }
 
 /// Inputs that drive each function as deep as is known: chains of all ways,

@@ -224,26 +224,26 @@ pub struct Deepest {
     pub functions: Vec<String>,
 }
 
-/// What a chain may still do: nested calls, and levels of a tree. A tree nested
-/// one too deep is refused by a reader of its own.
+/// What a chain may still do: nested calls below the main rule's, and levels of a
+/// tree below its root.
 #[derive(Clone, Copy, Debug, PartialEq, Eq)]
-struct Left {
-    calls: usize,
-    levels: usize,
+pub struct Left {
+    pub calls: usize,
+    pub levels: usize,
 }
 
-/// The deepest chain from a function, with so many nested calls; or, if `needed`,
-/// the deepest that ends in what the caller's program links, if there is one.
-pub fn deepest(frames: &Frames, name: &str, calls: usize, needed: bool) -> Option<Deepest> {
-    let left = Left {
-        calls,
-        levels: MOST_NESTING,
-    };
+/// The most that any input can do. A tree nested one too deep is refused by a
+/// reader of its own.
+pub const MOST: Left = Left {
+    calls: MOST_CALLS - 1,
+    levels: MOST_NESTING,
+};
+
+/// The deepest chain from a function; or, if `needed`, the deepest that ends in
+/// what the caller's program links, if there is one.
+pub fn deepest(frames: &Frames, name: &str, left: Left, needed: bool) -> Option<Deepest> {
     deepest_from(frames, name, left, needed, 0, &mut BTreeMap::new())
 }
-
-/// The nested calls below the main rule's.
-pub const NESTED_CALLS: usize = MOST_CALLS - 1;
 
 type Known = BTreeMap<(String, usize, usize), Option<Deepest>>;
 
@@ -393,11 +393,15 @@ mod tests {
     #[test]
     fn the_deepest_chain_has_as_many_nested_calls_as_it_may() {
         let frames = frames();
-        let chain = deepest(&frames, "calls::call", 2, false).expect("a chain");
+        let left = Left {
+            calls: 2,
+            levels: 0,
+        };
+        let chain = deepest(&frames, "calls::call", left, false).expect("a chain");
         assert_eq!(chain.bytes, 32 + 32 + 40 + 40);
         let names = ["calls::call", "calls::call", "calls::call", "leaf"];
         assert_eq!(chain.functions, names);
-        let needed = deepest(&frames, "calls::call", 2, true).expect("a chain");
+        let needed = deepest(&frames, "calls::call", left, true).expect("a chain");
         assert_eq!(needed.bytes, 32 + 32 + 8);
     }
 
@@ -411,6 +415,6 @@ mod tests {
             ..Frame::default()
         };
         frames.insert("other".to_string(), frame);
-        deepest(&frames, "other", 2, false);
+        deepest(&frames, "other", MOST, false);
     }
 }

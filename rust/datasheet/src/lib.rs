@@ -12,5 +12,6 @@ pub mod painted;
 mod sequences;
 pub mod sheet;
 pub mod slow;
+pub mod source;
 pub mod timing;
 pub mod worst;

@@ -188,6 +188,17 @@ fn slip(nodes: usize) -> Vec<u32> {
     tree
 }
 
+/// A run on a tree of this nesting, at least 2, that is long: its deepest sequence
+/// has so many elements, none of which has any.
+pub fn long_tree(nesting: usize, elements: usize) -> Input {
+    let around = nesting - 2;
+    let deepest = [[0, 0, 0, 1].repeat(elements), vec![0, 1]].concat();
+    Input {
+        tree: [[0, 0].repeat(around), deepest, [0, 1].repeat(around)].concat(),
+        ..Nest::Sequence.input(nesting)
+    }
+}
+
 /// How a tree nests in itself.
 #[derive(Clone, Copy, Debug, PartialEq, Eq)]
 pub enum Nest {

@@ -5,9 +5,10 @@ use std::path::PathBuf;
 
 use crate::abi::{RESULT_WORDS, WORK_WORDS};
 use crate::archive::{given, reached, sizes};
-use crate::figures::{Figure, Nested};
+use crate::figures::{Figure, Growth, Line, Nested, SLIPS};
 use crate::formula::{dearest_attempt, formula, most, TERMS};
 use crate::frames::Frames;
+use crate::source::{depth, end_finders, Calls, COUNTS};
 
 /// The repository's top.
 pub fn top() -> PathBuf {
@@ -165,6 +166,56 @@ pub fn nested_table(nested: &[Nested]) -> Vec<String> {
     rows.extend(nested.iter().map(|nested| {
         let cells = nested.figures().map(written).join(" | ");
         format!("| {} | {cells} |", nested.way)
+    }));
+    rows
+}
+
+/// How each exported function's stack grows with what nests.
+pub fn growth_table(growth: &[Growth]) -> Vec<String> {
+    let mut rows = vec![
+        "| function | at least | nodes read up to nesting n | c calls open |".to_string(),
+        "|---|---|---|---|".to_string(),
+    ];
+    let line = |line: Option<Line>, by: &str| match line {
+        Some(Line { beside, each }) => format!("{} + {} {by}", written(beside), written(each)),
+        None => "not more".to_string(),
+    };
+    rows.extend(growth.iter().map(|growth| {
+        let (name, least) = (growth.name, written(growth.least));
+        let (nesting, calls) = (line(growth.by_nesting, "n"), line(growth.by_calls, "c"));
+        format!("| `{name}` | {least} | {nesting} | {calls} |")
+    }));
+    rows
+}
+
+/// The stack of each exported function on slips of several lengths.
+pub fn length_table(by_length: &[(&str, [usize; SLIPS.len()])]) -> Vec<String> {
+    let lengths = SLIPS.map(|nodes| format!("{} nodes", written(nodes)));
+    let mut rows = vec![
+        format!("| function | {} |", lengths.join(" | ")),
+        "|---|---|---|---|".to_string(),
+    ];
+    rows.extend(by_length.iter().map(|(name, stacks)| {
+        let cells = stacks.map(written).join(" | ");
+        format!("| `{name}` | {cells} |")
+    }));
+    rows
+}
+
+/// The functions that find the end of a tree, and how many calls are open at most
+/// below each.
+pub fn ends_table(calls: &Calls) -> Vec<String> {
+    let mut rows = vec![
+        "| function | finds the end by | calls open below it, at most |".to_string(),
+        "|---|---|---|".to_string(),
+    ];
+    rows.extend(end_finders(calls).iter().map(|name| {
+        let by = match name.as_str() {
+            COUNTS => "the trees owed",
+            _ => "the mark",
+        };
+        let depth = depth(calls, name).map_or("not bounded".to_string(), written);
+        format!("| `{name}` | {by} | {depth} |")
     }));
     rows
 }

@@ -5,9 +5,10 @@ use std::arch::global_asm;
 use datasheet::archive::given;
 use datasheet::bench;
 use datasheet::exports::{check_tree, needed, run};
-use datasheet::figures::{deep_chains, figures, nested, SLIPS};
+use datasheet::figures::{by_length, deep_chains, figures, growth, nested, stack_at};
+use datasheet::figures::{Growth, MOST_READ, SLIPS};
 use datasheet::frames::read_frames;
-use datasheet::nesting::{Nest, MOST_CALLS, MOST_NESTING};
+use datasheet::nesting::{long_tree, Nest, MOST_CALLS, MOST_NESTING};
 use datasheet::painted::Stack;
 use datasheet::sheet;
 
@@ -139,6 +140,85 @@ fn each_chain_has_32_nested_calls_and_one_more_stops() {
             "{longer:?}"
         );
     }
+}
+
+/// The growth of one function.
+fn growth_of(name: &str) -> Growth {
+    let all = growth(&read_frames(&sheet::archive()));
+    let one = all.into_iter().find(|growth| growth.name == name);
+    one.expect("an exported function")
+}
+
+#[test]
+fn the_growth_is_that_of_the_sheet_and_of_the_frames() {
+    let frames = read_frames(&sheet::archive());
+    let growth = growth(&frames);
+    let text = sheet::read();
+    assert_eq!(sheet::table(&text, "growth"), sheet::growth_table(&growth));
+    for growth in growth {
+        for nesting in 1..=MOST_READ {
+            for calls in 1..=MOST_CALLS {
+                let stack = stack_at(&frames, growth.name, nesting, calls);
+                let place = format!("{} at {nesting}, {calls}", growth.name);
+                assert_eq!(growth.at(nesting, calls), stack, "{place}");
+            }
+        }
+    }
+}
+
+#[test]
+fn the_check_of_a_tree_takes_what_the_growth_says_of_its_nesting() {
+    let growth = growth_of("tamarind_check_tree");
+    let mut stack = Stack::new();
+    for nest in Nest::ALL {
+        for nesting in 1..=MOST_READ {
+            let taken = check_tree(&mut stack, &nest.input(nesting)).stack;
+            let what = format!("{nest:?} at {nesting}");
+            assert_holds(&what, growth.at(nesting, 1), taken);
+        }
+    }
+}
+
+#[test]
+fn a_run_takes_no_more_than_the_growth_says_of_its_calls() {
+    let growth = growth_of("tamarind_run");
+    let mut stack = Stack::new();
+    for calls in 1..=MOST_CALLS {
+        let stacks = deep_chains(calls)
+            .iter()
+            .map(|chain| run(&mut stack, &chain.on_slip_of(SLIPS[0])).1.stack)
+            .collect::<Vec<usize>>();
+        let taken = stacks.into_iter().max().expect("chains");
+        assert_holds(&format!("{calls} calls"), growth.at(3, calls), taken);
+    }
+}
+
+#[test]
+fn no_function_takes_another_stack_on_a_longer_slip() {
+    let text = sheet::read();
+    let by_length = by_length(&mut Stack::new());
+    assert_eq!(
+        sheet::table(&text, "length"),
+        sheet::length_table(&by_length)
+    );
+    for (name, stacks) in by_length {
+        assert_eq!(stacks, [stacks[0]; SLIPS.len()], "{name}");
+    }
+}
+
+#[test]
+fn at_the_deepest_nesting_neither_check_nor_run_follows_the_length() {
+    let mut stack = Stack::new();
+    let longest = (2_048 - (2 * MOST_NESTING - 3)) / 2;
+    let taken = [1, 37, longest].map(|elements| {
+        let input = long_tree(MOST_NESTING, elements);
+        assert_eq!(input.tree.len(), 2 * (2 * MOST_NESTING - 3 + 2 * elements));
+        let checked = check_tree(&mut stack, &input);
+        let (outcome, run) = run(&mut stack, &input);
+        assert_eq!((checked.number, outcome.ending), (0, DONE), "{elements}");
+        (checked.stack, run.stack)
+    });
+    assert_eq!(taken, [taken[0]; 3]);
 }
 
 #[test]

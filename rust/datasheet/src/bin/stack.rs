@@ -7,10 +7,11 @@ use std::process::ExitCode;
 
 use datasheet::bench;
 use datasheet::exports::{needed, EXPORTS};
-use datasheet::figures::{deepest_run, figures, nested};
+use datasheet::figures::{by_length, deepest_run, figures, growth, nested};
 use datasheet::frames::read_frames;
 use datasheet::painted::Stack;
 use datasheet::sheet;
+use datasheet::source::read_calls;
 use generate::{any_run_input, check_input, to_bench};
 
 fn main() -> ExitCode {
@@ -42,7 +43,10 @@ fn tables() -> Vec<(&'static str, Vec<String>)> {
         ("stack", sheet::stack_table(&figures)),
         ("needed", sheet::needed_table(&needed(&mut stack))),
         ("chains", sheet::chains_table(&figures)),
+        ("growth", sheet::growth_table(&growth(&frames))),
         ("nested calls", sheet::nested_table(&nested)),
+        ("length", sheet::length_table(&by_length(&mut stack))),
+        ("ends", sheet::ends_table(&read_calls())),
         ("frames", sheet::frames_table(&frames)),
         ("code", sheet::code_table(&frames)),
         ("memory", sheet::memory_table(&figures)),
