@@ -124,8 +124,9 @@ fn crates() -> Vec<Crate> {
 
 /// The calls of these crates. A call is a name with `(` right behind it. Behind the
 /// name of a crate it is one of that crate; else it may be any function of that
-/// name in its own crate or in one below. So no call is missed, and one that is
-/// taken for more than it is leads down, where no chain comes back.
+/// name in its own crate or in one below. No import may give a function another
+/// name. So no call is missed, and one that is taken for more than it is leads
+/// down, where no chain comes back.
 fn calls_of(crates: &[Crate]) -> Calls {
     let mut named = Vec::new();
     for each in crates {
@@ -175,6 +176,8 @@ fn functions(text: &str) -> Vec<Function> {
     let mut functions: Vec<Function> = Vec::new();
     for line in text.lines() {
         let mut code = line.split("//").next().unwrap_or(line);
+        let renames = code.starts_with("use ") && code.contains(" as ");
+        assert!(!renames, "{line}: calls by another name would be missed");
         if let Some((_, rest)) = code.split_once("fn ") {
             let (name, after) = rest.split_once('(').expect("arguments");
             functions.push(Function {
@@ -255,6 +258,12 @@ fn k(x: u32) -> u32 {
         assert_eq!(calls["high::f"], set("low::f high::h"));
         assert_eq!(calls["high::h"], set("high::f low::f high::k"));
         assert_eq!(calls["high::k"], set(""));
+    }
+
+    #[test]
+    #[should_panic(expected = "calls by another name would be missed")]
+    fn an_import_by_another_name_is_seen() {
+        functions("use low::f as g;");
     }
 
     #[test]
