@@ -36,13 +36,14 @@ extern "C" {
 /* The edition of this header: 0 is the core as first specified, and a change
  * request that a caller can see sets its own number. 1 is T-01: operation 1,004
  * rounds an exact half to the even whole number. 2 is T-02: a number may be as
- * great as 4,000,000,000 hundredths.
+ * great as 4,000,000,000 hundredths. 4 is T-04: the list, and operations on
+ * sequences.
  *
  * tamarind_edition() is the archive's. A program asks tamarind_is_this_edition()
  * once when it starts, and makes no other call if the answer is 0: header and
  * archive do not belong together. An archive that is older than editions does
  * not link. */
-#define TAMARIND_EDITION 2
+#define TAMARIND_EDITION 4
 
 uint32_t tamarind_edition(void);
 

@@ -1,39 +1,34 @@
--- What an application has: its arguments, and a rule or an operation on numbers. Assumes nothing.
+-- What an application has: its arguments, and a rule or an operation. Assumes nothing.
 use Prim.Native.Nat.{ℕ, zero, suc, _+_, _-_, _*_, _/_, _<_, _≤_}
 use mathlib.Core.Path.{_≡_, refl, sym, ap, _∙_, subst}
 use mathlib.Core.List.{List, [], _∷_}
 use mathlib.Core.Bool.{Bool, true, false, not}
 use mathlib.Core.Option.{some}
 use native.Mathlib.Omega.{arith}
-use lib.ListN.{length, getD, take, drop, set, getElem?}
-use lib.Seq.{getD-take, getD-drop, take-set-lt, drop-set-add}
-use lib.Dec.{eqb, leb, ltb}
-use borrow.Author.Tests.{lt-ltb, le-ltb, leb-true, eqb-true}
+use lib.ListN.{length, getD, take, drop, getElem?}
+use lib.Seq.{getD-drop}
+use lib.Dec.{eqb, leb}
+use borrow.Author.Tests.{leb-true, eqb-true}
 use Rattle.words.specs.Reader.{Words, value, many}
-use Rattle.words.proofs.Laws.{and-both}
 use Rattle.grammar.specs.Limits.{greatestNumber}
-use Rattle.grammar.specs.Grammar.{Kind, token, opt, sequence, forms, Grammar}
-use Rattle.grammar.specs.Kinds.{kindOf, childrenOf, children, isNumberKind, isNumber}
-use Rattle.tree.specs.Tree as T
-use Rattle.tree.specs.Tree.{Trees, size, nesting, nestingFrom, first, isTree, typeOf}
-use Rattle.tree.proofs.Trees.{tells, none-left, child-trees, passes-tree}
+use Rattle.grammar.specs.Grammar.{Grammar}
 use Rattle.rules.specs.Limits.{mostParameters}
-use Rattle.rules.specs.Rules.{Operation, add, subtract, quotient, remainder, round, truncate, equal, greater, Applied, rule, operation, nothing, operations, applied, arguments, Rule, Rules}
+use Rattle.rules.specs.Rules.{Operation, add, subtract, quotient, remainder, round, truncate, equal, greater, Edit, Applied, rule, operation, editing, nothing, applied, arguments, Rule, Rules}
 use Rattle.rules.specs.Layout as Layout
 use Rattle.rules.specs.Layout.{parameters}
 use Rattle.rules.proofs.Laid.{head-few, rule-value}
+use Rattle.rules.proofs.Numbers.{rule-number, an-operation, an-edit}
 use Rattle.meaning.specs.declared.State.{State}
-use Rattle.meaning.specs.Computation.{Result, ok, stop, stuck, Comp, thenOf, stopUnless, check, present}
-use Rattle.meaning.specs.Operations.{rounded, truncated, inRange, divisor, withOne, withNone, compute, compare}
-use Rattle.meaning.specs.Meaning.{Env, live, start, fits, begin, liveWithin, variables, valueOf, valuesOf, withValue, isNumberToken}
-use Rattle.meaning.proofs.Level.{number-tree}
+use Rattle.meaning.specs.Computation.{Result, ok, stop, stuck, Comp, thenOf, stopUnless, check, present, liveWithin}
+use Rattle.meaning.specs.Operations.{rounded, truncated, inRange, divisor, withOne, withNone, compute, compare, valuesOf}
+use Rattle.meaning.specs.Meaning.{Env, live, start, fits, begin, variables}
 use Rattle.operations.specs.Operating.{argumentsOf}
-use Rattle.marks.specs.Marked.{markOf, marked, Stands}
+use Rattle.marks.specs.Marked.{Stands}
 use Rattle.rewrite.specs.Vars.{Vars, EnvAt, startsOf, startAt, Sound}
-use Rattle.rewrite.specs.Arena.{Standing}
 use Rattle.calls.specs.Engine.{Sure}
 use Rattle.rewrite.proofs.Leaves.{variables-more, variables-none, variable-stands, arguments-more, arguments-none}
-use Rattle.calls.proofs.Frames.{tree-length, some-nodes, stands-whole}
+use Rattle.rewrite.proofs.Standing.{stands-whole}
+use Rattle.rewrite.proofs.Numbers.{value-there}
 use Rattle.calls.proofs.Going.{then-ok, sure-first, sure-as, check-sure, surely-sure, present-sure, variable-sure}
 
 -- ARGUMENTS
@@ -48,45 +43,6 @@ variables-ok env (x ∷ xs) l s =
     let j : Env → Comp Env = λ ts n. ok (a .0 ∷ ts) n in
     let b = variables-ok env xs l (sure-first (variables env xs l) j (sure-as (a .2) s)) in
     (a .0 ∷ b .0, a .2 ∙ then-ok (variables env xs l) j (b .0) l (b .1), ap suc (b .2))
-
--- WHAT IS APPLIED
-
-applied-rule : (a : ℕ) → a < 1000 → applied a ≡ rule a
-unfolding applied
-applied-rule a h = rw (lt-ltb a 1000 h, applied)
-
-abbrev NoRule : Applied → Type 0
-NoRule (rule n) = ⊥
-NoRule (operation o) = Unit {0}
-NoRule nothing = Unit {0}
-
-listed : (k : ℕ) → NoRule (getD operations k nothing)
-unfolding operations
-listed zero = tt
-listed (suc zero) = tt
-listed (suc (suc zero)) = tt
-listed (suc (suc (suc zero))) = tt
-listed (suc (suc (suc (suc zero)))) = tt
-listed (suc (suc (suc (suc (suc zero))))) = tt
-listed (suc (suc (suc (suc (suc (suc zero)))))) = tt
-listed (suc (suc (suc (suc (suc (suc (suc zero))))))) = tt
-listed (suc (suc (suc (suc (suc (suc (suc (suc zero)))))))) = tt
-listed (suc (suc (suc (suc (suc (suc (suc (suc (suc zero))))))))) = tt
-listed (suc (suc (suc (suc (suc (suc (suc (suc (suc (suc k)))))))))) = tt
-
--- a word from 1,000 on applies no rule
-applied-other : (a : ℕ) → 1000 ≤ a → NoRule (applied a)
-unfolding applied
-applied-other a h = go (ltb a 1000) (le-ltb a 1000 h)
-  where
-    go : (b : Bool) → b ≡ false → NoRule (elim b [ true ↦ rule a | false ↦ getD operations (a - 1000) nothing ])
-    go true e = let z : _≡_ {A = ℕ} 0 1 = cc in absurd (omega arith)
-    go false e = listed (a - 1000)
-
-an-operation : (p : Applied) → NoRule p → (p ≡ nothing → ⊥) → (o : Operation) × (p ≡ operation o)
-an-operation (rule n) h z = absurd h
-an-operation (operation o) h z = (o, refl)
-an-operation nothing h z = absurd (z refl)
 
 -- A RULE HAS FEW PARAMETERS
 
@@ -186,48 +142,7 @@ compute-small greater a bs = λ l. tt
 pub compute-range : (o : Operation) (a : ℕ) (bs : List ℕ) (l : State) (v : ℕ) (m : State) → compute o a bs l ≡ ok v m → v ≤ greatestNumber
 compute-range o a bs l v m e = subst Small e (compute-small o a bs l)
 
--- NUMBER TOKENS
-
--- a number token is its root alone
-pub record NumberToken (g : Grammar) (ws : Words) : Type 0 where
-  pub type : ℕ
-  pub number : ℕ
-  pub is : ws ≡ type ∷ number ∷ []
-  pub kind : isNumber g type ≡ true
-
-number-children : (k : Kind) (t v : ℕ) → isNumberKind k ≡ true → childrenOf k t v ≡ []
-unfolding isNumberKind childrenOf
-number-children (token c) t v e = refl
-number-children (opt x) t v e = let z : _≡_ {A = ℕ} 0 1 = cc in absurd (omega arith)
-number-children (sequence x) t v e = let z : _≡_ {A = ℕ} 0 1 = cc in absurd (omega arith)
-number-children (forms fs) t v e = let z : _≡_ {A = ℕ} 0 1 = cc in absurd (omega arith)
-
-number-root : {g : Grammar} (ws : Words) (t : ℕ) → isNumber g t ≡ true → Trees g (t ∷ []) ws → NumberToken g ws
-unfolding isNumber children
-number-root [] t e r = absurd (tells r)
-number-root (w ∷ []) t e r = absurd (tells r)
-number-root {g} (w ∷ v ∷ ws) t e r =
-    let c : children g t v ≡ [] = number-children (kindOf g t) t v e in
-    let x : ws ≡ [] = none-left ws (subst (λ cs. Trees g cs ws) c (child-trees r)) in
-    record { type = t; number = v; is = rw (tells r .0, x); kind = e }
-
-pub number-token : (g : Grammar) (ws : Words) → isNumberToken g ws ≡ true → NumberToken g ws
-unfolding isNumberToken
-number-token g ws e =
-    let a = and-both (isNumber g (typeOf ws)) (isTree g (typeOf ws) ws) e in
-    number-root ws (typeOf ws) (a .0) (passes-tree ws (a .1) .typed)
-
-marked-value : (g : Grammar) (ws : Words) → getD (marked g ws) 1 0 ≡ valueOf ws
-unfolding marked valueOf
-marked-value g [] = refl
-marked-value g (t ∷ []) = refl
-marked-value g (t ∷ v ∷ ws) = refl
-
--- the value of a tree that stands at a place is the word after it
-pub value-there : {g : Grammar} (w : Words) (s : ℕ) (ws : Words) → Stands g w s ws → getD w (s + 1) 0 ≡ valueOf ws
-value-there {g} w s ws x =
-    let long : 1 < length ws = omega (arith, some-nodes ws (x .tree), tree-length (x .tree)) in
-    sym (getD-drop s w 1 0) ∙ sym (getD-take (length ws) (drop s w) 1 0 long) ∙ ap (λ l. getD l 1 0) (x .words) ∙ marked-value g ws
+-- THE ARGUMENT OF AN OPERATION
 
 -- the value of the first argument, if there is one, is read where the tree of the variable that it names stands
 first-value : (g : Grammar) (w pairs : Words) (at k top : ℕ) (vars : Vars) (env args : Env) (l : State) (b : ℕ) → Sound vars → EnvAt g (take top w) (startsOf vars) env → variables env (arguments k (drop at pairs)) l ≡ ok args l
@@ -241,27 +156,39 @@ first-value g w pairs at (suc k) top vars env args l b s e read eb =
     let here = stands-whole w top (variable-stands g (take top w) vars env (getD (drop at pairs) 1 0) (t .0) s e (t .2)) in
     rw (t .4) (sym (value-there w (startAt vars (getD (drop at pairs) 1 0)) (t .0) here) ∙ ap (λ x. getD w (startAt vars x + 1) 0) (getD-drop at pairs 1 0) ∙ sym eb)
 
--- a number token's mark does not depend on its value
-number-written : (g : Grammar) (w : Words) (base n t x u v : ℕ) → isNumber g x ≡ true → v ≤ greatestNumber → Standing g w base n t (x ∷ u ∷ []) → Standing g (set w (base + 1) v) base n t (x ∷ v ∷ [])
-unfolding size marked markOf first nesting nestingFrom
-number-written g w base n t x u v e h s = record {
-  tree = subst (λ (y : ℕ). T.Tree g y (x ∷ v ∷ [])) (tells (s .tree .typed) .0) (number-tree g x v e h);
-  nodes = s .nodes;
-  words = ap (take (2 * n)) (drop-set-add base w 1 v) ∙ take-set-lt (2 * n) (drop base w) 1 v (omega (arith, s .nodes)) ∙ ap (λ l. set l 1 v) (s .words);
-}
-
-pub value-written : (g : Grammar) (w : Words) (base n t v : ℕ) (scope : Words) → NumberToken g scope → v ≤ greatestNumber → Standing g w base n t scope → Standing g (set w (base + 1) v) base n t (withValue scope v)
-unfolding withValue typeOf
-value-written g w base n t v scope k h s =
-    let s′ : Standing g w base n t (k .type ∷ k .number ∷ []) = subst (Standing g w base n t) (k .is) s in
-    rw (k .is) (number-written g w base n t (k .type) (k .number) v (k .kind) h s′)
-
--- THE ARGUMENT OF AN OPERATION
-
 -- b, read where that tree stands, is the argument of an operation that is not stuck
 pub operand-values : (g : Grammar) (w pairs : Words) (at k top : ℕ) (vars : Vars) (o : Operation) (env args : Env) (l : State) (b : ℕ) → Sound vars → EnvAt g (take top w) (startsOf vars) env
     → variables env (arguments k (drop at pairs)) l ≡ ok args l → b ≡ getD w (startAt vars (getD pairs (at + 1) 0) + 1) 0 → ((c : ℕ) → getD (valuesOf args) 0 c ≡ c → valuesOf args ≡ argumentsOf o c) → valuesOf args ≡ argumentsOf o b
 operand-values g w pairs at k top vars o env args l b s e read eb f = f b (first-value g w pairs at k top vars env args l b s e read eb)
+
+-- THE ARGUMENTS OF AN OPERATION ON SEQUENCES
+
+-- an argument more stands where the variable that it names stands
+argument-stands : (g : Grammar) (arena ws : Words) (k : ℕ) (vars : Vars) (env args : Env) (l : State) → Sound vars → EnvAt g arena (startsOf vars) env → variables env (arguments (suc k) ws) l ≡ ok args l
+    → (u : Words) × (rest : Env) × Stands g arena (startAt vars (getD ws 1 0)) u × (variables env (arguments k (drop 2 ws)) l ≡ ok rest l) × (args ≡ u ∷ rest)
+unfolding arguments
+argument-stands g arena ws k vars env args l s e read =
+    let t = variables-more env (getD ws 1 0) (arguments k (drop 2 ws)) l args read in
+    (t .0, t .1, variable-stands g arena vars env (getD ws 1 0) (t .0) s e (t .2), t .3, t .4)
+
+-- up to two arguments stand where the variables that they name stand
+pub arguments-stand : (g : Grammar) (arena ws : Words) (k : ℕ) (vars : Vars) (env args : Env) (l : State) → Sound vars → EnvAt g arena (startsOf vars) env → variables env (arguments k ws) l ≡ ok args l
+    → length args ≤ 2 → EnvAt g arena (take (length args) (startAt vars (getD ws 1 0) ∷ startAt vars (getD ws 3 0) ∷ [])) args
+unfolding arguments
+arguments-stand g arena ws zero vars env args l s e read few = rw (variables-none env l args read) tt
+arguments-stand g arena ws (suc zero) vars env args l s e read few =
+    let t = argument-stands g arena ws 0 vars env args l s e read in
+    rw (t .4, variables-none env l (t .1) (t .3)) (t .2, tt)
+arguments-stand g arena ws (suc (suc zero)) vars env args l s e read few =
+    let t = argument-stands g arena ws 1 vars env args l s e read in
+    let u = argument-stands g arena (drop 2 ws) 0 vars env (t .1) l s e (t .3) in
+    let second : Stands g arena (startAt vars (getD ws 3 0)) (u .0) = subst (λ x. Stands g arena (startAt vars x) (u .0)) (getD-drop 2 ws 1 0) (u .2) in
+    rw (t .4, u .4, variables-none env l (u .1) (u .3)) (t .2, (second, tt))
+arguments-stand g arena ws (suc (suc (suc k))) vars env args l s e read few =
+    let t = argument-stands g arena ws (suc (suc k)) vars env args l s e read in
+    let u = argument-stands g arena (drop 2 ws) (suc k) vars env (t .1) l s e (t .3) in
+    let v = argument-stands g arena (drop 2 (drop 2 ws)) k vars env (u .1) l s e (u .3) in
+    absurd (omega (arith, ap length (t .4), ap length (u .4), ap length (v .4)))
 
 -- AN APPLICATION'S STEPS
 
@@ -295,7 +222,7 @@ module _ {A : Type 0} (env : Env) (xs : List ℕ) (x : ℕ) (l : State) (run : A
     pub rule-given : x < 1000 → ((args : Env) → run (rule x) args l ≡ thenOf (present (getElem? rules x) l) (λ r. called r args)) → Sure whole → RuleGiven
     rule-given h opens s =
         let a = given s in
-        let e : whole ≡ thenOf (present (getElem? rules x) l) (λ r. called r (a .args)) = a .same ∙ ap (λ p. run p (a .args) l) (applied-rule x h) ∙ opens (a .args) in
+        let e : whole ≡ thenOf (present (getElem? rules x) l) (λ r. called r (a .args)) = a .same ∙ ap (λ p. run p (a .args) l) (rule-number x h) ∙ opens (a .args) in
         let b = present-sure (getElem? rules x) l (λ r. called r (a .args)) (sure-as e s) in
         record { args = a .args; read = a .read; many = a .many; rule = b .0; there = b .1; same = e ∙ b .2 }
 
@@ -310,11 +237,25 @@ module _ {A : Type 0} (env : Env) (xs : List ℕ) (x : ℕ) (l : State) (run : A
       pub checked : tokens args ≡ true
       pub same : whole ≡ called o args l
 
-    pub operation-given : 1000 ≤ x → ((args : Env) → run nothing args l ≡ stuck) → ((o : Operation) (args : Env) → run (operation o) args l ≡ thenOf (check true (tokens args) l) (λ u. called o args)) → Sure whole
-        → OperationGiven
-    operation-given h never opens s =
+    pub operation-given : 1000 ≤ x → ((args : Env) → run nothing args l ≡ stuck) → ((o : Edit) (args : Env) → applied x ≡ editing o → run (editing o) args l ≡ stuck)
+        → ((o : Operation) (args : Env) → run (operation o) args l ≡ thenOf (check true (tokens args) l) (λ u. called o args)) → Sure whole → OperationGiven
+    operation-given h never other opens s =
         let a = given s in
-        let p = an-operation (applied x) (applied-other x h) (λ e. s (a .same ∙ ap (λ q. run q (a .args) l) e ∙ never (a .args))) in
+        let p = an-operation x h (λ e. s (a .same ∙ ap (λ q. run q (a .args) l) e ∙ never (a .args))) (λ o e. s (a .same ∙ ap (λ q. run q (a .args) l) e ∙ other o (a .args) e)) in
         let e : whole ≡ thenOf (check true (tokens (a .args)) l) (λ u. called (p .0) (a .args)) = a .same ∙ ap (λ q. run q (a .args) l) (p .1) ∙ opens (p .0) (a .args) in
         let c = check-sure (tokens (a .args)) l (λ u. called (p .0) (a .args)) (sure-as e s) in
         record { args = a .args; read = a .read; many = a .many; o = p .0; is = p .1; checked = c .0; same = e ∙ c .1 }
+
+  -- .. of an operation on sequences
+  pub record EditGiven : Type 0 where
+    pub args : Env
+    pub read : variables env xs l ≡ ok args l
+    pub o : Edit
+    pub is : applied x ≡ editing o
+    pub same : whole ≡ run (editing o) args l
+
+  pub edit-given : 1010 ≤ x → ((args : Env) → run nothing args l ≡ stuck) → Sure whole → EditGiven
+  edit-given h never s =
+      let a = given s in
+      let p = an-edit x h (λ e. s (a .same ∙ ap (λ q. run q (a .args) l) e ∙ never (a .args))) in
+      record { args = a .args; read = a .read; o = p .0; is = p .1; same = a .same ∙ ap (λ q. run q (a .args) l) (p .1) }

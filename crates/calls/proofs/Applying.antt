@@ -7,30 +7,38 @@ use mathlib.Core.Option.{Option, none, some}
 use native.Mathlib.Omega.{arith}
 use native.Mathlib.Nat.{le-refl}
 use lib.ListN.{length, getD, take, drop, getElem?}
-use lib.Seq.{take-set-le}
+use lib.Seq.{take-set-le, getD-drop}
 use Rattle.words.specs.Reader.{Words, and}
 use Rattle.words.proofs.Laws.{and-both}
 use Rattle.grammar.specs.Grammar.{Grammar}
 use Rattle.tree.specs.Limits.{mostNodes}
 use Rattle.rules.specs.Rules as Rules
-use Rattle.rules.specs.Rules.{Rule, Piece, Operation, rule, operation, nothing, applied, arguments, applications, pairsIn}
+use Rattle.rules.specs.Rules.{Rule, Piece, Operation, Edit, rule, operation, editing, nothing, applied, arguments, applications, pairsIn}
+use Rattle.rules.proofs.Numbers.{edit-from}
 use Rattle.rules.specs.Layout as Layout
 use Rattle.meaning.specs.Limits.{mostLive}
 use Rattle.meaning.specs.declared.State.{State}
 use Rattle.meaning.specs.Computation.{Result, ok, stop, stuck, Comp, thenOf, check, present, return}
-use Rattle.meaning.specs.Operations.{compute}
+use Rattle.meaning.specs.Operations.{compute, valueOf, valuesOf, withValue, isNumberToken, areNumberTokens}
+use Rattle.meaning.specs.Edits.{edit}
 use Rattle.meaning.specs.Meaning as M
-use Rattle.meaning.specs.Meaning.{Env, total, variables, valueOf, valuesOf, withValue, isNumberToken, areNumberTokens, done, cannotGoOn, resultAs, resultOf, opened, begin, calls}
+use Rattle.meaning.specs.Meaning.{Env, total, variables, done, cannotGoOn, resultAs, resultOf, opened, begin, calls}
 use Rattle.operations.specs.Operating.{argumentsOf}
 use Rattle.rewrite.specs.Vars.{Vars, EnvAt, startsOf, startAt, Sound}
-use Rattle.rewrite.specs.Arena.{Arguments, Standing, Gathered, ComputedAs, Computed}
+use Rattle.rewrite.specs.Arena.{Arguments, Standing, Gathered, ComputedAs, Computed, Says}
+use Rattle.rewrite.specs.declared.arena.Placed.{Placed}
+use Rattle.sequences.specs.Listed.{Edits}
+use Rattle.sequences.proofs.Editing.{edit-few}
 use Rattle.rules.specs.Views.{chainCount}
-use Rattle.calls.specs.Engine.{Sure, Says, EndedAs, Tree, Given, Setting, applyAt, chainAt, Applies, Chains, Calls}
+use Rattle.calls.specs.Engine.{Sure, EndedAs, Tree, Given, Setting, EditsAt, applyAt, chainAt, Applies, Chains, Calls}
 use Rattle.calls.specs.declared.Built.{Built}
 use Rattle.calls.specs.declared.Called.{Called}
-use Rattle.calls.proofs.Frames.{env-kept, standing-stands}
+use Rattle.rewrite.proofs.Standing.{standing-stands}
+use Rattle.calls.proofs.Frames.{env-kept}
 use Rattle.calls.proofs.Going.{then-ok, then-stop, sure-first, sure-as, says-ok, says-stop, stop-says, says-map, then-then}
-use Rattle.calls.proofs.Applied.{RuleGiven, rule-given, operation-given, rule-few, begin-sure, compute-arguments, compute-range, NumberToken, number-token, value-there, value-written, operand-values}
+use Rattle.meaning.proofs.Numbers.{NumberToken, number-token}
+use Rattle.rewrite.proofs.Numbers.{value-there, value-written}
+use Rattle.calls.proofs.Applied.{RuleGiven, rule-given, operation-given, edit-given, arguments-stand, rule-few, begin-sure, compute-arguments, compute-range, operand-values}
 use Rattle.calls.proofs.Chains.{nextAt, applications-step, pairs-step}
 use Rattle.judgement.proofs.Chains.{arguments-length}
 
@@ -67,21 +75,25 @@ module _ (g : Grammar) (rules : Rules.Rules) (r : Rule) (args : Env) (scope : Wo
 
 -- ONE APPLICATION
 
-module _ (g : Grammar) (rules : Rules.Rules) (deeper : M.Calls) (scope : Words) (besides : ℕ) where
-  apply-rule : (n : ℕ) (args : Env) (l : State) → M.apply true g rules deeper (rule n) args scope besides l ≡ thenOf (present (getElem? rules n) l) (λ r. deeper .rewrites r args scope besides)
+module _ (g : Grammar) (rules : Rules.Rules) (deeper : M.Calls) (scope : Words) (besides under : ℕ) where
+  apply-rule : (n : ℕ) (args : Env) (l : State) → M.apply true g rules deeper (rule n) args scope besides under l ≡ thenOf (present (getElem? rules n) l) (λ r. deeper .rewrites r args scope besides)
   unfolding M.apply
   apply-rule n args l = refl
 
-  apply-nothing : (args : Env) (l : State) → M.apply true g rules deeper nothing args scope besides l ≡ stuck
+  apply-nothing : (args : Env) (l : State) → M.apply true g rules deeper nothing args scope besides under l ≡ stuck
   unfolding M.apply
   apply-nothing args l = refl
+
+  apply-edit : (o : Edit) (args : Env) (l : State) → M.apply true g rules deeper (editing o) args scope besides under l ≡ edit true g o args scope besides under l
+  unfolding M.apply
+  apply-edit o args l = refl
 
   -- what an operation does once its scope and arguments are checked
   abbrev computes : Operation → Env → Comp Words
   computes o args l = thenOf (compute o (valueOf scope) (valuesOf args) l) (λ n. return (withValue scope n))
 
   apply-operation : (o : Operation) (args : Env) (l : State)
-      → M.apply true g rules deeper (operation o) args scope besides l ≡ thenOf (check true (and (isNumberToken g scope) (areNumberTokens g args)) l) (λ u. computes o args)
+      → M.apply true g rules deeper (operation o) args scope besides under l ≡ thenOf (check true (and (isNumberToken g scope) (areNumberTokens g args)) l) (λ u. computes o args)
   unfolding M.apply
   apply-operation o args l = refl
 
@@ -99,12 +111,12 @@ computed-says g w w′ base n t scope k x o a bs left zero z = (
 )
 computed-says g w w′ base n t scope k x o a bs left (suc j) z = (ap (take base) (z .1), then-stop (compute o a bs left) (λ v. return (withValue scope v)) (suc j) left (z .0))
 
-module _ (given : Given) (w pairs : Words) (at base n : ℕ) (vars : Vars) (besides deep : ℕ) (left : State) (few : n ≤ mostNodes) (fits : besides + n ≤ mostLive) where
+module _ (given : Given) (w pairs : Words) (at base n : ℕ) (vars : Vars) (besides under deep : ℕ) (left : State) (few : n ≤ mostNodes) (fits : besides + n ≤ mostLive) where
   abbrev Done : Words → Built → Type 0
-  Done w′ r = Applies given w w′ pairs at base n vars besides deep left r
+  Done w′ r = Applies given w w′ pairs at base n vars besides under deep left r
 
   abbrev Run : Grammar → Rules.Rules → Env → Words → Result Words
-  Run g rules env scope = applyAt deep pairs at g rules env scope besides left
+  Run g rules env scope = applyAt deep pairs at g rules env scope besides under left
 
   abbrev names : List ℕ
   names = arguments (getD pairs (at + 1) 0) (drop (at + 2) pairs)
@@ -113,9 +125,9 @@ module _ (given : Given) (w pairs : Words) (at base n : ℕ) (vars : Vars) (besi
   module _ (a k : ℕ) (ea : a ≡ getD pairs at 0) (ek : k ≡ getD pairs (at + 1) 0) where
     module _ (h : a < 1000) where
       ruled : (g : Grammar) (rules : Rules.Rules) (env : Env) (scope : Words) → Sure (Run g rules env scope)
-          → RuleGiven env names (getD pairs at 0) left (λ p args. M.apply true g rules (calls true g rules deep) p args scope besides) rules (λ r args. calls true g rules deep .rewrites r args scope besides)
+          → RuleGiven env names (getD pairs at 0) left (λ p args. M.apply true g rules (calls true g rules deep) p args scope besides under) rules (λ r args. calls true g rules deep .rewrites r args scope besides)
       ruled g rules env scope s =
-          rule-given env names (getD pairs at 0) left _ rules _ (omega arith) (λ args. apply-rule g rules (calls true g rules deep) scope besides (getD pairs at 0) args left) s
+          rule-given env names (getD pairs at 0) left _ rules _ (omega arith) (λ args. apply-rule g rules (calls true g rules deep) scope besides under (getD pairs at 0) args left) s
 
       -- no call may nest deeper
       pub apply-deep : deep ≡ 0 → (r : Built) → r ≡ record { stop = 41; nodes = n; left = left } → Done w r
@@ -155,7 +167,7 @@ module _ (given : Given) (w pairs : Words) (at base n : ℕ) (vars : Vars) (besi
             );
       })
 
-    module _ (h : 1000 ≤ a) where
+    module _ (h : 1000 ≤ a) (low : a < 1010) where
       pub apply-computed : Sound vars → (b : ℕ) → b ≡ getD w (startAt vars (getD pairs (at + 3) 0) + 1) 0 → (w′ : Words) (j : ℕ) → Computed w w′ base a b j
           → (r : Built) → r ≡ record { stop = j; nodes = n; left = left } → Done w′ r
       apply-computed sound b eb w′ j cp r e = rw e (record {
@@ -164,9 +176,9 @@ module _ (given : Given) (w pairs : Words) (at base n : ℕ) (vars : Vars) (besi
         less = le-refl (left .attempts);
         long = cp .long;
         meant = λ g rules env scope st env-at tree s.
-            let q = operation-given env names (getD pairs at 0) left (λ p args. M.apply true g rules (calls true g rules deep) p args scope besides)
-            (λ args. and (isNumberToken g scope) (areNumberTokens g args)) (computes g rules (calls true g rules deep) scope besides) (omega arith)
-            (λ args. apply-nothing g rules (calls true g rules deep) scope besides args left) (λ o args. apply-operation g rules (calls true g rules deep) scope besides o args left) s in
+            let q = operation-given env names (getD pairs at 0) left (λ p args. M.apply true g rules (calls true g rules deep) p args scope besides under)
+            (λ args. and (isNumberToken g scope) (areNumberTokens g args)) (computes g rules (calls true g rules deep) scope besides under) (omega arith)
+            (λ args. apply-nothing g rules (calls true g rules deep) scope besides under args left) (λ o args e. absurd (omega (arith, edit-from (getD pairs at 0) o e))) (λ o args. apply-operation g rules (calls true g rules deep) scope besides under o args left) s in
             let cs = sure-first (compute (q .o) (valueOf scope) (valuesOf (q .args)) left) (λ v. return (withValue scope v)) (sure-as (q .same) s) in
             let y : at + 2 + 1 ≡ at + 3 = omega arith in
             let values = operand-values g w pairs (at + 2) (getD pairs (at + 1) 0) base vars (q .o) env (q .args) left b sound env-at (q .read) (eb ∙ ap (λ i. getD w (startAt vars (getD pairs i 0) + 1) 0) (sym y))
@@ -178,30 +190,58 @@ module _ (given : Given) (w pairs : Words) (at base n : ℕ) (vars : Vars) (besi
             (z .0, says-map (Tree g w′ base n) (Tree g w′ base n) _ (Run g rules env scope) left j (λ ws x. x) (q .same ∙ ap (λ m. thenOf m (λ v. return (withValue scope v))) same) (z .1));
       })
 
+    module _ (h : 1010 ≤ a) where
+      pub apply-edited : Sound vars → (w′ : Words) (p : Placed) → EditsAt (given .heads) (given .rows) w w′ pairs at base n vars under besides p
+          → (r : Built) → r ≡ record { stop = p .stop; nodes = p .nodes; left = left } → Done w′ r
+      apply-edited sound w′ p ed r e = rw e (record {
+        few = ed .few;
+        fits = ed .fits;
+        less = le-refl (left .attempts);
+        long = ed .long;
+        meant = λ g rules env scope st env-at tree s.
+            let q = edit-given env names (getD pairs at 0) left (λ p args. M.apply true g rules (calls true g rules deep) p args scope besides under) (omega arith)
+            (λ args. apply-nothing g rules (calls true g rules deep) scope besides under args left) s in
+            let run = q .same ∙ apply-edit g rules (calls true g rules deep) scope besides under (q .o) (q .args) left in
+            let sure = sure-as run s in
+            let few = edit-few g (q .o) (q .args) scope besides under left sure in
+            let stand = arguments-stand g (take base w) (drop (at + 2) pairs) (getD pairs (at + 1) 0) vars env (q .args) left sound env-at (q .read) few in
+            let y : at + 2 + 1 ≡ at + 3 = omega arith in
+            let z : at + 2 + 3 ≡ at + 5 = omega arith in
+            let one : getD (drop (at + 2) pairs) 1 0 ≡ getD pairs (at + 3) 0 = getD-drop (at + 2) pairs 1 0 ∙ ap (λ i. getD pairs i 0) y in
+            let two : getD (drop (at + 2) pairs) 3 0 ≡ getD pairs (at + 5) 0 = getD-drop (at + 2) pairs 3 0 ∙ ap (λ i. getD pairs i 0) z in
+            let m = ed .meant g (q .o) (q .args) scope (tree .0) left (st .tables) (q .is) (tree .1) (rw (one, two) at stand) sure in
+            (m .0, says-map (Standing g w′ base (p .nodes) (tree .0)) (Tree g w′ base (p .nodes)) _ (Run g rules env scope) left (p .stop) (λ ws x. (tree .0, x)) run (m .1));
+      })
+
+-- the operation and its arguments as the pairs name them
+pub edits-at : (heads rows w w′ pairs : Words) (at base n : ℕ) (vars : Vars) (under besides : ℕ) (r : Placed) (op x y first second : ℕ) → op ≡ getD pairs at 0 → x ≡ getD pairs (at + 3) 0 → y ≡ getD pairs (at + 5) 0
+    → first ≡ startAt vars x → second ≡ startAt vars y → Edits heads rows w w′ op base n first second under besides r → EditsAt heads rows w w′ pairs at base n vars under besides r
+edits-at heads rows w w′ pairs at base n vars under besides r op x y first second eo ex ey ef es e = rw (← eo, ← ex, ← ey, ← ef, ← es) e
+
 -- A CHAIN
 
-chain-step : (g : Grammar) (rules : Rules.Rules) (deep : ℕ) (pairs : Words) (at k : ℕ) (env : Env) (scope : Words) (besides : ℕ) (l : State) → 0 < k
-    → M.applyChain true g rules (calls true g rules deep) (applications k (drop at pairs)) env scope besides l
-    ≡ thenOf (applyAt deep pairs at g rules env scope besides l) (λ next. M.applyChain true g rules (calls true g rules deep) (applications (k - 1) (drop (nextAt pairs at) pairs)) env next besides)
+chain-step : (g : Grammar) (rules : Rules.Rules) (deep : ℕ) (pairs : Words) (at k : ℕ) (env : Env) (scope : Words) (besides under : ℕ) (l : State) → 0 < k
+    → M.applyChain true g rules (calls true g rules deep) (applications k (drop at pairs)) env scope besides under l
+    ≡ thenOf (applyAt deep pairs at g rules env scope besides under l) (λ next. M.applyChain true g rules (calls true g rules deep) (applications (k - 1) (drop (nextAt pairs at) pairs)) env next besides under)
 unfolding M.applyChain
-chain-step g rules deep pairs at k env scope besides l h =
-    ap (λ apps. M.applyChain true g rules (calls true g rules deep) apps env scope besides l) (applications-step pairs at k h) ∙ then-then (variables env _ l) _ _
+chain-step g rules deep pairs at k env scope besides under l h =
+    ap (λ apps. M.applyChain true g rules (calls true g rules deep) apps env scope besides under l) (applications-step pairs at k h) ∙ then-then (variables env _ l) _ _
 
-chain-end : (g : Grammar) (rules : Rules.Rules) (deeper : M.Calls) (ws : Words) (k : ℕ) (env : Env) (scope : Words) (besides : ℕ) (l : State) → k ≡ 0
-    → M.applyChain true g rules deeper (applications k ws) env scope besides l ≡ ok scope l
+chain-end : (g : Grammar) (rules : Rules.Rules) (deeper : M.Calls) (ws : Words) (k : ℕ) (env : Env) (scope : Words) (besides under : ℕ) (l : State) → k ≡ 0
+    → M.applyChain true g rules deeper (applications k ws) env scope besides under l ≡ ok scope l
 unfolding M.applyChain applications
-chain-end g rules deeper ws k env scope besides l e = rw e
+chain-end g rules deeper ws k env scope besides under l e = rw e
 
-module _ (given : Given) (w₀ pairs : Words) (from base n : ℕ) (vars : Vars) (besides deep : ℕ) (left : State) where
+module _ (given : Given) (w₀ pairs : Words) (from base n : ℕ) (vars : Vars) (besides under deep : ℕ) (left : State) where
   abbrev Whole : Grammar → Rules.Rules → Env → Words → Result Words
-  Whole g rules env scope = M.applyChain true g rules (calls true g rules deep) (chainAt pairs from) env scope besides left
+  Whole g rules env scope = M.applyChain true g rules (calls true g rules deep) (chainAt pairs from) env scope besides under left
 
   -- the tree as it is now; what is left of the chain is the rest of the whole
   record Gone (w : Words) (k at : ℕ) (fuel : State) (nodes : ℕ) (g : Grammar) (rules : Rules.Rules) (env : Env) (scope : Words) : Type 0 where
     kept : take base w ≡ take base w₀
     now : Words
     tree : Tree g w base nodes now
-    same : Whole g rules env scope ≡ M.applyChain true g rules (calls true g rules deep) (applications k (drop at pairs)) env now besides fuel
+    same : Whole g rules env scope ≡ M.applyChain true g rules (calls true g rules deep) (applications k (drop at pairs)) env now besides under fuel
 
   -- with k applications left, the next at `at`
   pub record Chaining (w : Words) (k at : ℕ) (fuel : State) (nodes : ℕ) : Type 0 where
@@ -228,23 +268,23 @@ module _ (given : Given) (w₀ pairs : Words) (from base n : ℕ) (vars : Vars) 
       kept = refl;
       now = scope;
       tree = tree;
-      same = ap (λ j. M.applyChain true g rules (calls true g rules deep) (applications j (drop (from + 2) pairs)) env scope besides left) (sym e);
+      same = ap (λ j. M.applyChain true g rules (calls true g rules deep) (applications j (drop (from + 2) pairs)) env scope besides under left) (sym e);
     };
   }
 
   module _ (w : Words) (k at : ℕ) (fuel : State) (nodes : ℕ) (i : Chaining w k at fuel nodes) where
-    module _ (h : 0 < k) (w′ : Words) (b : Built) (done : Applies given w w′ pairs at base nodes vars besides deep fuel b) where
+    module _ (h : 0 < k) (w′ : Words) (b : Built) (done : Applies given w w′ pairs at base nodes vars besides under deep fuel b) where
       -- what the application gave
       one : (g : Grammar) (rules : Rules.Rules) (env : Env) (scope : Words) → Setting given g rules → EnvAt g (take base w₀) (startsOf vars) env → Tree g w₀ base n scope
-          → Sure (Whole g rules env scope) → (now : Words) × (take base w′ ≡ take base w₀) × Says (Tree g w′ base (b .nodes)) (b .stop) (b .left) (applyAt deep pairs at g rules env now besides fuel)
-          × (Whole g rules env scope ≡ thenOf (applyAt deep pairs at g rules env now besides fuel) (λ next. M.applyChain true g rules (calls true g rules deep) (applications (k - 1) (drop (nextAt pairs at) pairs)) env next besides))
+          → Sure (Whole g rules env scope) → (now : Words) × (take base w′ ≡ take base w₀) × Says (Tree g w′ base (b .nodes)) (b .stop) (b .left) (applyAt deep pairs at g rules env now besides under fuel)
+          × (Whole g rules env scope ≡ thenOf (applyAt deep pairs at g rules env now besides under fuel) (λ next. M.applyChain true g rules (calls true g rules deep) (applications (k - 1) (drop (nextAt pairs at) pairs)) env next besides under))
       one g rules env scope st env-at tree s =
           let q = i .gone g rules env scope st env-at tree s in
-          let e = q .same ∙ chain-step g rules deep pairs at k env (q .now) besides fuel h in
+          let e = q .same ∙ chain-step g rules deep pairs at k env (q .now) besides under fuel h in
           let m = done .meant g rules env (q .now) st (env-kept g w₀ w base (q .kept) (startsOf vars) env env-at) (q .tree) (sure-first _ _ (sure-as e s)) in
           (q .now, m .0 ∙ q .kept, m .1, e)
 
-      pub chaining-stop : (b .stop ≡ 0 → ⊥) → Chains given w₀ w′ pairs from base n vars besides deep left (record { built = b; next = at })
+      pub chaining-stop : (b .stop ≡ 0 → ⊥) → Chains given w₀ w′ pairs from base n vars besides under deep left (record { built = b; next = at })
       chaining-stop ne = record {
         builds = record {
           few = done .few;
@@ -279,11 +319,11 @@ module _ (given : Given) (w₀ pairs : Words) (from base n : ℕ) (vars : Vars) 
                   now = v .0;
                   tree = v .1;
                   same = q .3 ∙ then-ok _ _ (v .0) (b .left) (v .2)
-                      ∙ ap (λ j. M.applyChain true g rules (calls true g rules deep) (applications (k - 1) (drop j pairs)) env (v .0) besides (b .left)) (sym next);
+                      ∙ ap (λ j. M.applyChain true g rules (calls true g rules deep) (applications (k - 1) (drop j pairs)) env (v .0) besides under (b .left)) (sym next);
                 };
           }
 
-    pub chaining-end : k ≡ 0 → (b : Built) → b ≡ record { stop = 0; nodes = nodes; left = fuel } → Chains given w₀ w pairs from base n vars besides deep left (record { built = b; next = at })
+    pub chaining-end : k ≡ 0 → (b : Built) → b ≡ record { stop = 0; nodes = nodes; left = fuel } → Chains given w₀ w pairs from base n vars besides under deep left (record { built = b; next = at })
     unfolding pairsIn applications
     chaining-end z b e = rw e (record {
       builds = record {
@@ -293,7 +333,7 @@ module _ (given : Given) (w₀ pairs : Words) (from base n : ℕ) (vars : Vars) 
         long = i .long;
         meant = λ g rules env scope st env-at tree s.
             let q = i .gone g rules env scope st env-at tree s in
-            (q .kept, (q .now, q .tree, q .same ∙ chain-end g rules (calls true g rules deep) (drop at pairs) k env (q .now) besides fuel z));
+            (q .kept, (q .now, q .tree, q .same ∙ chain-end g rules (calls true g rules deep) (drop at pairs) k env (q .now) besides under fuel z));
       };
       later = i .later;
       near = omega (arith, i .near);

@@ -21,17 +21,18 @@ use Rattle.rules.specs.Rules as Rules
 use Rattle.rules.specs.Rules.{Piece, write, copy, chain, Application, applications, pairsIn, chainWritten, unreadable, chainOf, piecesAfter, pieces}
 use Rattle.meaning.specs.Limits.{mostLive}
 use Rattle.meaning.specs.declared.State.{State}
-use Rattle.meaning.specs.Computation.{Result, ok, stop, stuck, Comp, thenOf, _>>=_, _>>_, return, stopUnless, present}
-use Rattle.meaning.specs.Meaning.{Env, Bindings, live, variable, variables, nodesWithin, liveWithin, apply, applyChain, fill, calls}
+use Rattle.meaning.specs.Computation.{Result, ok, stop, stuck, Comp, thenOf, _>>=_, _>>_, return, stopUnless, present, nodesWithin, liveWithin}
+use Rattle.meaning.specs.Meaning.{Env, Bindings, live, variable, variables, apply, applyChain, fill, calls}
 use Rattle.marks.specs.Marked.{Stands, UnderWay, nothing, written}
 use Rattle.marks.proofs.Laying.{under-tree, under-append}
 use Rattle.rewrite.specs.Vars.{startsOf, startAt}
-use Rattle.rewrite.specs.Arena.{NodesAt, overBy, Standing}
+use Rattle.rewrite.specs.Arena.{NodesAt, overBy, Standing, Says}
 use Rattle.rules.specs.Views.{pairsAt}
-use Rattle.calls.specs.Engine.{Open, Room, Held, Given, Setting, Sure, Says, Tree, chainAt, chainPiece, Chains, FillsChain, Fills}
+use Rattle.calls.specs.Engine.{Open, Room, Held, Given, Setting, Sure, Tree, chainAt, chainPiece, Chains, FillsChain, Fills}
 use Rattle.calls.specs.declared.Built.{Built}
 use Rattle.calls.specs.declared.Chained.{Chained}
-use Rattle.calls.proofs.Frames.{take-less, stretch-kept, tree-length, stands-whole, env-up, env-kept, held-kept}
+use Rattle.rewrite.proofs.Standing.{take-less, stretch-kept, tree-length, stands-whole}
+use Rattle.calls.proofs.Frames.{env-up, env-kept, held-kept}
 use Rattle.rewrite.proofs.Leaves.{variable-stands}
 use Rattle.calls.proofs.Going.{then-ok, then-stop, sure-first, sure-as, variable-sure, live-fits, live-over, nodes-fit, says-ok, says-stop, stop-says, then-nested}
 use Rattle.judgement.proofs.Replacements.{pieces-after}
@@ -230,12 +231,12 @@ module _ (g : Grammar) (rules : Rules.Rules) (deep : ℕ) (env : Env) (besides :
   fill-chain : (x : ℕ) (apps : List Application) (ps : List Piece) (n : ℕ) (l : State) → thenOf (chained x apps n l) (λ u. onward u ps (n + size u)) ≡ filled (chain x apps ∷ ps) n l
   unfolding fill
   fill-chain x apps ps n l =
-      then-nested (variable env x l) _ _ _ (λ t l. then-nested (liveWithin (besides + n + size t) l) _ _ _ (λ z l. then-nested (applyChain true g rules (calls true g rules deep) apps env t (besides + n) l) _ _ _
+      then-nested (variable env x l) _ _ _ (λ t l. then-nested (liveWithin (besides + n + size t) l) _ _ _ (λ z l. then-nested (applyChain true g rules (calls true g rules deep) apps env t (besides + n) n l) _ _ _
       (λ u l. then-nested (nodesWithin (n + size u) l) _ _ _ (λ z l. then-ok (ok u l) _ u l refl))))
 
-  never-applied : (t : Words) (n : ℕ) (l : State) → applyChain true g rules (calls true g rules deep) unreadable env t n l ≡ stuck
+  never-applied : (t : Words) (n under : ℕ) (l : State) → applyChain true g rules (calls true g rules deep) unreadable env t n under l ≡ stuck
   unfolding applyChain apply variables unreadable thenOf
-  never-applied t n l = refl
+  never-applied t n under l = refl
 
   -- a chain that is not written as one is never applied: it stops before
   module _ (x from n : ℕ) (l : State) (ws : Words) (sure : Sure (chained x (chainOf (drop from ws)) n l)) where
@@ -247,7 +248,7 @@ module _ (g : Grammar) (rules : Rules.Rules) (deep : ℕ) (env : Env) (besides :
 
         stuck-there : (t : Words) → chainOf (drop from ws) ≡ unreadable → getElem? env x ≡ some t → leb (besides + n + size t) mostLive ≡ true → chained x (chainOf (drop from ws)) n l ≡ stuck
         stuck-there t r e q =
-            variable-there env x l _ t e ∙ live-fits (besides + n + size t) l _ (leb-true (besides + n + size t) mostLive q) ∙ then-stuck _ _ (ap (λ a. applyChain true g rules (calls true g rules deep) a env t (besides + n) l) r ∙ never-applied t (besides + n) l)
+            variable-there env x l _ t e ∙ live-fits (besides + n + size t) l _ (leb-true (besides + n + size t) mostLive q) ∙ then-stuck _ _ (ap (λ a. applyChain true g rules (calls true g rules deep) a env t (besides + n) n l) r ∙ never-applied t (besides + n) n l)
 
         live : (t : Words) → getElem? env x ≡ some t → chainOf (drop from ws) ≡ unreadable → (b : Bool) → leb (besides + n + size t) mostLive ≡ b
             → (chained x (chainAt ws from) n l ≡ chained x (chainOf (drop from ws)) n l) × ((u : Words) (now : State) → chained x (chainAt ws from) n l ≡ ok u now → chainOf (drop from ws) ≡ chainAt ws from)
@@ -290,7 +291,7 @@ module _ (g : Grammar) (rules : Rules.Rules) (deep : ℕ) (env : Env) (besides :
 -- after its variable is copied
 abbrev chainOn : ℕ → List Application → Grammar → Rules.Rules → Env → ℕ → ℕ → Words → Comp Words
 chainOn deep apps g rules env besides n t = do
-  u ← applyChain true g rules (calls true g rules deep) apps env t (besides + n)
+  u ← applyChain true g rules (calls true g rules deep) apps env t (besides + n) n
   nodesWithin (n + size u)
   return u
 
@@ -343,12 +344,12 @@ module _ (given : Given) (w pairs : Words) (i n : ℕ) (frame : Open) (deep : �
 
   -- the copy stands on top
   module _ (fits : frame .live + n + m ≤ mostLive) (w₁ w′ : Words) (same : length w₁ ≡ length w) (pushed : w₁ ≡ take base w ++ (take (2 * m) (drop start w) ++ drop (base + 2 * m) w)) (c : Chained)
-      (chains : Chains given w₁ w′ pairs (i + 2) base m (frame .vars) (frame .live + n) deep left c) where
+      (chains : Chains given w₁ w′ pairs (i + 2) base m (frame .vars) (frame .live + n) n deep left c) where
     record Applied (g : Grammar) (rules : Rules.Rules) (env : Env) : Type 0 where
       t : Words
       same-run : piece g rules env ≡ chainOn deep apps g rules env (frame .live) n t left
       kept : take base w′ ≡ take base w
-      says : Says (Tree g w′ base (c .built .nodes)) (c .built .stop) (c .built .left) (applyChain true g rules (calls true g rules deep) apps env t (frame .live + n) left)
+      says : Says (Tree g w′ base (c .built .nodes)) (c .built .stop) (c .built .left) (applyChain true g rules (calls true g rules deep) apps env t (frame .live + n) n left)
 
     room-there : base + 2 * m ≤ length w
     room-there = omega (arith, room .low, room .few, room .long)

@@ -18,18 +18,19 @@ use Rattle.rules.specs.Rules as Rules
 use Rattle.rules.specs.Rules.{construct, pieces}
 use Rattle.meaning.specs.Limits.{mostLive}
 use Rattle.meaning.specs.declared.State.{State}
-use Rattle.meaning.specs.Computation.{Result, ok, stop, Comp, thenOf, _>>=_, _>>_, return, stopUnless, check}
-use Rattle.meaning.specs.Meaning.{Bindings, live, nestingWithin, bind, fill, finish, part, calls}
+use Rattle.meaning.specs.Computation.{Result, ok, stop, Comp, thenOf, _>>=_, _>>_, return, stopUnless, check, nestingWithin}
+use Rattle.meaning.specs.Meaning.{Bindings, live, bind, fill, finish, part, calls}
 use Rattle.marks.specs.Marked.{marked}
 use Rattle.rewrite.specs.Vars.{Vars, startsOf, bound, Sound}
 use Rattle.rewrite.specs.Matching.{bindings}
 use Rattle.rewrite.specs.declared.Verdict.the-variants.{Matches, Stops}
 use Rattle.rewrite.proofs.Matcher.{env-length, env-more, starts-length, starts-more, sound-more, kept-same, kept-bound, total-more}
-use Rattle.rewrite.specs.Arena.{Closed, Standing}
+use Rattle.rewrite.specs.Arena.{Closed, Standing, Says}
 use Rattle.rules.specs.Views.{pairsAt}
-use Rattle.calls.specs.Engine.{Open, Taking, Named, Room, Grown, Held, Given, Setting, Sure, Says, TakenAs, Constructs, Fills, Finishes, partOn}
+use Rattle.calls.specs.Engine.{Open, Taking, Named, Room, Grown, Held, Given, Setting, Sure, TakenAs, Constructs, Fills, Finishes, partOn}
 use Rattle.calls.specs.declared.Built.{Built}
-use Rattle.calls.proofs.Frames.{env-up, env-kept, standing-stands, standing-below, grown-same}
+use Rattle.rewrite.proofs.Standing.{standing-stands, standing-below}
+use Rattle.calls.proofs.Frames.{env-up, env-kept, grown-same}
 use Rattle.calls.proofs.Going.{then-ok, then-stop, sure-first, sure-as, check-sure, surely-sure, says-ok, says-stop, stop-says}
 
 -- FINISHING

@@ -10,9 +10,10 @@ use Rattle.words.specs.Reader.{Words}
 use Rattle.tree.specs.Limits.{mostNodes}
 use Rattle.meaning.specs.Limits.{mostLive}
 use Rattle.meaning.specs.declared.State.{State}
-use Rattle.meaning.specs.Computation.{Result, ok, stop, stuck, Comp, thenOf, stopUnless, surely, check, present}
-use Rattle.meaning.specs.Meaning.{Env, nodesWithin, liveWithin, variable}
-use Rattle.calls.specs.Engine.{Sure, Says}
+use Rattle.meaning.specs.Computation.{Result, ok, stop, stuck, Comp, thenOf, stopUnless, surely, check, present, nodesWithin, liveWithin}
+use Rattle.meaning.specs.Meaning.{Env, variable}
+use Rattle.rewrite.specs.Arena.{Says}
+use Rattle.calls.specs.Engine.{Sure}
 
 module _ {A B : Type 0} (m : Result A) (k : A → Comp B) where
   pub then-ok : (a : A) (l : State) → m ≡ ok a l → thenOf m k ≡ k a l

@@ -33,7 +33,8 @@ use Rattle.rewrite.specs.Matching.{Match, Stage, Means, Answers}
 use Rattle.rewrite.specs.declared.Verdict.{Verdict}
 use Rattle.rewrite.specs.declared.Verdict.the-variants.{Matches, Differs, Stops}
 use Rattle.calls.specs.Engine.{Open, Taking, Room, Held, Given, Setting, Sure, TakenAs, Takes, partOn, partRead, deconstructIn, Deconstructs, Constructs, Conditions, Steps}
-use Rattle.calls.proofs.Frames.{tree-length, some-nodes, grown-same, grown-matched}
+use Rattle.rewrite.proofs.Standing.{tree-length, some-nodes}
+use Rattle.calls.proofs.Frames.{grown-same, grown-matched}
 use Rattle.rewrite.proofs.Leaves.{variable-stands}
 use Rattle.calls.proofs.Going.{sure-as, variable-sure}
 

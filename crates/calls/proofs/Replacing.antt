@@ -15,15 +15,15 @@ use Rattle.tree.proofs.Trees.{passes-tree}
 use Rattle.rules.specs.Rules as Rules
 use Rattle.rules.specs.Rules.{Piece, pieces}
 use Rattle.meaning.specs.declared.State.{State}
-use Rattle.meaning.specs.Computation.{Result, ok, stop, Comp, thenOf, stopUnless, check, return}
+use Rattle.meaning.specs.Computation.{Result, ok, stop, Comp, thenOf, stopUnless, check, return, nodesWithin, nestingWithin}
 use Rattle.meaning.specs.Meaning as M
-use Rattle.meaning.specs.Meaning.{Bindings, calls, nodesWithin, nestingWithin}
-use Rattle.rewrite.specs.Arena.{Standing, Replaced, PlacedAs}
+use Rattle.meaning.specs.Meaning.{Bindings, calls}
+use Rattle.rewrite.specs.Arena.{Standing, Replaced, PlacedAs, Says}
 use Rattle.rules.specs.Views.{pairsAt}
-use Rattle.calls.specs.Engine.{Open, Held, Given, Setting, Sure, Says, Finishes, Replaces}
+use Rattle.calls.specs.Engine.{Open, Held, Given, Setting, Sure, Finishes, Replaces}
 use Rattle.rewrite.specs.declared.arena.Placed.{Placed}
 use Rattle.calls.specs.declared.Built.{Built}
-use Rattle.calls.proofs.Frames.{take-less, standing-kept}
+use Rattle.rewrite.proofs.Standing.{take-less, standing-kept}
 use Rattle.calls.proofs.Going.{then-ok, then-stop, sure-first, sure-as, check-sure, says-ok, says-stop, stop-says, says-map}
 
 -- THE MEANING, STEP BY STEP

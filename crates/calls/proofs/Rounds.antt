@@ -16,20 +16,21 @@ use Rattle.rules.specs.Rules.{Piece, Rule, rootOnly, firstMatch, exhaustive, pi
 use Rattle.rules.specs.Layout as Layout
 use Rattle.meaning.specs.Limits.{mostLive}
 use Rattle.meaning.specs.declared.State.{State}
-use Rattle.meaning.specs.Computation.{Result, ok, stop, thenOf, stopUnless, whether, return}
+use Rattle.meaning.specs.Computation.{Result, ok, stop, thenOf, stopUnless, whether, return, liveWithin}
 use Rattle.meaning.specs.Meaning as M
-use Rattle.meaning.specs.Meaning.{Env, total, live, liveWithin, Ending, done, stopped, cannotGoOn, called, opened, afterRound, start, begin, fits, calls}
+use Rattle.meaning.specs.Meaning.{Env, total, live, Ending, done, stopped, cannotGoOn, called, opened, afterRound, start, begin, fits, calls}
 use Rattle.rewrite.specs.Vars.{Vars, EnvAt, startsOf}
 use Rattle.rewrite.specs.Matching.{bindings}
-use Rattle.rewrite.specs.Arena.{Standing}
+use Rattle.rewrite.specs.Arena.{Standing, Says}
 use Rattle.rules.specs.Views.{pairsAt, Planned, strategyAs, againOf}
-use Rattle.calls.specs.Engine.{Open, Seeking, Room, Held, Given, Setting, Sure, Says, SoughtAs, EndedAs, FoundFits, Tree, Seeks, Replaces, Left, Calls}
+use Rattle.calls.specs.Engine.{Open, Seeking, Room, Held, Given, Setting, Sure, SoughtAs, EndedAs, FoundFits, Tree, Seeks, Replaces, Left, Calls}
 use Rattle.rules.specs.declared.Plan.{Plan}
 use Rattle.calls.specs.declared.Found as Code
 use Rattle.calls.specs.declared.Found.the-variants.{At, Nowhere, Stopped}
 use Rattle.calls.specs.declared.Built.{Built}
 use Rattle.calls.specs.declared.Called.{Called}
-use Rattle.calls.proofs.Frames.{take-less, env-up, env-kept, standing-kept, standing-below}
+use Rattle.rewrite.proofs.Standing.{take-less, standing-kept, standing-below}
+use Rattle.calls.proofs.Frames.{env-up, env-kept}
 use Rattle.calls.proofs.Going.{then-ok, then-stop, sure-first, sure-as, says-ok, says-stop}
 use Rattle.calls.proofs.Applied.{begin-sure}
 use Rattle.meaning.proofs.Numbered.{stop-number, sought-numbered}

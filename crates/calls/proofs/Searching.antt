@@ -44,7 +44,8 @@ use Rattle.rewrite.specs.declared.Verdict.the-variants.{Matches, Differs, Stops
 use Rattle.calls.specs.Engine.{Open, Taking, Seeking, Room, Grown, Held, Given, Setting, Sure, TakenAs, partOn, partRead, SoughtAs, FoundFits, Tree, Steps, Seeks}
 use Rattle.calls.specs.declared.Found as Code
 use Rattle.calls.specs.declared.Found.the-variants.{At, Nowhere, Stopped}
-use Rattle.calls.proofs.Frames.{take-less, some-nodes, standing-end, grown-matched, grown-more, held-still}
+use Rattle.rewrite.proofs.Standing.{take-less, some-nodes, standing-end}
+use Rattle.calls.proofs.Frames.{grown-matched, grown-more, held-still}
 use Rattle.calls.proofs.Going.{then-ok, then-stop, sure-first, sure-as}
 
 -- HOW MANY NODES ARE TRIED

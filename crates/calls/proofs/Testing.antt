@@ -11,14 +11,14 @@ use Rattle.words.specs.Reader.{Words, pick, and, value}
 use Rattle.grammar.specs.Grammar.{Grammar}
 use Rattle.tree.specs.Tree.{size}
 use Rattle.rules.specs.Rules as Rules
-use Rattle.rules.specs.Rules.{Rule, Operation, rule, operation, nothing, applied, arguments, applications, Application, unreadable, conditionOf}
+use Rattle.rules.specs.Rules.{Rule, Operation, Edit, rule, operation, editing, nothing, applied, arguments, applications, Application, unreadable, conditionOf}
 use Rattle.rules.specs.Layout as Layout
 use Rattle.meaning.specs.Limits.{mostLive}
 use Rattle.meaning.specs.declared.State.{State}
-use Rattle.meaning.specs.Computation.{Result, ok, stop, stuck, Comp, thenOf, check, present, choose, whether, provided, return}
-use Rattle.meaning.specs.Operations.{compare}
+use Rattle.meaning.specs.Computation.{Result, ok, stop, stuck, Comp, thenOf, check, present, choose, whether, provided, return, liveWithin}
+use Rattle.meaning.specs.Operations.{compare, valueOf, valuesOf, isNumberToken, areNumberTokens}
 use Rattle.meaning.specs.Meaning as M
-use Rattle.meaning.specs.Meaning.{Env, Bindings, live, total, start, begin, liveWithin, variables, valueOf, valuesOf, isNumberToken, areNumberTokens, calls}
+use Rattle.meaning.specs.Meaning.{Env, Bindings, live, total, start, begin, variables, calls}
 use Rattle.operations.specs.Operating.{argumentsOf, Compared}
 use Rattle.marks.specs.Marked.{Stands}
 use Rattle.rewrite.specs.Vars.{startAt, Sound}
@@ -32,10 +32,12 @@ use Rattle.rules.specs.declared.Plan.{Plan}
 use Rattle.calls.specs.declared.Found as Code
 use Rattle.calls.specs.declared.Found.the-variants.{At, Nowhere, Stopped}
 use Rattle.calls.specs.declared.Tested.{Tested}
-use Rattle.calls.proofs.Frames.{grown-same, standing-stands, standing-whole, stands-standing, held-kept}
+use Rattle.rewrite.proofs.Standing.{standing-stands, standing-whole, stands-standing}
+use Rattle.calls.proofs.Frames.{grown-same, held-kept}
 use Rattle.rewrite.proofs.Leaves.{variable-stands}
 use Rattle.calls.proofs.Going.{sure-first, sure-as, variable-sure, live-fits, live-over, then-then}
-use Rattle.calls.proofs.Applied.{begin-sure, RuleGiven, rule-given, operation-given, rule-few, compare-arguments, value-there, operand-values}
+use Rattle.rewrite.proofs.Numbers.{value-there}
+use Rattle.calls.proofs.Applied.{begin-sure, RuleGiven, rule-given, operation-given, rule-few, compare-arguments, operand-values}
 use Rattle.calls.proofs.Chains.{condition-read, nextAt, applications-step}
 use Rattle.judgement.proofs.Chains.{arguments-length}
 
@@ -143,6 +145,10 @@ module _ (g : Grammar) (rules : Rules.Rules) (deeper : M.Calls) (scope : Words) 
   unfolding M.succeeds
   succeeds-nothing args l = refl
 
+  succeeds-edit : (o : Edit) (args : Env) (l : State) → M.succeeds true g rules deeper (editing o) args scope besides l ≡ stuck
+  unfolding M.succeeds
+  succeeds-edit o args l = refl
+
   succeeds-operation : (o : Operation) (args : Env) (l : State)
       → M.succeeds true g rules deeper (operation o) args scope besides l ≡ thenOf (check true (and (isNumberToken g scope) (areNumberTokens g args)) l) (λ u. compare o (valueOf scope) (valuesOf args))
   unfolding M.succeeds
@@ -205,7 +211,7 @@ module _ (given : Given) (w pairs : Words) (at base n : ℕ) (frame : Open) (dee
         meant = λ g rules scope b st held tree s.
             let q = operation-given (b .env) names (getD pairs at 0) left (λ p args. M.succeeds true g rules (calls true g rules deep) p args scope (live b))
             (λ args. and (isNumberToken g scope) (areNumberTokens g args)) (λ o args. compare o (valueOf scope) (valuesOf args)) (omega arith)
-            (λ args. succeeds-nothing g rules (calls true g rules deep) scope (live b) args left) (λ o args. succeeds-operation g rules (calls true g rules deep) scope (live b) o args left) s in
+            (λ args. succeeds-nothing g rules (calls true g rules deep) scope (live b) args left) (λ o args e. succeeds-edit g rules (calls true g rules deep) scope (live b) o args left) (λ o args. succeeds-operation g rules (calls true g rules deep) scope (live b) o args left) s in
             let cs = sure-as (q .same) s in
             let z : at + 2 + 1 ≡ at + 3 = omega arith in
             let values = operand-values g w pairs (at + 2) (getD pairs (at + 1) 0) (frame .top) (frame .vars) (q .o) (b .env) (q .args) left y sound (held .stands) (q .read) (ey ∙ ap (λ j. getD w (startAt (frame .vars) (getD pairs j 0) + 1) 0) (sym z))

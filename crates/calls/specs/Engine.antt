@@ -20,17 +20,19 @@ use Rattle.rules.specs.Layout.{PartAt, partAt, partOf}
 use Rattle.rules.specs.declared.Deconstruct.{Deconstruct}
 use Rattle.meaning.specs.Limits.{mostLive}
 use Rattle.meaning.specs.declared.State.{State}
-use Rattle.meaning.specs.Computation.{Result, ok, stop, stuck, Comp, _>>=_, _>>_, return, never}
+use Rattle.meaning.specs.Computation.{Result, ok, stop, stuck, Comp, _>>=_, _>>_, return, never, liveWithin, nodesWithin}
 use Rattle.meaning.specs.Meaning as M
-use Rattle.meaning.specs.Meaning.{Env, Bindings, live, total, variable, variables, liveWithin, nodesWithin, Ending, done, stopped, cannotGoOn, Found, calls}
+use Rattle.meaning.specs.Meaning.{Env, Bindings, live, total, variable, variables, Ending, done, stopped, cannotGoOn, Found, calls}
 use Rattle.marks.specs.Marked.{UnderWay}
-use Rattle.rewrite.specs.Arena.{Standing}
-use Rattle.rewrite.specs.Vars.{Vars, varsOf, EnvAt, startsOf, bound, Sound, Kept}
+use Rattle.rewrite.specs.Arena.{Standing, Says}
+use Rattle.rewrite.specs.Vars.{Vars, varsOf, EnvAt, startsOf, startAt, bound, Sound, Kept}
 use Rattle.rewrite.specs.Matching.{bindings}
 use Rattle.rewrite.specs.declared.Verdict.{Verdict}
 use Rattle.rewrite.specs.declared.Verdict.the-variants.{Matches, Differs, Stops}
 use Rattle.rules.specs.Views.{pairsAt, Planned, chainCount}
 use Rattle.rewrite.specs.declared.arena.Frame.{Frame}
+use Rattle.rewrite.specs.declared.arena.Placed.{Placed}
+use Rattle.sequences.specs.Listed.{Edits}
 use Rattle.rules.specs.declared.Plan.{Plan}
 use Rattle.calls.specs.declared.Taken.{Taken}
 use Rattle.calls.specs.declared.Found as Code
@@ -135,11 +137,6 @@ pub record Setting (given : Given) (g : Grammar) (rules : Rules.Rules) : Type 0 
 -- it goes on or stops by name
 abbrev pub Sure : {A : Type 0} → Result A → Type 0
 Sure m = m ≡ stuck → ⊥
-
--- 0 says that a computation gives a value of which P holds; any other number that it stops by it
-abbrev pub Says : {A : Type 0} → (A → Type 0) → ℕ → State → Result A → Type 0
-Says {A} P zero left m = (a : A) × P a × (m ≡ ok a left)
-Says P (suc k) left m = m ≡ stop (suc k) left
 
 -- what a verdict says of a computation that gives a match or none
 abbrev pub TakenAs : Grammar → Words → ℕ → Verdict → Open → State → Result (Option Bindings) → Type 0
@@ -254,11 +251,15 @@ succeedsAt deep pairs at g rules scope b = do
   args ← variables (b .env) (arguments (getD pairs (at + 1) 0) (drop (at + 2) pairs))
   M.succeeds true g rules (calls true g rules deep) (applied (getD pairs at 0)) args scope (live b)
 
+-- an operation on sequences, its arguments the trees of the variables that the pairs name
+abbrev pub EditsAt : Words → Words → Words → Words → Words → ℕ → ℕ → ℕ → Vars → ℕ → ℕ → Placed → Type 0
+EditsAt heads rows w w′ pairs at base n vars under besides r = Edits heads rows w w′ (getD pairs at 0) base n (startAt vars (getD pairs (at + 3) 0)) (startAt vars (getD pairs (at + 5) 0)) under besides r
+
 -- one application of a chain
-abbrev pub applyAt : ℕ → Words → ℕ → Grammar → Rules.Rules → Env → Words → ℕ → Comp Words
-applyAt deep pairs at g rules env scope besides = do
+abbrev pub applyAt : ℕ → Words → ℕ → Grammar → Rules.Rules → Env → Words → ℕ → ℕ → Comp Words
+applyAt deep pairs at g rules env scope besides under = do
   args ← variables env (arguments (getD pairs (at + 1) 0) (drop (at + 2) pairs))
-  M.apply true g rules (calls true g rules deep) (applied (getD pairs at 0)) args scope besides
+  M.apply true g rules (calls true g rules deep) (applied (getD pairs at 0)) args scope besides under
 
 -- the applications of a chain, its count at `from`
 abbrev pub chainAt : Words → ℕ → List Application
@@ -269,7 +270,7 @@ abbrev pub chainPiece : ℕ → ℕ → List Application → Grammar → Rules.R
 chainPiece deep x apps g rules env besides n = do
   t ← variable env x
   liveWithin (besides + n + size t)
-  u ← M.applyChain true g rules (calls true g rules deep) apps env t (besides + n)
+  u ← M.applyChain true g rules (calls true g rules deep) apps env t (besides + n) n
   nodesWithin (n + size u)
   return u
 
@@ -293,11 +294,11 @@ module _ (given : Given) (w w′ : Words) where
         → Sure (f g rules env scope left)
         → (take base w′ ≡ take base w) × Says (Tree g w′ base (r .nodes)) (r .stop) (r .left) (f g rules env scope left)
 
-  abbrev pub Applies : Words → ℕ → ℕ → ℕ → Vars → ℕ → ℕ → State → Built → Type 0
-  Applies pairs at base n vars besides deep left r = Builds base n vars besides left r (λ g rules env scope. applyAt deep pairs at g rules env scope besides)
+  abbrev pub Applies : Words → ℕ → ℕ → ℕ → Vars → ℕ → ℕ → ℕ → State → Built → Type 0
+  Applies pairs at base n vars besides under deep left r = Builds base n vars besides left r (λ g rules env scope. applyAt deep pairs at g rules env scope besides under)
 
-  pub record Chains (pairs : Words) (from base n : ℕ) (vars : Vars) (besides deep : ℕ) (left : State) (r : Chained) : Type 0 where
-    pub builds : Builds base n vars besides left (r .built) (λ g rules env scope. M.applyChain true g rules (calls true g rules deep) (chainAt pairs from) env scope besides)
+  pub record Chains (pairs : Words) (from base n : ℕ) (vars : Vars) (besides under deep : ℕ) (left : State) (r : Chained) : Type 0 where
+    pub builds : Builds base n vars besides left (r .built) (λ g rules env scope. M.applyChain true g rules (calls true g rules deep) (chainAt pairs from) env scope besides under)
     pub later : from + 2 ≤ r .next
     pub near : r .next < 2 ^ 40
     pub next-is : r .built .stop ≡ 0 → r .next ≡ from + 2 + 2 * pairsIn (chainAt pairs from)

@@ -8,6 +8,7 @@ use rewrite::Matched;
 use rewrite::Verdict;
 use rewrite::arena;
 use rewrite::arena::Frame;
+use rewrite::arena::Placed;
 use rewrite::candidates;
 use rules::Condition;
 use rules::Construct;
@@ -16,6 +17,7 @@ use rules::Part;
 use rules::Plan;
 use rules::Strategy;
 use rules::limits::FIRST_OPERATION;
+use rules::limits::JOIN;
 use rules::limits::MARK_CHAIN;
 use rules::limits::MARK_VARIABLE;
 use rules::limits::MOST_VARIABLES;
@@ -26,7 +28,7 @@ ghost use mathlib.Core.Path.{_≡_};
 ghost use Prim.Native.Nat.{_+_, _*_, _<_, _≤_, _^_};
 ghost use lib.ListN.{length};
 ghost use Rattle.rewrite.specs.Vars.{varsOf, Sound};
-ghost use Rattle.calls.specs.Engine.{turnedBy, openOf, takingIn, seekingIn, Named, Room, givenOf, Deconstructs, Constructs, Conditions, Steps, Seeks, CallMatches, Succeeds, AnySucceeds, Applies, Chains, FillsChain, Fills, Finishes, Replaces, Calls};
+ghost use Rattle.calls.specs.Engine.{turnedBy, openOf, takingIn, seekingIn, Named, Room, givenOf, Deconstructs, Constructs, Conditions, Steps, Seeks, CallMatches, Succeeds, AnySucceeds, EditsAt, Applies, Chains, FillsChain, Fills, Finishes, Replaces, Calls};
 
 // What a part's step found, what is open then, the state that is left, and where the next part stands.
 pub struct Taken {
@@ -665,6 +667,29 @@ fn any_succeeds(
     }
 }
 
+// What the operation on sequences whose application stands at `at` makes of the tree of n nodes at base. Its arguments are the trees of up to two variables.
+fn edit_at(
+    heads: &[u32; HEADS],
+    rows: &[u8; ROWS],
+    w: &mut [u32],
+    pairs: &[u32],
+    at: usize,
+    base: usize,
+    n: usize,
+    places: &[u32; MOST_VARIABLES],
+    bound: usize,
+    under: usize,
+    besides: usize,
+) -> Placed
+    requires { ⌜ (besides + n ≤ 6144) × (base ≤ 2 * besides) × (n ≤ 2048) × (under ≤ 2048) × (16384 ≤ length (now w)) × (at < 2 ^ 36) ⌝ }
+    ensures { λ r. ⌜ EditsAt (now (heads .entry)) (now (rows .entry)) (now (w .entry)) (now (w .exit)) (now (pairs .entry)) at base n (varsOf (now (places .entry)) bound) under besides r ⌝ }
+{
+    let op = words::word(pairs, at);
+    let first = rewrite::start_in(places, bound, words::word(pairs, at + 3));
+    let second = rewrite::start_in(places, bound, words::word(pairs, at + 5));
+    sequences::edit(heads, rows, w, op, base, n, first, second, under, besides)
+}
+
 // Applies the application whose first word is at `at` to the tree of n nodes at base, which is on top.
 fn apply(
     heads: &[u32; HEADS],
@@ -680,11 +705,12 @@ fn apply(
     places: &[u32; MOST_VARIABLES],
     bound: usize,
     besides: usize,
+    under: usize,
     deep: usize,
     left: State,
 ) -> Built
-    requires { ⌜ Sound (varsOf (now places) bound) × (besides + n ≤ 6144) × (base ≤ 2 * besides) × (n ≤ 2048) × (16384 ≤ length (now w)) × (1 ≤ types) × (at < 2 ^ 36) ⌝ }
-    ensures { λ r. ⌜ Applies (givenOf (now (heads .entry)) (now (rows .entry)) types (now (book .entry)) (now (starts .entry))) (now (w .entry)) (now (w .exit)) (now (pairs .entry)) at base n (varsOf (now (places .entry)) bound) besides deep left r ⌝ }
+    requires { ⌜ Sound (varsOf (now places) bound) × (besides + n ≤ 6144) × (base ≤ 2 * besides) × (n ≤ 2048) × (under ≤ 2048) × (16384 ≤ length (now w)) × (1 ≤ types) × (at < 2 ^ 36) ⌝ }
+    ensures { λ r. ⌜ Applies (givenOf (now (heads .entry)) (now (rows .entry)) types (now (book .entry)) (now (starts .entry))) (now (w .entry)) (now (w .exit)) (now (pairs .entry)) at base n (varsOf (now (places .entry)) bound) besides under deep left r ⌝ }
 {
     let a = words::word(pairs, at);
     if a < FIRST_OPERATION {
@@ -714,9 +740,25 @@ fn apply(
         );
         return building(c.stop, c.nodes, c.left);
     }
-    let b = arena::value_of(w, pairs, at + 3, places, bound);
-    let stop = arena::compute_at(w, base, a, b);
-    building(stop, n, left)
+    if a < JOIN {
+        let b = arena::value_of(w, pairs, at + 3, places, bound);
+        let stop = arena::compute_at(w, base, a, b);
+        return building(stop, n, left);
+    }
+    let p = edit_at(
+        heads,
+        rows,
+        w,
+        pairs,
+        at,
+        base,
+        n,
+        places,
+        bound,
+        under,
+        besides,
+    );
+    building(p.stop, p.nodes, left)
 }
 
 // Applies a chain, its count at `from`, to the tree of n nodes at base, one application after the other.
@@ -734,11 +776,12 @@ fn chain(
     places: &[u32; MOST_VARIABLES],
     bound: usize,
     besides: usize,
+    under: usize,
     deep: usize,
     left: State,
 ) -> Chained
-    requires { ⌜ Sound (varsOf (now places) bound) × (besides + n ≤ 6144) × (base ≤ 2 * besides) × (n ≤ 2048) × (16384 ≤ length (now w)) × (1 ≤ types) × (from ≤ 1024) ⌝ }
-    ensures { λ r. ⌜ Chains (givenOf (now (heads .entry)) (now (rows .entry)) types (now (book .entry)) (now (starts .entry))) (now (w .entry)) (now (w .exit)) (now (pairs .entry)) from base n (varsOf (now (places .entry)) bound) besides deep left r ⌝ }
+    requires { ⌜ Sound (varsOf (now places) bound) × (besides + n ≤ 6144) × (base ≤ 2 * besides) × (n ≤ 2048) × (under ≤ 2048) × (16384 ≤ length (now w)) × (1 ≤ types) × (from ≤ 1024) ⌝ }
+    ensures { λ r. ⌜ Chains (givenOf (now (heads .entry)) (now (rows .entry)) types (now (book .entry)) (now (starts .entry))) (now (w .entry)) (now (w .exit)) (now (pairs .entry)) from base n (varsOf (now (places .entry)) bound) besides under deep left r ⌝ }
 {
     let mut k = rules::chain_count(pairs, from);
     let mut at = from + 2;
@@ -759,6 +802,7 @@ fn chain(
             places,
             bound,
             besides,
+            under,
             deep,
             fuel,
         );
@@ -816,6 +860,7 @@ fn fill_chain(
         places,
         frame.bound,
         besides,
+        n,
         deep,
         left,
     );

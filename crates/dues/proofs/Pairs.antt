@@ -14,21 +14,22 @@ use Rattle.words.specs.declared.Check.{Check}
 use Rattle.words.specs.declared.Check.the-variants.{Passed, Refused}
 use Rattle.words.proofs.Laws.{answer-refused}
 use Rattle.grammar.specs.Grammar.{Grammar}
-use Rattle.grammar.specs.Kinds.{allowed, isNumber}
+use Rattle.grammar.specs.Kinds.{allowed, children, isNumber, isSequence}
 use Rattle.tables.specs.Tables.{Tables}
 use Rattle.tree.specs.Dues.{Next, secondWord, leaves}
 use Rattle.tree.specs.Reading.{tree}
+use Rattle.tree.specs.Sequences.{elementOf}
 use Rattle.rules.specs.Rules.{Rules}
 use Rattle.rules.specs.declared.Strategy.{Strategy}
 use Rattle.rules.specs.declared.Strategy.the-variants.{RootOnly}
-use Rattle.judgement.specs.Wanted.{Wanted, aNumber, wants}
-use Rattle.judgement.specs.Typing.{Place, Due, aTree, aChain, applicationCount, application, argument, Context, mayStand, appliesOperation, wantedByOperation, there, ofType, newVariable, variable, chain, node, meets}
+use Rattle.judgement.specs.Wanted.{Wanted, aNumber, toJoin, wants}
+use Rattle.judgement.specs.Typing.{Place, Due, aTree, aChain, applicationCount, application, argument, Context, mayStand, appliesOperation, operatesOn, wantedByEdit, wantedByOperation, there, ofType, newVariable, variable, chain, node, meets}
 use Rattle.dues.specs.declared.Place.{Place as Here}
 use Rattle.dues.specs.declared.Place.the-variants.{Pattern, Replacement, Condition}
 use Rattle.dues.specs.declared.Met.{Met}
 use Rattle.dues.specs.declared.Met.the-variants.{Bad, Top, New}
 use Rattle.dues.specs.Views.{placeAs, searchesAs, appliesMap, wantedOf, dueOf, Pushed, nodeDue, Meets, argumentsCounted}
-use Rattle.dues.proofs.Stack.{require-passed, of-type-passed, pushed-none, pushed-as, count-due, number-due, node-few, replicate-length}
+use Rattle.dues.proofs.Stack.{require-passed, of-type-passed, pushed-none, pushed-as, pushed-then, count-due, number-due, wanted-due, node-few, replicate-length}
 
 -- WORDS THAT MAY STAND THERE
 
@@ -66,9 +67,14 @@ module _ (here : Here) (o : ℕ) where
   unfolding appliesOperation
   operation-pattern h = rw h
 
-  pub operation-replacement : {r : Bool} → here ≡ Replacement → r ≡ between 1000 1005 o → r ≡ appliesOperation (placeAs here) o
-  unfolding appliesOperation
-  operation-replacement h e = rw h e
+  module _ (h : here ≡ Replacement) {b : Bool} (eb : b ≡ between 1000 1005 o) where
+    pub operation-numeric : b ≡ true → true ≡ appliesOperation (placeAs here) o
+    unfolding appliesOperation
+    operation-numeric e = rw (h, ← eb, e)
+
+    pub operation-edit : b ≡ false → {r : Bool} → r ≡ between 1010 1015 o → r ≡ appliesOperation (placeAs here) o
+    unfolding appliesOperation
+    operation-edit e k = rw (h, ← eb, e) k
 
   pub operation-condition : {r : Bool} → here ≡ Condition → r ≡ between 1008 1009 o → r ≡ appliesOperation (placeAs here) o
   unfolding appliesOperation
@@ -210,20 +216,59 @@ module _ (g : Grammar) (rules : Rules) (here : Place) (t v at sp : ℕ) (st : Wo
         argument-there h = rw (eq-eqb t 65 e, require-passed (ltb v (length Γ)) 22 1 at c is f .0, ← i, ← eb, h)
             (record { says = record { dues = []; next = at + 2; read = refl; pushed = pushed-none st sp; most = omega arith } })
 
+-- what is joined to a sequence of type s
+module _ (g : Grammar) (s t : ℕ) where
+  pub joins-sequence : t ≡ s → true ≡ wants g (toJoin s) t
+  unfolding wants
+  joins-sequence h = rw (eq-eqb t s h)
+
+  pub joins-element : (t ≡ s → ⊥) → {e : ℕ} → e ≡ getD (children g s 0) 0 0 → eqb t e ≡ wants g (toJoin s) t
+  unfolding wants elementOf
+  joins-element h i = rw (ne-eqb t s h, i)
+
 -- the argument that is due as (a, b)
 module _ (g : Grammar) (a b s : ℕ) where
   pub wanted-exactly : a ≡ 103 → eqb s b ≡ wants g (wantedOf a b) s
   unfolding wants wantedOf
   wanted-exactly h = rw (eq-eqb a 103 h)
 
-  pub wanted-number : {r : Bool} → (a ≡ 103 → ⊥) → r ≡ isNumber g s → r ≡ wants g (wantedOf a b) s
-  unfolding wants wantedOf
-  wanted-number h e = rw (ne-eqb a 103 h) e
+  module _ (n₃ : a ≡ 103 → ⊥) where
+    pub wanted-number : {r : Bool} → a ≡ 104 → r ≡ isNumber g s → r ≡ wants g (wantedOf a b) s
+    unfolding wants wantedOf
+    wanted-number h e = rw (ne-eqb a 103 n₃, eq-eqb a 104 h) e
+
+    module _ (n₄ : a ≡ 104 → ⊥) where
+      pub wanted-joined : {r : Bool} → a ≡ 105 → r ≡ wants g (toJoin b) s → r ≡ wants g (wantedOf a b) s
+      unfolding wantedOf
+      wanted-joined h e = rw (ne-eqb a 103 n₃, ne-eqb a 104 n₄, eq-eqb a 105 h) e
+
+      module _ (n₅ : a ≡ 105 → ⊥) where
+        pub wanted-sequence : {r : Bool} → a ≡ 106 → r ≡ isSequence g s → r ≡ wants g (wantedOf a b) s
+        unfolding wants wantedOf
+        wanted-sequence h e = rw (ne-eqb a 103 n₃, ne-eqb a 104 n₄, ne-eqb a 105 n₅, eq-eqb a 106 h) e
+
+        pub wanted-anything : (a ≡ 106 → ⊥) → true ≡ wants g (wantedOf a b) s
+        unfolding wants wantedOf
+        wanted-anything h = rw (ne-eqb a 103 n₃, ne-eqb a 104 n₄, ne-eqb a 105 n₅, ne-eqb a 106 h)
 
 -- WHAT IS APPLIED
 
 pub root-only : (strategy : Strategy) (target s : ℕ) → strategy ≡ RootOnly → eqb target s ≡ or (searchesAs strategy) (eqb target s)
 root-only strategy target s h = rw h
+
+-- the scope of an operation
+module _ (g : Grammar) (o s : ℕ) {r : Bool} where
+  pub operates-numeric : o < 1010 → r ≡ isNumber g s → r ≡ operatesOn g o s
+  unfolding operatesOn
+  operates-numeric h e = rw (lt-ltb o 1010 h) e
+
+  pub operates-count : o ≡ 1014 → r ≡ isNumber g s → r ≡ operatesOn g o s
+  unfolding operatesOn
+  operates-count h e = rw h e
+
+  pub operates-edit : 1010 ≤ o → (o ≡ 1014 → ⊥) → r ≡ isSequence g s → r ≡ operatesOn g o s
+  unfolding operatesOn
+  operates-edit h c e = rw (le-ltb o 1010 h, ne-eqb o 1014 c) e
 
 -- an application's count of arguments
 module _ (us : List Wanted) (v at sp : ℕ) (st : Words) (Γ : Context) where
@@ -235,21 +280,56 @@ module _ (us : List Wanted) (v at sp : ℕ) (st : Words) (Γ : Context) where
   unfolding argumentsCounted
   arguments-met e most k = rw (eq-eqb v (length us) e) (record { says = record { dues = map argument us; next = at + 2; read = refl; pushed = k; most = omega (arith, k .size, length-map us argument) } })
 
-module _ (t v at sp : ℕ) (st : Words) (Γ : Context) {b : Bool} (eb : b ≡ between 1004 1005 t) where
-  bare : b ≡ true → wantedByOperation t ≡ []
-  bare h = rw (← eb, h)
+module _ (v at sp : ℕ) (st : Words) (Γ : Context) where
+  pub none-met : v ≡ 0 → Meets (Top sp) Γ st sp st (argumentsCounted [] Γ v at)
+  none-met h = arguments-met [] v at sp st Γ h (omega arith) (pushed-none st sp)
 
-  binary : b ≡ false → wantedByOperation t ≡ aNumber ∷ []
-  binary h = rw (← eb, h)
+  pub one-met : (a b : ℕ) {st′ : Words} → 102 < a → v ≡ 1 → Pushed st sp st′ (sp + 1) (dueOf a b ∷ []) → Meets (Top (sp + 1)) Γ st sp st′ (argumentsCounted (wantedOf a b ∷ []) Γ v at)
+  one-met a b l h k = arguments-met (wantedOf a b ∷ []) v at sp st Γ h (omega arith) (pushed-as k (rw (wanted-due a b (omega arith) (λ e. omega arith) (λ e. omega arith) (λ e. omega arith))))
 
-  pub bare-other : b ≡ true → (v ≡ 0 → ⊥) → Meets (Bad 22 (at + 1)) Γ st sp st (argumentsCounted (wantedByOperation t) Γ v at)
-  bare-other h z = rw (bare h) (arguments-other [] v at sp st Γ z)
+  pub numbers-met : {st₁ st₂ : Words} → v ≡ 2 → Pushed st sp st₁ (sp + 1) (dueOf 104 0 ∷ []) → Pushed st₁ (sp + 1) st₂ (sp + 1 + 1) (dueOf 104 0 ∷ [])
+      → Meets (Top (sp + 2)) Γ st sp st₂ (argumentsCounted (aNumber ∷ aNumber ∷ []) Γ v at)
+  numbers-met h p q =
+      let two : sp + 1 + 1 ≡ sp + 2 = omega arith in
+      arguments-met (aNumber ∷ aNumber ∷ []) v at sp st Γ h (omega arith) (pushed-as (rw two at (pushed-then p q)) (rw (number-due 0)))
 
-  pub bare-met : b ≡ true → v ≡ 0 → Meets (Top sp) Γ st sp st (argumentsCounted (wantedByOperation t) Γ v at)
-  bare-met h z = rw (bare h) (arguments-met [] v at sp st Γ z (omega arith) (pushed-none st sp))
+pub counted-as : {us us′ : List Wanted} (v at : ℕ) {sp : ℕ} {st st′ : Words} {Γ : Context} {m : Met} → us ≡ us′ → Meets m Γ st sp st′ (argumentsCounted us Γ v at) → Meets m Γ st sp st′ (argumentsCounted us′ Γ v at)
+counted-as v at e k = rw e at k
 
-  pub binary-other : b ≡ false → (v ≡ 1 → ⊥) → Meets (Bad 22 (at + 1)) Γ st sp st (argumentsCounted (wantedByOperation t) Γ v at)
-  binary-other h z = rw (binary h) (arguments-other (aNumber ∷ []) v at sp st Γ z)
+-- what the operation of the number t wants on a scope of type s
+module _ (s t : ℕ) where
+  module _ (low : t < 1010) {b : Bool} (eb : b ≡ between 1004 1005 t) where
+    pub bare-wanted : b ≡ true → [] ≡ wantedByOperation s t
+    unfolding wantedByOperation
+    bare-wanted h = rw (lt-ltb t 1010 low, ← eb, h)
 
-  pub binary-met : {st′ : Words} → b ≡ false → v ≡ 1 → Pushed st sp st′ (sp + 1) (dueOf 104 0 ∷ []) → Meets (Top (sp + 1)) Γ st sp st′ (argumentsCounted (wantedByOperation t) Γ v at)
-  binary-met h z k = rw (binary h) (arguments-met (aNumber ∷ []) v at sp st Γ z (omega arith) (pushed-as k (rw (number-due 0))))
+    pub number-wanted : b ≡ false → wantedOf 104 0 ∷ [] ≡ wantedByOperation s t
+    unfolding wantedByOperation wantedOf
+    number-wanted h = rw (lt-ltb t 1010 low, ← eb, h)
+
+  pub edit-wanted : 1010 ≤ t → wantedByEdit s t ≡ wantedByOperation s t
+  unfolding wantedByOperation
+  edit-wanted h = rw (le-ltb t 1010 h)
+
+  pub select-wanted : t ≡ 1011 → aNumber ∷ aNumber ∷ [] ≡ wantedByEdit s t
+  unfolding wantedByEdit
+  select-wanted h = rw h
+
+-- .. by the first word of its argument's due, where it has one
+module _ (t : ℕ) where
+  pub edit-join : t ≡ 1010 → (102 < 105) × ((s : ℕ) → wantedOf 105 s ∷ [] ≡ wantedByEdit s t)
+  unfolding wantedByEdit wantedOf
+  edit-join h = (omega arith, λ s. rw h)
+
+  pub edit-count : t ≡ 1014 → (102 < 106) × ((s : ℕ) → wantedOf 106 s ∷ [] ≡ wantedByEdit s t)
+  unfolding wantedByEdit wantedOf
+  edit-count h = (omega arith, λ s. rw h)
+
+  module _ (n₀ : t ≡ 1010 → ⊥) (n₁ : t ≡ 1011 → ⊥) where
+    pub edit-part : t < 1014 → (102 < 104) × ((s : ℕ) → wantedOf 104 s ∷ [] ≡ wantedByEdit s t)
+    unfolding wantedByEdit wantedOf
+    edit-part h = (omega arith, λ s. rw (ne-eqb t 1010 n₀, ne-eqb t 1011 n₁, lt-ltb t 1014 h))
+
+    pub edit-extract : 1014 ≤ t → (t ≡ 1014 → ⊥) → (102 < 107) × ((s : ℕ) → wantedOf 107 s ∷ [] ≡ wantedByEdit s t)
+    unfolding wantedByEdit wantedOf
+    edit-extract h n₄ = (omega arith, λ s. rw (ne-eqb t 1010 n₀, ne-eqb t 1011 n₁, le-ltb t 1014 h, ne-eqb t 1014 n₄))

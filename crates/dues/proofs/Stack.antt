@@ -9,7 +9,7 @@ use native.Mathlib.Numerals.{add-one}
 use lib.ListN.{length, getD, take, drop, set, replicate, length-set, length-append, length-take, length-map, drop-of-length-le, List·getD-eq-default}
 use lib.Seq.{getD-set-same, getD-set-other, getD-take, take-suc-set}
 use lib.Dec.{ltb, eqb}
-use borrow.Author.Tests.{eq-eqb, ne-eqb, lt-ltb, le-ltb, le-leb}
+use borrow.Author.Tests.{eq-eqb, ne-eqb, lt-ltb, le-ltb, le-leb, lt-leb}
 use Rattle.words.specs.Reader.{Words, value, andThen, require}
 use Rattle.words.specs.Views.{answer}
 use Rattle.words.specs.declared.Check.{Check}
@@ -131,6 +131,11 @@ argument-due t = refl
 pub number-due : (t : ℕ) → dueOf 104 t ≡ argument aNumber
 unfolding dueOf wantedOf
 number-due t = refl
+
+-- what is no other due is an argument's
+pub wanted-due : (a b : ℕ) → 65 < a → (a ≡ 100 → ⊥) → (a ≡ 101 → ⊥) → (a ≡ 102 → ⊥) → dueOf a b ≡ argument (wantedOf a b)
+unfolding dueOf
+wanted-due a b h h₀ h₁ h₂ = rw (lt-leb a 65 h, ne-eqb a 100 h₀, ne-eqb a 101 h₁, ne-eqb a 102 h₂)
 
 -- PUSHING A ROW, THE LAST FIRST
 

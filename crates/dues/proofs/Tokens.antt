@@ -10,7 +10,7 @@ use borrow.Author.Tests.{eq-eqb, lt-ltb, le-ltb, le-leb, eqb-true, ltb-true}
 use Rattle.words.specs.Reader.{Words, and, value, Reader}
 use Rattle.words.proofs.Laws.{and-both}
 use Rattle.words.proofs.Stretches.{drop-pair}
-use Rattle.grammar.specs.Grammar.{Kind, token, opt, sequence, forms, Grammar}
+use Rattle.grammar.specs.Grammar.{repeat, list, Kind, token, opt, sequence, forms, Grammar}
 use Rattle.grammar.specs.Kinds.{kindOf, allows, allowed, childrenOf, children, isSequenceKind, isSequence}
 use Rattle.tables.specs.Tables.{mapOf, isToken}
 use Rattle.grammar.specs.Values.{valuesOf}
@@ -69,7 +69,7 @@ kind-starts : (k : Kind) → isSequenceKind k ≡ true → allows k 0 ≡ true
 unfolding isSequenceKind allows
 kind-starts (token c) h = let z : _≡_ {A = ℕ} 0 1 = cc in absurd (omega arith)
 kind-starts (opt e) h = refl
-kind-starts (sequence e) h = refl
+kind-starts (sequence style e) h = refl
 kind-starts (forms fs) h = let z : _≡_ {A = ℕ} 0 1 = cc in absurd (omega arith)
 
 sequence-starts : (g : Grammar) (d : ℕ) → isSequence g d ≡ true → allowed g d 0 ≡ true
@@ -80,7 +80,8 @@ kind-ends : (k : Kind) (e v n : ℕ) → mapOf k ≡ 1 → map aTree (duesOf (le
 unfolding mapOf levelsOf childrenOf duesOf
 kind-ends (token c) e v n h = refl
 kind-ends (opt x) e v n h = absurd (omega arith)
-kind-ends (sequence x) e v n h = absurd (omega arith)
+kind-ends (sequence repeat x) e v n h = absurd (omega arith)
+kind-ends (sequence list x) e v n h = absurd (omega arith)
 kind-ends (forms []) e v n h = absurd (omega arith)
 kind-ends (forms (f ∷ fs)) e v n h = absurd (omega arith)
 

@@ -18,7 +18,7 @@ use Rattle.rules.specs.Rules.{Rules}
 use Rattle.rules.specs.Layout.{bit}
 use Rattle.rules.specs.declared.Strategy.{Strategy}
 use Rattle.rules.specs.declared.Strategy.the-variants.{RootOnly, FirstMatch, Exhaustive}
-use Rattle.judgement.specs.Wanted.{Wanted, exactly, aNumber}
+use Rattle.judgement.specs.Wanted.{Wanted, exactly, aNumber, toJoin, aSequence, anything}
 use Rattle.judgement.specs.Typing as Typing
 use Rattle.judgement.specs.Typing.{Due, aTree, aChain, applicationCount, application, argument, Context, inPattern, inReplacement, inCondition, mayStand, meets}
 use Rattle.dues.specs.declared.Place.{Place}
@@ -45,7 +45,7 @@ Known ts n = (length ts ≡ 16) × (n ≤ 16)
 
 -- what is wanted as an argument, by its two words on the stack
 unfoldable pub wantedOf : ℕ → ℕ → Wanted
-wantedOf a b = pick (eqb a 103) (exactly b) aNumber
+wantedOf a b = pick (eqb a 103) (exactly b) (pick (eqb a 104) aNumber (pick (eqb a 105) (toJoin b) (pick (eqb a 106) aSequence anything)))
 
 -- a due, by its two words on the stack
 unfoldable pub dueOf : ℕ → ℕ → Due

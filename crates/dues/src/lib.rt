@@ -2,15 +2,21 @@
 // leave (22 to 24, each with its position), and what tells whether a rule or an operation may be applied.
 //
 // The grammar is seen through its tables.
+use limits::DUE_ANYTHING;
 use limits::DUE_APPLICATION;
 use limits::DUE_ARGUMENT;
 use limits::DUE_COUNT;
+use limits::DUE_JOINED;
 use limits::DUE_NUMBER;
+use limits::DUE_SEQUENCE;
 use limits::MOST_NESTING;
 use rules::Strategy;
+use rules::limits::COUNT;
+use rules::limits::EXTRACT;
 use rules::limits::FIRST_BARE;
 use rules::limits::FIRST_OPERATION;
 use rules::limits::FIRST_TEST;
+use rules::limits::JOIN;
 use rules::limits::LAST_OPERATION;
 use rules::limits::LAST_TEST;
 use rules::limits::MARK_CHAIN;
@@ -18,6 +24,7 @@ use rules::limits::MARK_NEW;
 use rules::limits::MARK_VARIABLE;
 use rules::limits::MOST_APPLICATIONS;
 use rules::limits::MOST_VARIABLES;
+use rules::limits::SELECT;
 use tables::HEADS;
 use tables::ROWS;
 use words::Check;
@@ -35,7 +42,7 @@ ghost use Rattle.tables.specs.Tables.{InHeads, InRows};
 ghost use Rattle.tree.specs.Reading.{tree};
 ghost use Rattle.tree.specs.Views.{InTables, AreTables};
 ghost use Rattle.rules.specs.Rules.{Rules};
-ghost use Rattle.judgement.specs.Wanted.{wants};
+ghost use Rattle.judgement.specs.Wanted.{aNumber, toJoin, wants};
 ghost use Rattle.judgement.specs.Typing as Typing;
 ghost use Rattle.dues.specs.Views.{placeAs, contextOf, Known, wantedOf, dueOf, Pushed, childrenDue, nodeDue, parametersDue, AreRows, Meets, searchesAs, appliesMap, argumentsCounted, tokensDue, TokensPassed};
 
@@ -317,7 +324,7 @@ pub fn meet_tree(
         return meet_new(d, v, n, at);
     }
     if t == MARK_VARIABLE {
-        return meet_argument(heads, DUE_ARGUMENT, d, t, v, known, n, at, sp);
+        return meet_argument(heads, rows, DUE_ARGUMENT, d, t, v, known, n, at, sp);
     }
     meet_chain(d, v, known, n, at, st, sp)
 }
@@ -428,19 +435,40 @@ pub fn meet_count(s: u32, t: u32, v: u32, at: usize, st: &mut [u32], sp: usize) 
     Met::Top(top)
 }
 
+// May a tree of type t be joined to a sequence of type s? It is another of that very type, or an element.
+fn joins(rows: &[u8; ROWS], s: u32, t: u32) -> bool
+    ensures { λ r. ⌜ InRows (now (rows .entry)) (λ g. r ≡ wants g (toJoin s) t) ⌝ }
+{
+    if t == s {
+        return true;
+    }
+    let e = tables::child(rows, s, 0, 0);
+    t == e
+}
+
 // May a variable of type s be the argument that is due as (a, b)?
-fn wanted(heads: &[u32; HEADS], a: u32, b: u32, s: u32) -> bool
-    ensures { λ r. ⌜ InHeads (now (heads .entry)) (λ g. r ≡ wants g (wantedOf a b) s) ⌝ }
+fn wanted(heads: &[u32; HEADS], rows: &[u8; ROWS], a: u32, b: u32, s: u32) -> bool
+    ensures { λ r. ⌜ InTables (now (heads .entry)) (now (rows .entry)) (λ g. r ≡ wants g (wantedOf a b) s) ⌝ }
 {
     if a == DUE_ARGUMENT {
         return s == b;
     }
-    tables::is_number(heads, s)
+    if a == DUE_NUMBER {
+        return tables::is_number(heads, s);
+    }
+    if a == DUE_JOINED {
+        return joins(rows, b, s);
+    }
+    if a == DUE_SEQUENCE {
+        return tables::is_sequence(heads, s);
+    }
+    true
 }
 
 // An argument, due as (a, b).
 pub fn meet_argument(
     heads: &[u32; HEADS],
+    rows: &[u8; ROWS],
     a: u32,
     b: u32,
     t: u32,
@@ -451,7 +479,7 @@ pub fn meet_argument(
     sp: usize,
 ) -> Met
     requires { ⌜ Known (now known) n × (at < 2 ^ 40) ⌝ }
-    ensures { λ r. ⌜ InHeads (now (heads .entry)) (λ g. (rules : Rules) (here : Typing.Place) (st : Words) → Meets r (take n (now (known .entry))) st sp st (Typing.meets g rules here (Typing.argument (wantedOf a b)) (take n (now (known .entry))) t v at)) ⌝ }
+    ensures { λ r. ⌜ InTables (now (heads .entry)) (now (rows .entry)) (λ g. (rules : Rules) (here : Typing.Place) (st : Words) → Meets r (take n (now (known .entry))) st sp st (Typing.meets g rules here (Typing.argument (wantedOf a b)) (take n (now (known .entry))) t v at)) ⌝ }
 {
     if t != MARK_VARIABLE {
         return Met::Bad(23, at);
@@ -461,7 +489,7 @@ pub fn meet_argument(
         Check::Refused(no, p) => Met::Bad(no, p),
         Check::Passed(p) => {
             let s = type_of(known, n, v);
-            let ok = wanted(heads, a, b, s);
+            let ok = wanted(heads, rows, a, b, s);
             if !ok {
                 return Met::Bad(23, at + 1);
             }
@@ -499,9 +527,28 @@ pub fn applies_operation(here: Place, o: u32) -> bool
 {
     match here {
         Place::Pattern => false,
-        Place::Replacement => between(FIRST_OPERATION, LAST_OPERATION, o),
+        Place::Replacement => {
+            let numeric = between(FIRST_OPERATION, LAST_OPERATION, o);
+            if numeric {
+                return true;
+            }
+            between(JOIN, EXTRACT, o)
+        }
         Place::Condition => between(FIRST_TEST, LAST_TEST, o),
     }
+}
+
+// May the operation be applied to a scope of type s? Those on sequences want one as scope, but length puts its count into a number.
+pub fn operates_on(heads: &[u32; HEADS], o: u32, s: u32) -> bool
+    ensures { λ r. ⌜ InHeads (now (heads .entry)) (λ g. r ≡ Typing.operatesOn g o s) ⌝ }
+{
+    if o < JOIN {
+        return tables::is_number(heads, s);
+    }
+    if o == COUNT {
+        return tables::is_number(heads, s);
+    }
+    tables::is_sequence(heads, s)
 }
 
 // May a rule be applied to a scope of type s? Without a reach only where that is its target.
@@ -515,10 +562,37 @@ pub fn fits_scope(strategy: Strategy, target: u32, s: u32) -> bool
     }
 }
 
-// The pair of an operation that is usable.
-pub fn meet_operation(t: u32, v: u32, at: usize, st: &mut [u32], sp: usize) -> Met
+// THE PAIR OF AN OPERATION
+
+// An operation with one argument, due as (a, b).
+fn meet_one(a: u32, b: u32, v: u32, at: usize, st: &mut [u32], sp: usize) -> Met
+    requires { ⌜ (102 < a) × (sp < 890) × (at < 2 ^ 40) × (length (now st) ≡ 2048) ⌝ }
+    ensures { λ r. ⌜ ((Γ : Typing.Context) → Meets r Γ (now (st .entry)) sp (now (st .exit)) (argumentsCounted (wantedOf a b ∷ []) Γ v at)) ⌝ }
+{
+    if v != 1 {
+        return Met::Bad(22, at + 1);
+    }
+    push(st, sp, a, b);
+    Met::Top(sp + 1)
+}
+
+// An operation with two numbers as arguments.
+fn meet_two_numbers(v: u32, at: usize, st: &mut [u32], sp: usize) -> Met
     requires { ⌜ (sp < 890) × (at < 2 ^ 40) × (length (now st) ≡ 2048) ⌝ }
-    ensures { λ r. ⌜ ((Γ : Typing.Context) → Meets r Γ (now (st .entry)) sp (now (st .exit)) (argumentsCounted (Typing.wantedByOperation t) Γ v at)) ⌝ }
+    ensures { λ r. ⌜ ((Γ : Typing.Context) → Meets r Γ (now (st .entry)) sp (now (st .exit)) (argumentsCounted (aNumber ∷ aNumber ∷ []) Γ v at)) ⌝ }
+{
+    if v != 2 {
+        return Met::Bad(22, at + 1);
+    }
+    push(st, sp, DUE_NUMBER, 0);
+    push(st, sp + 1, DUE_NUMBER, 0);
+    Met::Top(sp + 2)
+}
+
+// An operation on numbers: round and truncate have no argument, the others one.
+fn meet_numeric(t: u32, v: u32, at: usize, st: &mut [u32], sp: usize) -> Met
+    requires { ⌜ (t < 1010) × (sp < 890) × (at < 2 ^ 40) × (length (now st) ≡ 2048) ⌝ }
+    ensures { λ r. ⌜ ((s : ℕ) (Γ : Typing.Context) → Meets r Γ (now (st .entry)) sp (now (st .exit)) (argumentsCounted (Typing.wantedByOperation s t) Γ v at)) ⌝ }
 {
     let bare = between(FIRST_BARE, LAST_OPERATION, t);
     if bare {
@@ -527,9 +601,45 @@ pub fn meet_operation(t: u32, v: u32, at: usize, st: &mut [u32], sp: usize) -> M
         }
         return Met::Top(sp);
     }
-    if v != 1 {
-        return Met::Bad(22, at + 1);
+    meet_one(DUE_NUMBER, 0, v, at, st, sp)
+}
+
+// The first word of what an operation on a sequence makes due, if it has one argument. The second is the scope's type, at which only join looks.
+fn due_of_edit(t: u32) -> u32
+    requires { ⌜ (t ≡ 1011 → ⊥) ⌝ }
+    ensures { λ r. ⌜ (102 < r) × ((s : ℕ) → wantedOf r s ∷ [] ≡ Typing.wantedByEdit s t) ⌝ }
+{
+    if t == JOIN {
+        return DUE_JOINED;
     }
-    push(st, sp, DUE_NUMBER, 0);
-    Met::Top(sp + 1)
+    if t < COUNT {
+        return DUE_NUMBER;
+    }
+    if t == COUNT {
+        return DUE_SEQUENCE;
+    }
+    DUE_ANYTHING
+}
+
+// An operation on a sequence: select has two arguments, the others one.
+fn meet_edit(s: u32, t: u32, v: u32, at: usize, st: &mut [u32], sp: usize) -> Met
+    requires { ⌜ (sp < 890) × (at < 2 ^ 40) × (length (now st) ≡ 2048) ⌝ }
+    ensures { λ r. ⌜ ((Γ : Typing.Context) → Meets r Γ (now (st .entry)) sp (now (st .exit)) (argumentsCounted (Typing.wantedByEdit s t) Γ v at)) ⌝ }
+{
+    if t == SELECT {
+        return meet_two_numbers(v, at, st, sp);
+    }
+    let a = due_of_edit(t);
+    meet_one(a, s, v, at, st, sp)
+}
+
+// An operation that is usable on a scope of type s.
+pub fn meet_operation(s: u32, t: u32, v: u32, at: usize, st: &mut [u32], sp: usize) -> Met
+    requires { ⌜ (sp < 890) × (at < 2 ^ 40) × (length (now st) ≡ 2048) ⌝ }
+    ensures { λ r. ⌜ ((Γ : Typing.Context) → Meets r Γ (now (st .entry)) sp (now (st .exit)) (argumentsCounted (Typing.wantedByOperation s t) Γ v at)) ⌝ }
+{
+    if t < JOIN {
+        return meet_numeric(t, v, at, st, sp);
+    }
+    meet_edit(s, t, v, at, st, sp)
 }

@@ -50,7 +50,7 @@ module _ (g : Grammar) (known : List Bool) (below : (t : ℕ) → getD known t f
   unfolding finishes allows childrenOf
   kind-finite t (token c) e h = node-of g t 0 (token c) e (leb·zero (pick (eqb c 2) greatestNumber greatestName)) none
   kind-finite t (opt c) e h = node-of g t 1 (opt c) e refl none
-  kind-finite t (sequence c) e h = node-of g t 1 (sequence c) e refl none
+  kind-finite t (sequence style c) e h = node-of g t 1 (sequence style c) e refl none
   kind-finite t (forms fs) e h = let u = any-finite fs h in node-of g t (u .0) (forms fs) e (lt-ltb (u .0) (length fs) (u .1)) (u .2)
 
 rounds-finite : (g : Grammar) (i t : ℕ) → getD (rounds i g) t false ≡ true → Finite g (t ∷ [])
@@ -83,7 +83,7 @@ module _ (a b : List Bool) (w : Within a b) where
   unfolding finishes
   finishes-within (token c) e = refl
   finishes-within (opt c) e = refl
-  finishes-within (sequence c) e = refl
+  finishes-within (sequence style c) e = refl
   finishes-within (forms fs) e = any-within fs e
 
   round-within : (g : Grammar) → Within (round a g) (round b g)
@@ -181,7 +181,7 @@ node-finishes : (known : List Bool) (k : Kind) (t v : ℕ) → allows k v ≡ tr
 unfolding finishes allows childrenOf
 node-finishes known (token c) t v a e = refl
 node-finishes known (opt c) t v a e = refl
-node-finishes known (sequence c) t v a e = refl
+node-finishes known (sequence style c) t v a e = refl
 node-finishes known (forms fs) t v a e = any-at known fs v (ltb-true v (length fs) a) e
 
 both-true : (a b : Bool) → a ≡ true → b ≡ true → and a b ≡ true

@@ -15,7 +15,7 @@ use Rattle.words.specs.declared.Got.{Got}
 use Rattle.words.specs.declared.Got.the-variants.{Word, Bad}
 use Rattle.words.specs.Views.{answer, got}
 use Rattle.words.proofs.Laws.{read-word, read-bad, answer-passed, answer-refused, answer-then, in-value, many-none, many-bad, many-more, many-length, and-true, and-assoc, or-false, or-assoc, loop-refused, loop-more}
-use Rattle.grammar.specs.Grammar.{Kind, token, opt, sequence, forms, Grammar, isLiteral, typesOf, field, element, form, kind, allKnown, anyFormKnown, finishes, round, rounds, finite, finiteRecords, grammar, readGrammar, grammarFits, checkGrammar}
+use Rattle.grammar.specs.Grammar.{Style, repeat, list, mapIn, Kind, token, opt, sequence, forms, Grammar, isLiteral, typesOf, field, element, form, kind, allKnown, anyFormKnown, finishes, round, rounds, finite, finiteRecords, grammar, readGrammar, grammarFits, checkGrammar}
 use Rattle.grammar.specs.declared.Seen.{Seen}
 use Rattle.grammar.specs.declared.Seen.the-variants.{Whole, Fault}
 use Rattle.grammar.specs.Views.{seenElement, seenElements, seenForm, seenForms, seenKind, closedOf, filled, flagsAfter}
@@ -153,9 +153,9 @@ finishes-opt : (known : List Bool) (c : ℕ) → finishes known (opt c) ≡ true
 unfolding finishes
 finishes-opt known c = refl
 
-finishes-sequence : (known : List Bool) (c : ℕ) → finishes known (sequence c) ≡ true
+finishes-sequence : (known : List Bool) (style : Style) (c : ℕ) → finishes known (sequence style c) ≡ true
 unfolding finishes
-finishes-sequence known c = refl
+finishes-sequence known style c = refl
 
 module _ (ws : Words) (known : List Bool) (n at : ℕ) (m : Got) (e : m ≡ got (word 10 ws at)) where
   pub kind-bad : {no′ p : ℕ} → m ≡ Bad no′ p → Fault no′ p ≡ seenKind known (kind ws n at)
@@ -171,9 +171,10 @@ module _ (ws : Words) (known : List Bool) (n at : ℕ) (m : Got) (e : m ≡ got 
     unfolding kind
     kind-opt h g d s f = f ∙ rw (d, read-word (word 10 ws at) m e b, h) (closed-view known (field ws 0 (n - 1) next) opt (finishes-opt known))
 
-    pub kind-sequence : w ≡ 4 → (g : Got) → g ≡ got (field ws 0 (n - 1) next) → (s : Seen) → s ≡ closedOf g → s ≡ seenKind known (kind ws n at)
+    pub kind-sequence : (style : Style) → w ≡ mapIn style → (g : Got) → g ≡ got (field ws 0 (n - 1) next) → (s : Seen) → s ≡ closedOf g → s ≡ seenKind known (kind ws n at)
     unfolding kind
-    kind-sequence h g d s f = f ∙ rw (d, read-word (word 10 ws at) m e b, h) (closed-view known (field ws 0 (n - 1) next) sequence (finishes-sequence known))
+    kind-sequence repeat h g d s f = f ∙ rw (d, read-word (word 10 ws at) m e b, h) (closed-view known (field ws 0 (n - 1) next) (sequence repeat) (finishes-sequence known repeat))
+    kind-sequence list h g d s f = f ∙ rw (d, read-word (word 10 ws at) m e b, h) (closed-view known (field ws 0 (n - 1) next) (sequence list) (finishes-sequence known list))
 
     pub kind-forms-bad : w ≡ 8 → (g : Got) → g ≡ got (field ws 1 16 next) → {no′ p : ℕ} → g ≡ Bad no′ p → Fault no′ p ≡ seenKind known (kind ws n at)
     unfolding kind
@@ -183,9 +184,9 @@ module _ (ws : Words) (known : List Bool) (n at : ℕ) (m : Got) (e : m ≡ got 
     unfolding kind
     kind-forms h g d {k} {q} f s i = i ∙ rw (read-word (word 10 ws at) m e b, h, read-word (field ws 1 16 next) g d f) (forms-view known (many k (form ws n) q))
 
-    pub kind-none : (w ≡ 1 → ⊥) → (w ≡ 2 → ⊥) → (w ≡ 4 → ⊥) → (w ≡ 8 → ⊥) → Fault 11 at ≡ seenKind known (kind ws n at)
+    pub kind-none : (w ≡ 1 → ⊥) → (w ≡ 2 → ⊥) → (w ≡ 4 → ⊥) → (w ≡ 8 → ⊥) → (w ≡ 16 → ⊥) → Fault 11 at ≡ seenKind known (kind ws n at)
     unfolding kind
-    kind-none h₁ h₂ h₄ h₈ = rw (read-word (word 10 ws at) m e b, ne-eqb w 1 h₁, ne-eqb w 2 h₂, ne-eqb w 4 h₄, ne-eqb w 8 h₈)
+    kind-none h₁ h₂ h₄ h₈ h₁₆ = rw (read-word (word 10 ws at) m e b, ne-eqb w 1 h₁, ne-eqb w 2 h₂, ne-eqb w 4 h₄, ne-eqb w 8 h₈, ne-eqb w 16 h₁₆)
 
 -- THE RECORDS
 
@@ -322,7 +323,7 @@ module _ (a b : List Bool) (same : (t : ℕ) → getD a t false ≡ getD b t fal
   unfolding finishes
   finishes-same (token c) = refl
   finishes-same (opt c) = refl
-  finishes-same (sequence c) = refl
+  finishes-same (sequence style c) = refl
   finishes-same (forms fs) = any-same fs
 
   pub round-same : (g : Grammar) → round a g ≡ round b g

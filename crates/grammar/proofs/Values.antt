@@ -17,5 +17,5 @@ values-allow (token c) v = go (eqb c 2)
     go true = lib.Dec.leb·suc-suc v greatestNumber
     go false = lib.Dec.leb·suc-suc v greatestName
 values-allow (opt e) v = lib.Dec.leb·suc-suc v 1
-values-allow (sequence e) v = lib.Dec.leb·suc-suc v 1
+values-allow (sequence style e) v = lib.Dec.leb·suc-suc v 1
 values-allow (forms fs) v = refl

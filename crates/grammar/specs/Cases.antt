@@ -25,23 +25,31 @@ inputs =
     ∷ (3 ∷ 8 ∷ 1 ∷ 1 ∷ 1 ∷ 4 ∷ [])
     ∷ (3 ∷ 8 ∷ 1 ∷ 1 ∷ 1 ∷ 4 ∷ 2 ∷ 1 ∷ [])
     ∷ (3 ∷ 8 ∷ 1 ∷ 1 ∷ 1 ∷ 4 ∷ 2 ∷ 1 ∷ 2 ∷ 0 ∷ [])
+    -- program of list number; ended early
+    ∷ (3 ∷ 8 ∷ 1 ∷ 1 ∷ 1 ∷ 16 ∷ 2 ∷ 1 ∷ 2 ∷ [])
+    ∷ (3 ∷ 8 ∷ 1 ∷ 1 ∷ 1 ∷ 16 ∷ [])
     -- counts of types: none, 65
     ∷ (0 ∷ [])
     ∷ (65 ∷ [])
-    -- maps: none, two bits, a bit that is not listed
+    -- maps: none, two bits, a list's and another, a bit that is not listed
     ∷ (1 ∷ 0 ∷ [])
     ∷ (1 ∷ 3 ∷ 1 ∷ [])
-    ∷ (1 ∷ 16 ∷ 1 ∷ [])
+    ∷ (1 ∷ 17 ∷ 1 ∷ [])
+    ∷ (1 ∷ 20 ∷ 0 ∷ [])
+    ∷ (1 ∷ 32 ∷ 1 ∷ [])
     -- classes 0 to 4
     ∷ (1 ∷ 1 ∷ 0 ∷ [])
     ∷ (1 ∷ 1 ∷ 1 ∷ [])
     ∷ (1 ∷ 1 ∷ 3 ∷ [])
     ∷ (1 ∷ 1 ∷ 4 ∷ [])
-    -- an opt and a sequence of a type that is not there, of a literal, of themselves
+    -- an opt, a repeat and a list of a type that is not there, of a literal, of themselves
     ∷ (1 ∷ 2 ∷ 1 ∷ [])
+    ∷ (1 ∷ 16 ∷ 1 ∷ [])
     ∷ (1 ∷ 4 ∷ 65536 ∷ [])
+    ∷ (1 ∷ 16 ∷ 65536 ∷ [])
     ∷ (1 ∷ 2 ∷ 0 ∷ [])
     ∷ (1 ∷ 4 ∷ 0 ∷ [])
+    ∷ (1 ∷ 16 ∷ 0 ∷ [])
     -- forms: none, 17, an empty one, nine elements
     ∷ (1 ∷ 8 ∷ 0 ∷ [])
     ∷ (1 ∷ 8 ∷ 17 ∷ [])
@@ -72,8 +80,12 @@ outputs =
     ∷ Refused 10 6
     ∷ Refused 10 8
     ∷ Refused 10 9
+    ∷ Passed 9
+    ∷ Refused 10 6
     ∷ Refused 11 0
     ∷ Refused 11 0
+    ∷ Refused 11 1
+    ∷ Refused 11 1
     ∷ Refused 11 1
     ∷ Refused 11 1
     ∷ Refused 11 1
@@ -83,6 +95,9 @@ outputs =
     ∷ Refused 11 2
     ∷ Refused 11 2
     ∷ Refused 11 2
+    ∷ Refused 11 2
+    ∷ Refused 11 2
+    ∷ Passed 3
     ∷ Passed 3
     ∷ Passed 3
     ∷ Refused 11 2

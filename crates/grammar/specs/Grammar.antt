@@ -8,13 +8,22 @@ use lib.Dec.{ltb, leb, eqb}
 use Rattle.words.specs.Reader.{Words, pick, and, or, between, Read, value, refused, Reader, andThen, _>>=_, _>>_, return, refuse, require, word, wordIn, many, end}
 use Rattle.grammar.specs.Limits.{mostGrammarWords, mostTypes, mostForms, mostElements, firstLiteral, lastLiteral}
 
+-- the two kinds of sequence: the paper's repeat, and its list, "a repeat in all but its bit, nesting included, its commas having no nodes"
+pub data Style : Type 0 where
+  repeat list : Style
+
+-- the map of its record: "bit 2, repeat"; "the list, bit 4"
+abbrev pub mapIn : Style → ℕ
+mapIn repeat = 4
+mapIn list = 16
+
 -- what the trees of a type look like
 pub data Kind : Type 0 where
   -- a token's class: 1 name, 2 number, 3 string
   token : ℕ → Kind
   opt : ℕ → Kind
-  -- the paper's repeat
-  sequence : ℕ → Kind
+  -- a sequence of trees of its element's type
+  sequence : Style → ℕ → Kind
   -- for each form the types of its elements, literals left out
   forms : List (List ℕ) → Kind
 
@@ -58,12 +67,15 @@ module _ (ws : Words) where
         return (opt e))
       (pick (eqb m 4) (do
         e ← field 0 (n - 1)
-        return (sequence e))
+        return (sequence repeat e))
       (pick (eqb m 8) (do
         k ← field 1 mostForms
         fs ← many k (form n)
         return (forms fs))
-      (λ next. refused 11 at)))))
+      (pick (eqb m 16) (do
+        e ← field 0 (n - 1)
+        return (sequence list e))
+      (λ next. refused 11 at))))))
 
   -- "Word 0 is the number of types, 1 to 64; the types' records follow"
   unfoldable pub grammar : Reader Grammar
@@ -89,7 +101,7 @@ anyFormKnown known (f ∷ fs) = or (allKnown known f) (anyFormKnown known fs)
 unfoldable pub finishes : List Bool → Kind → Bool
 finishes known (token c) = true
 finishes known (opt e) = true
-finishes known (sequence e) = true
+finishes known (sequence style e) = true
 finishes known (forms fs) = anyFormKnown known fs
 
 -- one round over all types

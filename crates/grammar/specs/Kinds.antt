@@ -17,7 +17,7 @@ kindOf g t = getD g t (forms [])
 unfoldable pub allows : Kind → ℕ → Bool
 allows (token c) v = leb v (pick (eqb c 2) greatestNumber greatestName)
 allows (opt e) v = leb v 1
-allows (sequence e) v = leb v 1
+allows (sequence style e) v = leb v 1
 allows (forms fs) v = ltb v (length fs)
 
 -- may a node of the type have the value?
@@ -29,7 +29,7 @@ allowed g t v = allows (kindOf g t) v
 unfoldable pub childrenOf : Kind → ℕ → ℕ → List ℕ
 childrenOf (token c) t v = []
 childrenOf (opt e) t v = pick (eqb v 0) (e ∷ []) []
-childrenOf (sequence e) t v = pick (eqb v 0) (e ∷ t ∷ []) []
+childrenOf (sequence style e) t v = pick (eqb v 0) (e ∷ t ∷ []) []
 childrenOf (forms fs) t v = getD fs v []
 
 -- the same for a type of the grammar
@@ -40,7 +40,7 @@ children g t v = childrenOf (kindOf g t) t v
 unfoldable pub isSequenceKind : Kind → Bool
 isSequenceKind (token c) = false
 isSequenceKind (opt e) = false
-isSequenceKind (sequence e) = true
+isSequenceKind (sequence style e) = true
 isSequenceKind (forms fs) = false
 
 -- is the type a sequence?
@@ -51,7 +51,7 @@ isSequence g t = isSequenceKind (kindOf g t)
 unfoldable pub isNumberKind : Kind → Bool
 isNumberKind (token c) = eqb c 2
 isNumberKind (opt e) = false
-isNumberKind (sequence e) = false
+isNumberKind (sequence style e) = false
 isNumberKind (forms fs) = false
 
 -- is the type a number token?

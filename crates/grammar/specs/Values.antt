@@ -10,5 +10,5 @@ use Rattle.grammar.specs.Grammar.{Kind, token, opt, sequence, forms}
 unfoldable pub valuesOf : Kind → ℕ
 valuesOf (token c) = pick (eqb c 2) (greatestNumber + 1) (greatestName + 1)
 valuesOf (opt e) = 2
-valuesOf (sequence e) = 2
+valuesOf (sequence style e) = 2
 valuesOf (forms fs) = length fs

@@ -181,6 +181,10 @@ fn kind(ws: &[u32], known: &[bool], n: u32, at: usize) -> Seen
                     }
                 }
             }
+            if w == 16 {
+                let g = field(ws, 0, n - 1, next);
+                return closed(g);
+            }
             Seen::Fault(11, at)
         }
     }

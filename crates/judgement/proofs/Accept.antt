@@ -62,7 +62,7 @@ module _ (g : Grammar) (rules : Rules) (here : Place) where
   meets-steady aChain Γ t v = require-steady (eqb t markChain) 23 0 _ (require-steady (ltb v (length Γ)) 22 1 _ (leaves-steady Γ (applicationCount (getD Γ v 0) ∷ [])))
   meets-steady (applicationCount s) Γ t v = require-steady (between 1 mostApplications t) 23 0 _ (require-steady (eqb v 0) 23 1 _ (leaves-steady Γ (replicate t (application s))))
   meets-steady (application s) Γ t v =
-      require-steady (usable g rules here s t) 22 0 _ (require-steady (eqb v (length (wantedBy rules t))) 22 1 _ (leaves-steady Γ (map argument (wantedBy rules t))))
+      require-steady (usable g rules here s t) 22 0 _ (require-steady (eqb v (length (wantedBy rules s t))) 22 1 _ (leaves-steady Γ (map argument (wantedBy rules s t))))
   meets-steady (argument w) Γ t v =
       require-steady (eqb t markVariable) 23 0 _ (require-steady (ltb v (length Γ)) 22 1 _ (require-steady (wants g w (getD Γ v 0)) 23 1 _ (leaves-steady Γ [])))
 

@@ -7,17 +7,18 @@ use mathlib.Core.Option.{Option, none, some}
 use native.Mathlib.Omega.{arith}
 use lib.ListN.{length, getD, getElem?}
 use lib.Dec.{ltb, eqb}
-use borrow.Author.Tests.{lt-ltb, ltb-true, ltb-false, le-leb, lt-leb, eqb-true, eqb-false, eq-eqb, ne-eqb}
+use borrow.Author.Tests.{ltb-true, ltb-false, le-leb, lt-leb, eqb-true, eqb-false, eq-eqb, ne-eqb}
 use Rattle.words.specs.Reader.{pick, and}
 use Rattle.words.proofs.Laws.{there-some, past-none}
 use Rattle.grammar.specs.Grammar.{Grammar}
 use Rattle.grammar.specs.Kinds.{isNumber}
 use Rattle.rules.specs.Limits.{mostRules}
-use Rattle.rules.specs.Rules.{Applied, rule, operation, nothing, searches, Rule, Rules, operations, applied}
-use Rattle.judgement.specs.Wanted.{Wanted, exactly}
-use Rattle.judgement.specs.Typing.{isSome as present, Place, inPattern, inReplacement, inCondition, appliesRule, appliesOperation, fitsScope, noRule, usable, wantedByOperation, wantedBy}
+use Rattle.rules.specs.Rules.{Applied, rule, operation, editing, nothing, searches, Rule, Rules, operations, applied}
+use Rattle.rules.proofs.Numbers.{rule-number}
+use Rattle.judgement.specs.Wanted.{Wanted, exactly, scopeFits, wantedIn}
+use Rattle.judgement.specs.Typing.{isSome as present, Place, inPattern, inReplacement, inCondition, appliesRule, appliesOperation, fitsScope, noRule, operatesOn, usable, wantedByEdit, wantedByOperation, wantedBy}
 use Rattle.judgement.specs.WellTyped.{Types, Role, replacing, testing}
-use Rattle.judgement.specs.Tested.{someIs, argumentsOf, operatesOf, usableOf, fitsOf, appliesOf}
+use Rattle.judgement.specs.Tested.{someIs, argumentsOf, operatesOf, isReplacing, usableOf, fitsOf, appliesOf}
 
 -- the role that applications have at a place
 abbrev pub Plays : Place → Role → Type 0
@@ -54,40 +55,42 @@ scope-same r s = rw (eqb-sym (r .target) s)
 
 -- OPERATIONS
 
--- the arguments that the operation of the number a wants, if the check lets it stand here
-abbrev operatesAt : Place → ℕ → Option (List Wanted)
-operatesAt here a = pick (appliesOperation here a) (some (wantedByOperation a)) none
-
-far : (here : Place) (a : ℕ) → 1009 < a → appliesOperation here a ≡ false
+far : (here : Place) (a : ℕ) → 1015 < a → appliesOperation here a ≡ false
 unfolding appliesOperation
 far inPattern a h = refl
-far inReplacement a h = rw (le-leb 1000 a (omega arith), lt-leb a 1005 (omega arith))
+far inReplacement a h = rw (le-leb 1000 a (omega arith), lt-leb a 1005 (omega arith), le-leb 1010 a (omega arith), lt-leb a 1015 (omega arith))
 far inCondition a h = rw (le-leb 1008 a (omega arith), lt-leb a 1009 (omega arith))
 
 near : (here : Place) (a : ℕ) → a < 1000 → appliesOperation here a ≡ false
 unfolding appliesOperation
 near inPattern a h = refl
-near inReplacement a h = rw (lt-leb 1000 a (omega arith))
+near inReplacement a h = rw (lt-leb 1000 a (omega arith), lt-leb 1010 a (omega arith))
 near inCondition a h = rw (lt-leb 1008 a (omega arith))
 
--- the check and the test say the same of each of these, the first of which has the number k; behind them there is no operation
-abbrev Agree : Place → Role → List Applied → ℕ → Type 0
-Agree here role [] k = 1009 < k
-Agree here role (rule m ∷ more) k = ⊥
-Agree here role (operation o ∷ more) k = (operatesOf role o ≡ operatesAt here k) × Agree here role more (k + 1)
-Agree here role (nothing ∷ more) k = (none ≡ operatesAt here k) × Agree here role more (k + 1)
+module _ (g : Grammar) (here : Place) (role : Role) (s : ℕ) where
+  -- the arguments that the operation of the number a wants, if the check lets it stand here
+  abbrev operatesAt : ℕ → Option (List Wanted)
+  operatesAt a = pick (appliesOperation here a) (some (wantedByOperation s a)) none
 
-operations-agree : (here : Place) (role : Role) → Plays here role → Agree here role operations 1000
-unfolding appliesOperation operatesOf operations
-operations-agree inReplacement replacing p = (refl, (refl, (refl, (refl, (refl, (refl, (refl, (refl, (refl, (refl, omega arith))))))))))
-operations-agree inCondition testing p = (refl, (refl, (refl, (refl, (refl, (refl, (refl, (refl, (refl, (refl, omega arith))))))))))
-operations-agree inPattern role p = absurd p
-operations-agree inReplacement testing p = absurd p
-operations-agree inCondition replacing p = absurd p
+  -- what the check and the test say of the operation of the number k: its scope and its arguments, if it may stand here
+  abbrev Same : ℕ → Bool → Option (List Wanted) → Type 0
+  Same k scope wanted = (operatesOn g k s ≡ scope) × (wanted ≡ operatesAt k)
 
-applied-rule : (a : ℕ) → a < 1000 → applied a ≡ rule a
-unfolding applied
-applied-rule a h = rw (lt-ltb a 1000 h, applied)
+  -- they say the same of each of these, the first of which has the number k; behind them there is no operation
+  abbrev Agree : List Applied → ℕ → Type 0
+  Agree [] k = 1015 < k
+  Agree (rule m ∷ more) k = ⊥
+  Agree (operation o ∷ more) k = Same k (isNumber g s) (operatesOf role o) × Agree more (k + 1)
+  Agree (editing o ∷ more) k = Same k (scopeFits g o s) (pick (isReplacing role) (some (wantedIn o s)) none) × Agree more (k + 1)
+  Agree (nothing ∷ more) k = Same k (operatesOn g k s) none × Agree more (k + 1)
+
+operations-agree : (g : Grammar) (here : Place) (role : Role) (s : ℕ) → Plays here role → Agree g here role s operations 1000
+unfolding appliesOperation operatesOn wantedByEdit wantedByOperation operatesOf isReplacing scopeFits wantedIn operations
+operations-agree g inReplacement replacing s p = ((refl, refl), ((refl, refl), ((refl, refl), ((refl, refl), ((refl, refl), ((refl, refl), ((refl, refl), ((refl, refl), ((refl, refl), ((refl, refl), ((refl, refl), ((refl, refl), ((refl, refl), ((refl, refl), ((refl, refl), ((refl, refl), omega arith))))))))))))))))
+operations-agree g inCondition testing s p = ((refl, refl), ((refl, refl), ((refl, refl), ((refl, refl), ((refl, refl), ((refl, refl), ((refl, refl), ((refl, refl), ((refl, refl), ((refl, refl), ((refl, refl), ((refl, refl), ((refl, refl), ((refl, refl), ((refl, refl), ((refl, refl), omega arith))))))))))))))))
+operations-agree g inPattern role s p = absurd p
+operations-agree g inReplacement testing s p = absurd p
+operations-agree g inCondition replacing s p = absurd p
 
 -- a rule that is not there
 absent : (g : Grammar) (rules : Rules) (Γ : Types) (role : Role) (s : ℕ) (xs : List ℕ) (a : ℕ) → getElem? rules a ≡ none → appliesOf g rules Γ role s xs (rule a) ≡ false
@@ -96,14 +99,14 @@ absent g rules Γ role s xs a q = rw q
 
 module _ (g : Grammar) (rules : Rules) (here : Place) (role : Role) (Γ : Types) (s : ℕ) (xs : List ℕ) where
   abbrev operationFits : ℕ → Bool
-  operationFits a = and (and (appliesOperation here a) (isNumber g s)) (argumentsOf g Γ xs (wantedByOperation a))
+  operationFits a = and (and (appliesOperation here a) (operatesOn g a s)) (argumentsOf g Γ xs (wantedByOperation s a))
 
   -- the test of what the check lets stand here
-  tested-at : (a : ℕ) → isNumber g s && someIs (operatesAt here a) (argumentsOf g Γ xs) ≡ operationFits a
+  tested-at : (k : ℕ) (scope : Bool) (wanted : Option (List Wanted)) → Same g here role s k scope wanted → scope && someIs wanted (argumentsOf g Γ xs) ≡ operationFits k
   unfolding someIs
-  tested-at a = go (appliesOperation here a) (isNumber g s)
+  tested-at k scope wanted h = rw (sym (h .0), h .1) (go (appliesOperation here k) (operatesOn g k s))
     where
-      go : (b n : Bool) → n && someIs (pick b (some (wantedByOperation a)) none) (argumentsOf g Γ xs) ≡ and (and b n) (argumentsOf g Γ xs (wantedByOperation a))
+      go : (b n : Bool) → n && someIs (pick b (some (wantedByOperation s k)) none) (argumentsOf g Γ xs) ≡ and (and b n) (argumentsOf g Γ xs (wantedByOperation s k))
       go true true = refl
       go true false = refl
       go false true = refl
@@ -114,17 +117,25 @@ module _ (g : Grammar) (rules : Rules) (here : Place) (role : Role) (Γ : Types)
   nowhere true = refl
   nowhere false = refl
 
-  agree-at : (l : List Applied) (k i : ℕ) → Agree here role l k → appliesOf g rules Γ role s xs (getD l i nothing) ≡ operationFits (k + i)
+  -- an operation on sequences
+  in-place : (r n : Bool) (ws : List Wanted) → r && (n && argumentsOf g Γ xs ws) ≡ n && someIs (pick r (some ws) none) (argumentsOf g Γ xs)
+  unfolding someIs
+  in-place true true ws = refl
+  in-place true false ws = refl
+  in-place false true ws = refl
+  in-place false false ws = refl
+
+  agree-at : (l : List Applied) (k i : ℕ) → Agree g here role s l k → appliesOf g rules Γ role s xs (getD l i nothing) ≡ operationFits (k + i)
   unfolding appliesOf
   agree-at [] k i h = rw (far here (k + i) (omega arith))
   agree-at (rule m ∷ more) k i h = absurd h
-  agree-at (operation o ∷ more) k zero h =
-      let z : k + 0 ≡ k = omega arith in
-      rw (z, h .0) (tested-at k)
+  agree-at (operation o ∷ more) k zero h = let z : k + 0 ≡ k = omega arith in rw z (tested-at k (isNumber g s) (operatesOf role o) (h .0))
   agree-at (operation o ∷ more) k (suc i) h = let z : k + suc i ≡ k + 1 + i = omega arith in rw z (agree-at more (k + 1) i (h .1))
-  agree-at (nothing ∷ more) k zero h =
+  agree-at (editing o ∷ more) k zero h =
       let z : k + 0 ≡ k = omega arith in
-      rw z (nowhere (isNumber g s) ∙ ap (λ o. isNumber g s && someIs o (argumentsOf g Γ xs)) (h .0) ∙ tested-at k)
+      rw z (in-place (isReplacing role) (scopeFits g o s) (wantedIn o s) ∙ tested-at k (scopeFits g o s) (pick (isReplacing role) (some (wantedIn o s)) none) (h .0))
+  agree-at (editing o ∷ more) k (suc i) h = let z : k + suc i ≡ k + 1 + i = omega arith in rw z (agree-at more (k + 1) i (h .1))
+  agree-at (nothing ∷ more) k zero h = let z : k + 0 ≡ k = omega arith in rw z (nowhere (operatesOn g k s) ∙ tested-at k (operatesOn g k s) none (h .0))
   agree-at (nothing ∷ more) k (suc i) h = let z : k + suc i ≡ k + 1 + i = omega arith in rw z (agree-at more (k + 1) i (h .1))
 
   module _ (plays : Plays here role) (few : length rules ≤ mostRules) (a : ℕ) where
@@ -134,7 +145,7 @@ module _ (g : Grammar) (rules : Rules) (here : Place) (role : Role) (Γ : Types)
         ≡ and (and (appliesRule here (getD rules a noRule)) (fitsScope (getD rules a noRule) s)) (argumentsOf g Γ xs (map exactly (getD rules a noRule .parameters)))
     unfolding appliesOf someIs fitsOf
     applies-rule h =
-        rw (applied-rule a (omega arith), there-some rules a noRule h, usable-same here role plays r, scope-same r s)
+        rw (rule-number a (omega arith), there-some rules a noRule h, usable-same here role plays r, scope-same r s)
         (go (usableOf role r) (argumentsOf g Γ xs (map exactly (r .parameters))) (searches (r .strategy) || eqb s (r .target)))
       where
         r : Rule
@@ -157,14 +168,14 @@ module _ (g : Grammar) (rules : Rules) (here : Place) (role : Role) (Γ : Types)
         go false e =
             let z = ltb-false a 1000 e in
             let y : 1000 + (a - 1000) ≡ a = omega arith in
-            agree-at operations 1000 (a - 1000) (operations-agree here role plays) ∙ ap operationFits y
+            agree-at operations 1000 (a - 1000) (operations-agree g here role s plays) ∙ ap operationFits y
 
-    pub applies-same : appliesOf g rules Γ role s xs (applied a) ≡ and (usable g rules here s a) (argumentsOf g Γ xs (wantedBy rules a))
+    pub applies-same : appliesOf g rules Γ role s xs (applied a) ≡ and (usable g rules here s a) (argumentsOf g Γ xs (wantedBy rules s a))
     unfolding usable wantedBy
     applies-same = go (ltb a (length rules)) refl
       where
         go : (b : Bool) → ltb a (length rules) ≡ b → appliesOf g rules Γ role s xs (applied a)
-            ≡ and (pick b (and (appliesRule here (getD rules a noRule)) (fitsScope (getD rules a noRule) s)) (and (appliesOperation here a) (isNumber g s)))
-            (argumentsOf g Γ xs (pick b (map exactly (getD rules a noRule .parameters)) (wantedByOperation a)))
+            ≡ and (pick b (and (appliesRule here (getD rules a noRule)) (fitsScope (getD rules a noRule) s)) (and (appliesOperation here a) (operatesOn g a s)))
+            (argumentsOf g Γ xs (pick b (map exactly (getD rules a noRule .parameters)) (wantedByOperation s a)))
         go true e = applies-rule (ltb-true a (length rules) e)
         go false e = applies-other (ltb-false a (length rules) e)

@@ -70,9 +70,9 @@ module _ (g : Grammar) (rules : Rules) (here : Place) where
       go false a b = refl
 
   application-meet : (s : ℕ) (Γ : Context) (t v : ℕ)
-      → meet g rules here (application s) Γ t v ≡ when (usable g rules here s t) (when (eqb v (length (wantedBy rules t))) (leaving Γ (map argument (wantedBy rules t))))
+      → meet g rules here (application s) Γ t v ≡ when (usable g rules here s t) (when (eqb v (length (wantedBy rules s t))) (leaving Γ (map argument (wantedBy rules s t))))
   unfolding meet meets
-  application-meet s Γ t v = go (usable g rules here s t) (eqb v (length (wantedBy rules t))) (map argument (wantedBy rules t))
+  application-meet s Γ t v = go (usable g rules here s t) (eqb v (length (wantedBy rules s t))) (map argument (wantedBy rules s t))
     where
       go : (a b : Bool) (ds : List Due) → done (andThen (firstWord a 22 0) (λ u. _>>_ (secondWord b 22) (leaves Γ ds))) ≡ when a (when b (leaving Γ ds))
       go true true ds = refl
@@ -111,7 +111,7 @@ module _ (g : Grammar) (rules : Rules) (here : Place) (role : Role) (plays : Pla
       rw (application-meet g rules here s Γ a n, applies-same g rules here role Γ s (arguments n ws) plays few a) (go (usable g rules here s a) (eqb n (length us)) refl)
     where
       us : List Wanted
-      us = wantedBy rules a
+      us = wantedBy rules s a
 
       go : (u b : Bool) → eqb n (length us) ≡ b → bind (when u (when b (leaving Γ (map argument us)))) (others g rules here ws ds)
           ≡ when (and (argumentsWritten n ws) (and u (argumentsOf g Γ (arguments n ws) us))) (run g rules here (drop (2 * n) ws) ds Γ)

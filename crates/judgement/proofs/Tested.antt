@@ -14,11 +14,11 @@ use Rattle.grammar.specs.Kinds.{allowed, children, isNumber}
 use Rattle.tree.specs.Limits.{mostNesting}
 use Rattle.tree.proofs.Trees.{and-intro}
 use Rattle.rules.specs.Limits.{mostVariables}
-use Rattle.rules.specs.Rules.{Operation, add, subtract, quotient, remainder, round, truncate, equal, greater, Applied, rule, operation, nothing, Shape, node, new, same, Application, Piece, write, copy, chain, Part, deconstruct, search, construct, condition, searches, Rule, Rules}
+use Rattle.rules.specs.Rules.{Operation, add, subtract, quotient, remainder, round, truncate, equal, greater, Applied, rule, operation, editing, nothing, Shape, node, new, same, Application, Piece, write, copy, chain, Part, deconstruct, search, construct, condition, searches, Rule, Rules}
 use Rattle.rules.proofs.Laid.{no-true}
-use Rattle.judgement.specs.Wanted.{Wanted, exactly, wants}
-use Rattle.judgement.specs.WellTyped.{Types, Has, Pattern, patternEnd, aNode, aNew, aSame, patternNesting, PatternOf, Role, replacing, testing, Operates, adds, subtracts, divides, remains, rounds, truncates, equals, exceeds, Usable, Arguments, noArgument, anArgument, Fits, Applies, aRule, anOperation, AllApply, allNone, allMore, Replacement, piecesEnd, aWritten, aCopy, aChain, pieceNesting, ReplacementOf, PartFits, deconstructs, searchesFor, constructs, tests, PartsFit, noPart, aPart, RuleFits, Main, WellTyped}
-use Rattle.judgement.specs.Tested.{onSome, someIs, hasType, argumentsOf, patternOf, operatesOf, usableOf, fitsOf, appliesOf, allApplyOf, piecesOf, onePattern, oneReplacement, partOf, partsOf, replacementOf, ruleOf, rulesOf, isNil, mainOf, wellTyped}
+use Rattle.judgement.specs.Wanted.{Wanted, exactly, wants, scopeFits, wantedIn}
+use Rattle.judgement.specs.WellTyped.{Types, Has, Pattern, patternEnd, aNode, aNew, aSame, patternNesting, PatternOf, Role, replacing, testing, Operates, adds, subtracts, divides, remains, rounds, truncates, equals, exceeds, Usable, Arguments, noArgument, anArgument, Fits, Applies, aRule, anOperation, anEdit, AllApply, allNone, allMore, Replacement, piecesEnd, aWritten, aCopy, aChain, pieceNesting, ReplacementOf, PartFits, deconstructs, searchesFor, constructs, tests, PartsFit, noPart, aPart, RuleFits, Main, WellTyped}
+use Rattle.judgement.specs.Tested.{onSome, someIs, hasType, argumentsOf, patternOf, operatesOf, isReplacing, usableOf, fitsOf, appliesOf, allApplyOf, piecesOf, onePattern, oneReplacement, partOf, partsOf, replacementOf, ruleOf, rulesOf, isNil, mainOf, wellTyped}
 
 pub no-some : {A B : Type 0} {b : B} → none ≡ some b → A
 no-some {B = B} {b} e = let z : _≡_ {A = ℕ} 0 1 = cc in absurd (omega arith)
@@ -121,6 +121,15 @@ main-of r e =
     let q = and-both (isNil (r .parameters)) (searches (r .strategy) || eqb 0 (r .target)) (p .1) in
     record { replaces = usable-of replacing r (p .0); bare = nil-of (r .parameters) (q .0); scope = scope-of (searches (r .strategy)) 0 (r .target) (q .1) }
 
+replacing-of : (role : Role) → isReplacing role ≡ true → role ≡ replacing
+unfolding isReplacing
+replacing-of replacing e = refl
+replacing-of testing e = no-true e
+
+replacing-test : {role : Role} → role ≡ replacing → isReplacing role ≡ true
+unfolding isReplacing
+replacing-test e = rw e
+
 module _ (g : Grammar) (rules : Rules) (Γ : Types) (role : Role) (t : ℕ) where
   applies-of : (xs : List ℕ) (p : Applied) → appliesOf g rules Γ role t xs p ≡ true → Applies g rules Γ role t xs p
   unfolding appliesOf
@@ -132,6 +141,10 @@ module _ (g : Grammar) (rules : Rules) (Γ : Types) (role : Role) (t : ℕ) wher
       let p = and-both (isNumber g t) (someIs (operatesOf role o) (argumentsOf g Γ xs)) e in
       let q = someIs-true (operatesOf role o) (argumentsOf g Γ xs) (p .1) in
       anOperation (operates-of role o (q .0) (q .1)) (p .0) (arguments-of g Γ xs (q .0) (q .2))
+  applies-of xs (editing o) e =
+      let p = and-both (isReplacing role) (scopeFits g o t && argumentsOf g Γ xs (wantedIn o t)) e in
+      let q = and-both (scopeFits g o t) (argumentsOf g Γ xs (wantedIn o t)) (p .1) in
+      anEdit (replacing-of role (p .0)) (q .0) (arguments-of g Γ xs (wantedIn o t) (q .1))
   applies-of xs nothing e = no-true e
 
   allApply-of : (apps : List Application) → allApplyOf g rules Γ role t apps ≡ true → AllApply g rules Γ role t apps
@@ -292,6 +305,7 @@ module _ {g : Grammar} {rules : Rules} {Γ : Types} {role : Role} {t : ℕ} wher
   unfolding appliesOf
   applies-test {xs} (aRule {r = s} there usable f) = someIs-of (λ r. usableOf role r && fitsOf g Γ t xs r) there (and-intro (usable-test role s usable) (fits-test f))
   applies-test {xs} (anOperation operates number args) = and-intro number (someIs-of (argumentsOf g Γ xs) (operates-test operates) (arguments-test args))
+  applies-test (anEdit is scope args) = and-intro (replacing-test is) (and-intro scope (arguments-test args))
 
   allApply-test : {apps : List Application} → AllApply g rules Γ role t apps → allApplyOf g rules Γ role t apps ≡ true
   unfolding allApplyOf

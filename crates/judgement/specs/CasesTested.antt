@@ -5,7 +5,7 @@ use mathlib.Core.Path.{_≡_, refl}
 use mathlib.Core.List.{List, [], _∷_}
 use mathlib.Core.Bool.{Bool, true, false}
 use Rattle.words.specs.Reader.{Words, Read, value, refused, accepted}
-use Rattle.grammar.specs.Grammar.{Grammar, token, sequence, forms}
+use Rattle.grammar.specs.Grammar.{Grammar, repeat, token, sequence, forms}
 use Rattle.rules.specs.Rules.{Rules}
 use Rattle.rules.specs.Layout.{readLayout}
 use Rattle.judgement.specs.Typing.{rulesTyped}
@@ -13,6 +13,7 @@ use Rattle.judgement.specs.Tested.{wellTyped}
 use Rattle.words.specs.Reader as Reader
 use Rattle.grammar.specs.Kinds as Kinds
 use Rattle.tree.specs.Tree as Tree
+use Rattle.tree.specs.Sequences as Sequences
 use Rattle.tree.specs.Dues as Dues
 use Rattle.tree.specs.Reading as Reading
 use Rattle.rules.specs.Rules as Rules
@@ -24,7 +25,7 @@ use Rattle.judgement.specs.Tested as Tested
 
 -- program of repeat number
 numbers : Grammar
-numbers = forms ((1 ∷ []) ∷ []) ∷ sequence 2 ∷ token 2 ∷ []
+numbers = forms ((1 ∷ []) ∷ []) ∷ sequence repeat 2 ∷ token 2 ∷ []
 
 -- what the typing says of the words, and the test of the rules that they stand for
 data Answers : Type 0 where
@@ -69,5 +70,5 @@ found [] = []
 found (case ws a ∷ cs) = answersOf ws (readLayout 3 ws) ∷ found cs
 
 right : found table ≡ given table
-unfolding Reader.word Reader.wordIn Reader.many Reader.end Kinds.kindOf Kinds.allows Kinds.allowed Kinds.childrenOf Kinds.children Kinds.isNumberKind Kinds.isNumber Tree.levelsOf Tree.levels Dues.pairs Dues.whole Reading.duesOf Rules.operations Rules.applied Rules.shapes Rules.arguments Rules.applications Rules.pairsIn Rules.argumentsWritten Rules.applicationsWritten Rules.chainWritten Rules.unreadable Rules.chainOf Rules.conditionOf Rules.piecesAfter Rules.pieces Layout.strategyOf Layout.stretch Layout.field Layout.pairs Layout.variableAt Layout.deconstructFields Layout.conditionFields Layout.partOf Layout.reach Layout.replacement Layout.mainFits Layout.mainBits Layout.typeField Layout.searchFields Layout.constructFields Layout.partAt Layout.part Layout.parameters Layout.headFields Layout.head Layout.parts Layout.rule Layout.layout Layout.readLayout Wanted.wants Typing.mayStand Typing.isSome Typing.appliesRule Typing.appliesOperation Typing.fitsScope Typing.usable Typing.wantedBy Typing.newVariable Typing.variable Typing.chain Typing.node Typing.meets Typing.typed Typing.variableThere Typing.partTyped Typing.partsTyped Typing.ruleTyped Typing.mainTarget Typing.rulesTyped WellTyped.patternNesting WellTyped.pieceNesting Tested.onSome Tested.someIs Tested.hasType Tested.argumentsOf Tested.patternOf Tested.operatesOf Tested.usableOf Tested.fitsOf Tested.appliesOf Tested.allApplyOf Tested.piecesOf Tested.onePattern Tested.oneReplacement Tested.partOf Tested.partsOf Tested.replacementOf Tested.ruleOf Tested.rulesOf Tested.isNil Tested.mainOf Tested.wellTyped numbers table given found
+unfolding Reader.word Reader.wordIn Reader.many Reader.end Kinds.kindOf Kinds.allows Kinds.allowed Kinds.childrenOf Kinds.children Kinds.isSequenceKind Kinds.isSequence Kinds.isNumberKind Kinds.isNumber Tree.levelsOf Tree.levels Sequences.elementOf Dues.pairs Dues.whole Reading.duesOf Rules.operations Rules.applied Rules.shapes Rules.arguments Rules.applications Rules.pairsIn Rules.argumentsWritten Rules.applicationsWritten Rules.chainWritten Rules.unreadable Rules.chainOf Rules.conditionOf Rules.piecesAfter Rules.pieces Layout.strategyOf Layout.stretch Layout.field Layout.pairs Layout.variableAt Layout.deconstructFields Layout.conditionFields Layout.partOf Layout.reach Layout.replacement Layout.mainFits Layout.mainBits Layout.typeField Layout.searchFields Layout.constructFields Layout.partAt Layout.part Layout.parameters Layout.headFields Layout.head Layout.parts Layout.rule Layout.layout Layout.readLayout Wanted.wants Wanted.scopeFits Wanted.wantedIn Typing.mayStand Typing.isSome Typing.appliesRule Typing.appliesOperation Typing.fitsScope Typing.operatesOn Typing.usable Typing.wantedByEdit Typing.wantedByOperation Typing.wantedBy Typing.newVariable Typing.variable Typing.chain Typing.node Typing.meets Typing.typed Typing.variableThere Typing.partTyped Typing.partsTyped Typing.ruleTyped Typing.mainTarget Typing.rulesTyped WellTyped.patternNesting WellTyped.pieceNesting Tested.onSome Tested.someIs Tested.hasType Tested.argumentsOf Tested.patternOf Tested.operatesOf Tested.isReplacing Tested.usableOf Tested.fitsOf Tested.appliesOf Tested.allApplyOf Tested.piecesOf Tested.onePattern Tested.oneReplacement Tested.partOf Tested.partsOf Tested.replacementOf Tested.ruleOf Tested.rulesOf Tested.isNil Tested.mainOf Tested.wellTyped numbers table given found
 right = refl

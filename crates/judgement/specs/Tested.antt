@@ -9,8 +9,8 @@ use Rattle.grammar.specs.Grammar.{Grammar}
 use Rattle.grammar.specs.Kinds.{allowed, children, isNumber}
 use Rattle.tree.specs.Limits.{mostNesting}
 use Rattle.rules.specs.Limits.{mostVariables}
-use Rattle.rules.specs.Rules.{Operation, add, subtract, quotient, remainder, round, truncate, equal, greater, Applied, rule, operation, nothing, Shape, node, new, same, Application, Piece, write, copy, chain, Part, deconstruct, search, construct, condition, searches, Rule, Rules}
-use Rattle.judgement.specs.Wanted.{Wanted, exactly, aNumber, wants}
+use Rattle.rules.specs.Rules.{Operation, add, subtract, quotient, remainder, round, truncate, equal, greater, Applied, rule, operation, editing, nothing, Shape, node, new, same, Application, Piece, write, copy, chain, Part, deconstruct, search, construct, condition, searches, Rule, Rules}
+use Rattle.judgement.specs.Wanted.{Wanted, exactly, aNumber, wants, scopeFits, wantedIn}
 use Rattle.judgement.specs.WellTyped.{Types, Role, replacing, testing, patternNesting, pieceNesting}
 
 -- goes on with what there is
@@ -64,6 +64,11 @@ operatesOf testing truncate = none
 operatesOf testing equal = some (aNumber ∷ [])
 operatesOf testing greater = some (aNumber ∷ [])
 
+-- is it a replacement?
+unfoldable pub isReplacing : Role → Bool
+isReplacing replacing = true
+isReplacing testing = false
+
 -- may the rule stand here? A replacement wants one that replaces
 unfoldable pub usableOf : Role → Rule → Bool
 usableOf replacing r = someIs (r .replacement) (λ ps. true)
@@ -78,6 +83,7 @@ module _ (g : Grammar) (rules : Rules) (Γ : Types) (role : Role) (t : ℕ) wher
   unfoldable pub appliesOf : List ℕ → Applied → Bool
   appliesOf xs (rule n) = someIs (getElem? rules n) (λ r. usableOf role r && fitsOf g Γ t xs r)
   appliesOf xs (operation o) = isNumber g t && someIs (operatesOf role o) (argumentsOf g Γ xs)
+  appliesOf xs (editing o) = isReplacing role && (scopeFits g o t && argumentsOf g Γ xs (wantedIn o t))
   appliesOf xs nothing = false
 
   -- do all?

@@ -8,7 +8,7 @@ use lib.ListN.{length, getD, replicate}
 use lib.Dec.{ltb, leb, eqb}
 use Rattle.words.specs.Reader.{Words, pick, and, or, between, Read, value, refused, Reader, andThen, _>>=_, _>>_, return, require, many}
 use Rattle.grammar.specs.Grammar.{Grammar, readGrammar, grammarFits}
-use Rattle.grammar.specs.Kinds.{allowed, children, isNumber}
+use Rattle.grammar.specs.Kinds.{allowed, children, isNumber, isSequence}
 use Rattle.tree.specs.Limits.{mostNesting}
 use Rattle.tree.specs.Tree.{levels}
 use Rattle.tree.specs.Dues.{Next, firstWord, secondWord, leaves, whole}
@@ -17,7 +17,7 @@ use Rattle.tree.specs.Reading.{tree, duesOf}
 use Rattle.rules.specs.Limits.{mostParts, mostVariables, mostApplications, markNew, markVariable, markChain}
 use Rattle.rules.specs.Rules.{Rule, Rules, rootOnly, searches}
 use Rattle.rules.specs.Layout.{PartAt, deconstructAt, constructAt, conditionAt, bit, onlyIf, stretch, field, partAt, head, readLayout, rulesFit}
-use Rattle.judgement.specs.Wanted.{Wanted, exactly, aNumber, wants}
+use Rattle.judgement.specs.Wanted.{Wanted, exactly, aNumber, toJoin, aSequence, anything, wants}
 
 -- where pairs stand
 pub data Place : Type 0 where
@@ -59,10 +59,10 @@ appliesRule inCondition r = true
 appliesRule inReplacement r = isSome (r .replacement)
 appliesRule inPattern r = false
 
--- may the operation of this number stand here?
+-- may the operation of this number stand here? 1,010 to 1,015: "Only replacements apply these operations, not tests"
 unfoldable pub appliesOperation : Place → ℕ → Bool
 appliesOperation inCondition o = between 1008 1009 o
-appliesOperation inReplacement o = between 1000 1005 o
+appliesOperation inReplacement o = or (between 1000 1005 o) (between 1010 1015 o)
 appliesOperation inPattern o = false
 
 -- "A rule without reach applies only to its target type"
@@ -73,19 +73,28 @@ fitsScope r s = or (searches (r .strategy)) (eqb (r .target) s)
 abbrev pub noRule : Rule
 noRule = record { target = 0; strategy = rootOnly; parameters = []; pattern = []; parts = []; replacement = none }
 
--- may the rule or operation a be applied here, to a scope of type s? "Operations have number tokens as scope and argument"
+-- may the scope of the operation of this number have the type s? "Operations have number tokens as scope and argument"; 1,014 length: "number as scope"; the
+-- others on sequences a sequence
+unfoldable pub operatesOn : Grammar → ℕ → ℕ → Bool
+operatesOn g a s = pick (or (ltb a 1010) (eqb a 1014)) (isNumber g s) (isSequence g s)
+
+-- may the rule or operation a be applied here, to a scope of type s?
 unfoldable pub usable : Grammar → Rules → Place → ℕ → ℕ → Bool
 usable g rules here s a = pick (ltb a (length rules))
     (and (appliesRule here (getD rules a noRule)) (fitsScope (getD rules a noRule) s))
-    (and (appliesOperation here a) (isNumber g s))
+    (and (appliesOperation here a) (operatesOn g a s))
+
+-- the arguments of 1,010 join, 1,011 select, 1,012 head and 1,013 tail, 1,014 length, 1,015 extract on a scope of type s
+unfoldable pub wantedByEdit : ℕ → ℕ → List Wanted
+wantedByEdit s a = pick (eqb a 1010) (toJoin s ∷ []) (pick (eqb a 1011) (aNumber ∷ aNumber ∷ []) (pick (ltb a 1014) (aNumber ∷ []) (pick (eqb a 1014) (aSequence ∷ []) (anything ∷ []))))
 
 -- "Operations have number tokens as scope and argument"; 1,004 and 1,005: "these two without argument"
-abbrev pub wantedByOperation : ℕ → List Wanted
-wantedByOperation a = pick (between 1004 1005 a) [] (aNumber ∷ [])
+unfoldable pub wantedByOperation : ℕ → ℕ → List Wanted
+wantedByOperation s a = pick (ltb a 1010) (pick (between 1004 1005 a) [] (aNumber ∷ [])) (wantedByEdit s a)
 
--- the arguments that the rule or operation a wants: "Arguments fit parameters in number and type"
-unfoldable pub wantedBy : Rules → ℕ → List Wanted
-wantedBy rules a = pick (ltb a (length rules)) (map exactly (getD rules a noRule .parameters)) (wantedByOperation a)
+-- the arguments that the rule or operation a wants on a scope of type s: "Arguments fit parameters in number and type"
+unfoldable pub wantedBy : Rules → ℕ → ℕ → List Wanted
+wantedBy rules s a = pick (ltb a (length rules)) (map exactly (getD rules a noRule .parameters)) (wantedByOperation s a)
 
 -- ONE PAIR, (t, v), AT ITS POSITION
 
@@ -144,8 +153,8 @@ module _ (g : Grammar) (rules : Rules) (here : Place) where
   -- 22: "rule or operation not there or not usable here or on its scope, argument count"
   meets (application s) Γ t v = do
     firstWord (usable g rules here s t) 22
-    secondWord (eqb v (length (wantedBy rules t))) 22
-    leaves Γ (map argument (wantedBy rules t))
+    secondWord (eqb v (length (wantedBy rules s t))) 22
+    leaves Γ (map argument (wantedBy rules s t))
   -- "a pair (65, variable) for each argument"
   meets (argument w) Γ t v = do
     firstWord (eqb t markVariable) 23

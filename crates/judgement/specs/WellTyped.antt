@@ -11,8 +11,8 @@ use Rattle.grammar.specs.Kinds.{allowed, children, isNumber}
 use Rattle.tree.specs.Limits.{mostNesting}
 use Rattle.tree.specs.Tree.{levels}
 use Rattle.rules.specs.Limits.{mostVariables}
-use Rattle.rules.specs.Rules.{Operation, add, subtract, quotient, remainder, round, truncate, equal, greater, Applied, rule, operation, Shape, node, new, same, Application, Piece, write, copy, chain, Part, deconstruct, search, construct, condition, searches, Rule, Rules}
-use Rattle.judgement.specs.Wanted.{Wanted, exactly, aNumber, wants}
+use Rattle.rules.specs.Rules.{Operation, add, subtract, quotient, remainder, round, truncate, equal, greater, Applied, rule, operation, editing, Edit, Shape, node, new, same, Application, Piece, write, copy, chain, Part, deconstruct, search, construct, condition, searches, Rule, Rules}
+use Rattle.judgement.specs.Wanted.{Wanted, exactly, aNumber, wants, scopeFits, wantedIn}
 
 -- the types of variables, or of trees that are due
 abbrev pub Types : Type 0
@@ -80,6 +80,8 @@ module _ (g : Grammar) (rules : Rules) (Γ : Types) (role : Role) (t : ℕ) wher
   pub data Applies (xs : List ℕ) : Applied → Type 0 where
     aRule : {n : ℕ} {r : Rule} → getElem? rules n ≡ some r → Usable role r → Fits g Γ t xs r → Applies xs (rule n)
     anOperation : {o : Operation} {ws : List Wanted} → Operates role o ws → isNumber g t ≡ true → Arguments g Γ xs ws → Applies xs (operation o)
+    -- "Only replacements apply these operations, not tests"
+    anEdit : {o : Edit} → role ≡ replacing → scopeFits g o t ≡ true → Arguments g Γ xs (wantedIn o t) → Applies xs (editing o)
 
   pub data AllApply : List Application → Type 0 where
     allNone : AllApply []

@@ -16,9 +16,9 @@ use Rattle.tables.specs.Tables.{Tables, Counted, InHeads}
 use Rattle.tables.proofs.Lookups.{no-kind}
 use Rattle.tree.specs.Tree.{Trees, size, levelsOf, levels, nestingFrom, nesting, first, after, firstTree}
 use Rattle.tree.proofs.Trees.{tells, split, first-none, first-even, after-drop, levels-length, nesting-append, size-append}
-use Rattle.marks.specs.Marked.{mark, sizeIn, nestingIn, markOf, marked}
+use Rattle.marks.specs.Marked.{mark, typeIn, sizeIn, nestingIn, markOf, marked}
 use Rattle.marks.specs.Post.{MarkMade}
-use Rattle.marks.proofs.Marks.{mark-size, mark-nesting, marked-drop, first-more, tree-deeper, nesting-size}
+use Rattle.marks.proofs.Marks.{mark-type, mark-size, mark-nesting, marked-drop, first-more, tree-deeper, nesting-size}
 
 -- a node's type is there
 pub type-there : (g : Grammar) (t v : ℕ) → allowed g t v ≡ true → t < length g
@@ -45,7 +45,7 @@ kind-level (opt e) t v k i h = go (eqb v 0) i h
     go true zero h = omega arith
     go true (suc i) h = absurd (omega arith)
     go false i h = absurd (omega arith)
-kind-level (sequence e) t v k i h = go (eqb v 0) i h
+kind-level (sequence style e) t v k i h = go (eqb v 0) i h
   where
     go : (b : Bool) (i : ℕ) → i < length (pick b (e ∷ t ∷ []) []) → getD (pick b (suc k ∷ k ∷ []) []) i 0 ≡ k + pick (eqb i 1) 0 1
     go true zero h = let z : _≡_ {A = ℕ} (pick (eqb 0 1) 0 1) 1 = refl in omega arith
@@ -84,6 +84,7 @@ run-start g t v ws ts r = record {
 
 -- the first tree of some trees: its size, its nesting, and what follows it
 pub record Child (g : Grammar) (c : ℕ) (rest : List ℕ) (x : Words) (w : ℕ) : Type 0 where
+  pub root : typeIn w ≡ c
   pub counted : sizeIn w ≡ size (firstTree g x)
   pub nested : nestingIn w ≡ nesting g (firstTree g x)
   pub tree : Trees g (c ∷ []) (firstTree g x)
@@ -98,6 +99,7 @@ child-of g c rest (a ∷ b ∷ x) w l s r e =
     let y = split (a ∷ b ∷ x) (c ∷ []) rest r in
     let low : a < 64 = rw (q .0) (omega (arith, type-there g c b (q .1))) in
     record {
+      root = rw e (mark-type a (size (firstTree g (a ∷ b ∷ x))) (nesting g (firstTree g (a ∷ b ∷ x))) low) ∙ q .0;
       counted = rw e (mark-size a (size (firstTree g (a ∷ b ∷ x))) (nesting g (firstTree g (a ∷ b ∷ x))) low s);
       nested = rw e (mark-nesting a (size (firstTree g (a ∷ b ∷ x))) (nesting g (firstTree g (a ∷ b ∷ x))) low s);
       tree = y .front;

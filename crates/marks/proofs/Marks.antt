@@ -132,7 +132,7 @@ levels-deeper (opt e) v k d = go (eqb v 0)
     go : (b : Bool) → pick b (suc (k + d) ∷ []) [] ≡ deeper d (pick b (suc k ∷ []) [])
     go true = let z : suc (k + d) ≡ suc k + d = omega arith in rw z
     go false = refl
-levels-deeper (sequence e) v k d = go (eqb v 0)
+levels-deeper (sequence style e) v k d = go (eqb v 0)
   where
     go : (b : Bool) → pick b (suc (k + d) ∷ (k + d) ∷ []) [] ≡ deeper d (pick b (suc k ∷ k ∷ []) [])
     go true = let z : suc (k + d) ≡ suc k + d = omega arith in rw z
@@ -186,7 +186,7 @@ under-levels (opt e) m v k h = go (eqb v 0)
     go : (b : Bool) → Under (m + 1) (pick b (suc k ∷ []) [])
     go true = (omega arith, tt)
     go false = tt
-under-levels (sequence e) m v k h = go (eqb v 0)
+under-levels (sequence style e) m v k h = go (eqb v 0)
   where
     go : (b : Bool) → Under (m + 1) (pick b (suc k ∷ k ∷ []) [])
     go true = (omega arith, (omega arith, tt))

@@ -12,7 +12,7 @@ use Rattle.words.proofs.Stretches.{equal-true, equal-alike}
 use Rattle.grammar.specs.Grammar.{Grammar}
 use Rattle.tree.specs.Tree.{Trees, none, node, size, after, firstTree}
 use Rattle.tree.proofs.Trees.{split, trees-even, tree-some, first-append, first-after, first-even}
-use Rattle.marks.specs.Marked.{sizeIn, markOf, marked, unmarked, Stands}
+use Rattle.marks.specs.Marked.{typeIn, sizeIn, markOf, marked, unmarked, Stands}
 use Rattle.marks.specs.Post.{SameTree}
 use Rattle.marks.proofs.Marks.{mark-type, marked-append, marked-length}
 use Rattle.marks.proofs.Marking.{type-there, Child, child-of}
@@ -41,7 +41,7 @@ marked-first {g} {t} {ts} ws m r e =
     ap (λ l. take m (marked g l)) (sym (first-after g ws 1)) ∙ ap (take m) (marked-append (s .front) (after g ws 1))
     ∙ take-at (marked g (firstTree g ws)) (marked g (after g ws 1)) m (marked-length g (firstTree g ws) ∙ sym e)
 
--- THE SIZE AT HAND
+-- TYPE AND SIZE AT HAND
 
 stands-child : (g : Grammar) (arena : Words) (start : ℕ) (u : Words) (w : ℕ) → length g ≤ 64 → (s : Stands g arena start u) → w ≡ getD arena start 0 → Child g (s .type) [] u w
 stands-child g arena start u w l s e =
@@ -49,6 +49,9 @@ stands-child g arena start u w l s e =
     let f = whole-first u r in
     let here = word-there arena (marked g u) start (length u) (s .words) (omega (arith, trees-even r, tree-some u r)) in
     child-of g (s .type) [] u w l (rw f (omega (arith, s .tree .nodes))) r (e ∙ here)
+
+pub stands-root : (g : Grammar) (arena : Words) (start : ℕ) (u : Words) (w : ℕ) → length g ≤ 64 → (s : Stands g arena start u) → w ≡ getD arena start 0 → typeIn w ≡ s .type
+stands-root g arena start u w l s e = stands-child g arena start u w l s e .root
 
 pub stands-size : (g : Grammar) (arena : Words) (start : ℕ) (u : Words) (w : ℕ) → length g ≤ 64 → Stands g arena start u → w ≡ getD arena start 0 → sizeIn w ≡ size u
 stands-size g arena start u w l s e = stands-child g arena start u w l s e .counted ∙ ap size (whole-first u (s .tree .typed))

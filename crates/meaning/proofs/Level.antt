@@ -1,6 +1,6 @@
 -- One level of calls is sound if the calls one level deeper are. Assumes nothing.
 use Prim.Native.Nat.{ℕ, zero, suc, _+_, _-_, _*_, _/_, _≤_, _<_}
-use mathlib.Core.Path.{_≡_, refl, sym, _∙_}
+use mathlib.Core.Path.{_≡_, refl, sym, ap, subst, _∙_}
 use mathlib.Core.List.{List, [], _∷_, _++_, append-assoc}
 use mathlib.Core.Bool.{Bool, true, false, not}
 use mathlib.Core.Option.{Option, none, some}
@@ -9,29 +9,32 @@ use native.Mathlib.Nat.{le-refl, le-trans}
 use lib.ListN.{length, take, drop, getElem?, length-append}
 use lib.Seq.{take-at, drop-at}
 use lib.Dec.{eqb, leb}
-use borrow.Author.Tests.{eq-eqb, eqb-true, leb-true, le-leb}
+use borrow.Author.Tests.{eq-eqb, eqb-true, leb-true}
 use Rattle.words.specs.Reader.{Words, pick, and, or}
 use Rattle.grammar.specs.Limits.{greatestNumber}
-use Rattle.grammar.specs.Grammar.{Kind, token, opt, sequence, forms, Grammar}
-use Rattle.grammar.specs.Kinds.{kindOf, allows, allowed, childrenOf, children, isNumberKind, isNumber}
+use Rattle.grammar.specs.Grammar.{Grammar}
+use Rattle.grammar.specs.Kinds.{allowed, children, isNumber}
 use Rattle.tree.specs.Limits.{mostNodes}
 use Rattle.tree.specs.Tree as T
-use Rattle.tree.specs.Tree.{Trees, Tree, size, nestingFrom, nesting, areTrees, isTree, after, firstTree, typeOf, put}
+use Rattle.tree.specs.Tree.{Trees, Tree, size, areTrees, isTree, after, firstTree, typeOf, put}
 use Rattle.tree.proofs.Trees.{tells, trees-append, trees-even, size-append, and-intro, trees-pass, tree-passes, tree-type}
 use Rattle.rules.specs.Limits.{mostVariables}
-use Rattle.rules.specs.Rules.{Operation, Applied, rule, operation, Application, Piece, Part, Strategy, rootOnly, firstMatch, exhaustive, searches, Rule, Rules}
-use Rattle.judgement.specs.Wanted.{Wanted, wants}
-use Rattle.judgement.specs.WellTyped.{Types, Role, replacing, testing, Operates, adds, subtracts, divides, remains, rounds, truncates, equals, exceeds, Usable, Applies, aRule, anOperation, AllApply, allNone, allMore, Replacement, piecesEnd, aWritten, aCopy, aChain, PartFits, deconstructs, searchesFor, constructs, tests, PartsFit, noPart, aPart, RuleFits}
+use Rattle.rules.specs.Rules.{Operation, Edit, Applied, rule, operation, editing, Application, Piece, Part, Strategy, rootOnly, firstMatch, exhaustive, searches, Rule, Rules}
+use Rattle.judgement.specs.Wanted.{Wanted, wants, scopeFits, wantedIn}
+use Rattle.judgement.specs.WellTyped.{Types, Role, replacing, testing, Operates, adds, subtracts, divides, remains, rounds, truncates, equals, exceeds, Usable, Applies, aRule, anOperation, anEdit, AllApply, allNone, allMore, Replacement, piecesEnd, aWritten, aCopy, aChain, PartFits, deconstructs, searchesFor, constructs, tests, PartsFit, noPart, aPart, RuleFits}
+use Rattle.judgement.specs.Tested.{isReplacing}
 use Rattle.meaning.specs.declared.State.{State}
 use Rattle.meaning.specs.Computation.{Result, thenOf, stopUnless}
-use Rattle.meaning.specs.Operations.{rounded, truncated, inRange, divisor, withOne, withNone, compute, compare}
+use Rattle.meaning.specs.Operations.{rounded, truncated, inRange, divisor, withOne, withNone, compute, compare, valueOf, valuesOf, isNumberToken, areNumberTokens}
 use Rattle.meaning.specs.Meaning as M
-use Rattle.meaning.specs.Meaning.{Env, Bindings, live, valueOf, valuesOf, withValue, isNumberToken, areNumberTokens, fits, Found, Ending, done, stopped, cannotGoOn, Called, resultAs, resultOf, opened, afterRound, Calls, apply, applyChain, fill, finish, succeeds, anySucceeds, part, parts, attempt, seek, replace, begin, start, callMatches, turn, callWith, call, variables}
+use Rattle.meaning.specs.Meaning.{Env, Bindings, live, fits, Found, Ending, done, stopped, cannotGoOn, Called, resultAs, resultOf, opened, afterRound, Calls, apply, applyChain, fill, finish, succeeds, anySucceeds, part, parts, attempt, seek, replace, begin, start, callMatches, turn, callWith, call, variables}
 use Rattle.meaning.specs.Sound.{WellEnded, Sound}
 use Rattle.tree.specs.Rest.{Rest}
 use Rattle.tree.proofs.Rest.{tree-rest, rest-node, onward}
 use Rattle.meaning.proofs.Safe.{Safe, goes, stops, returns, safe-map, andThen, Any, stopUnless-safe, surely-safe, check-safe, present-safe, choose-safe, Maybe, whether-safe, spend-safe}
 use Rattle.meaning.proofs.Matching.{OfTypes, ofTypes-length, OfWanted, wantedNone, wantedMore, ofTypes-exactly, areTreesOf-true, live-safe, nodes-safe, nesting-safe, variable-safe, variables-safe, isNumberToken-true, Binds, bind-safe, match-safe, matchFirst-safe}
+use Rattle.meaning.proofs.Numbers.{false-not, withValue-tree}
+use Rattle.meaning.proofs.Edits.{edit-fits, edit-safe}
 use Rattle.judgement.proofs.Parts.{parts-grow}
 
 -- NUMBERS
@@ -76,52 +79,19 @@ unfolding compare withOne valuesOf
 compare-safe equals (wantedMore e x wantedNone) a n = returns tt
 compare-safe exceeds (wantedMore e x wantedNone) a n = returns tt
 
-false-not : {A : Type 0} → false ≡ true → A
-false-not e = let z : _≡_ {A = ℕ} 0 1 = cc in absurd (omega arith)
-
-number-allows : (kd : Kind) (t m : ℕ) → isNumberKind kd ≡ true → m ≤ greatestNumber → (allows kd m ≡ true) × (childrenOf kd t m ≡ [])
-unfolding isNumberKind allows childrenOf
-number-allows (token c) t m e h = (rw e (le-leb m greatestNumber h), refl)
-number-allows (opt x) t m e h = false-not e
-number-allows (sequence x) t m e h = false-not e
-number-allows (forms fs) t m e h = false-not e
-
-number-within : (kd : Kind) (v : ℕ) → isNumberKind kd ≡ true → allows kd v ≡ true → v ≤ greatestNumber
-unfolding isNumberKind allows
-number-within (token c) v e a = leb-true v greatestNumber (rw e at a)
-number-within (opt x) v e a = false-not e
-number-within (sequence x) v e a = false-not e
-number-within (forms fs) v e a = false-not e
-
--- the value of a number token is in range
-pub value-within : {g : Grammar} {t : ℕ} (ws : Words) → isNumber g t ≡ true → Trees g (t ∷ []) ws → valueOf ws ≤ greatestNumber
-unfolding isNumber allowed valueOf
-value-within [] e r = absurd (tells r)
-value-within (w ∷ []) e r = absurd (tells r)
-value-within {g} {t} (w ∷ v ∷ ws) e r = number-within (kindOf g t) v e (tells r .1)
-
--- a number token of any value in range
-pub number-tree : (g : Grammar) (t m : ℕ) → isNumber g t ≡ true → m ≤ greatestNumber → Tree g t (t ∷ m ∷ [])
-unfolding isNumber allowed children size nesting nestingFrom
-number-tree g t m e h =
-    let p = number-allows (kindOf g t) t m e h in
-    record { typed = T.node {ts = []} {ws = []} (p .0) (rw (p .1) T.none); nodes = omega arith; nested = omega arith }
-
-withValue-tree : {g : Grammar} {t : ℕ} (scope : Words) (m : ℕ) → isNumber g t ≡ true → Tree g t scope → m ≤ greatestNumber → Tree g t (withValue scope m)
-unfolding withValue
-withValue-tree {g} {t} scope m number x h = rw (tree-type scope (x .typed)) (number-tree g t m number h)
-
 -- WHAT A CALL NEEDS
 
 -- arguments that suit what is applied to a tree of type t
 data Suits (g : Grammar) (rules : Rules) (role : Role) (t : ℕ) : Applied → List Words → Type 0 where
   suitsRule : {n : ℕ} {r : Rule} {args : List Words} → getElem? rules n ≡ some r → Usable role r → OfTypes g (r .parameters) args → (searches (r .strategy) ≡ false → t ≡ r .target) → Suits g rules role t (rule n) args
   suitsOperation : {o : Operation} {us : List Wanted} {args : List Words} → Operates role o us → isNumber g t ≡ true → OfWanted g us args → Suits g rules role t (operation o) args
+  suitsEdit : {o : Edit} {args : List Words} → role ≡ replacing → scopeFits g o t ≡ true → OfWanted g (wantedIn o t) args → Suits g rules role t (editing o) args
 
 suits-safe : {g : Grammar} {rules : Rules} {Γ : Types} {env : Env} {role : Role} {t : ℕ} {xs : List ℕ} {p : Applied} → OfTypes g Γ env → Applies g rules Γ role t xs p → (n : State)
     → Safe (λ args l. Suits g rules role t p args) n (variables env xs n) (variables env xs n)
 suits-safe typed (aRule {r = r} there usable f) n = safe-map (λ args l _ q. suitsRule there usable (ofTypes-exactly (r .parameters) q) (f .scope)) (variables-safe typed (f .arguments) n)
 suits-safe typed (anOperation o number xs) n = safe-map (λ args l _ q. suitsOperation o number q) (variables-safe typed xs n)
+suits-safe typed (anEdit is scope xs) n = safe-map (λ args l _ q. suitsEdit is scope q) (variables-safe typed xs n)
 
 -- a call that fits: arguments of the parameters' types, and a scope of a type t that the rule may be applied to
 pub record Fitting (g : Grammar) (rules : Rules) (t : ℕ) (r : Rule) (args : Env) (scope : Words) : Type 0 where
@@ -215,25 +185,28 @@ afterRound-sound tree k s (stops h a b) f = record { agree = refl; ends = (a, b)
 
 module _ (g : Grammar) (rules : Rules) (each : (n : ℕ) (r : Rule) → getElem? rules n ≡ some r → RuleFits g rules r)
     (deeper deeper′ : Calls) (below : SoundCalls g rules deeper deeper′) where
-  apply-safe : {t : ℕ} {p : Applied} {args : List Words} {scope : Words} → Suits g rules replacing t p args → Tree g t scope → (besides : ℕ) (n : State)
-      → Safe (λ ws l. Tree g t ws) n (apply true g rules deeper p args scope besides n) (apply false g rules deeper′ p args scope besides n)
+  apply-safe : {t : ℕ} {p : Applied} {args : List Words} {scope : Words} → Suits g rules replacing t p args → Tree g t scope → (besides under : ℕ) (n : State)
+      → Safe (λ ws l. Tree g t ws) n (apply true g rules deeper p args scope besides under n) (apply false g rules deeper′ p args scope besides under n)
   unfolding apply
-  apply-safe (suitsRule {n = k} {r} there usable typed fit) x besides n =
+  apply-safe (suitsRule {n = k} {r} there usable typed fit) x besides under n =
       andThen (present-safe n there) λ q l _ e.
       rw e (below .rewriting (record { rule = each k r there; arguments = typed; tree = x; reach = fit }) (usable .1) besides l)
-  apply-safe {t} {args = args} {scope} (suitsOperation change number wanted) x besides n =
+  apply-safe {t} {args = args} {scope} (suitsOperation change number wanted) x besides under n =
       andThen (check-safe (and (isNumberToken g scope) (areNumberTokens g args)) n (and-intro (isNumberToken-true scope number x) (numbers-true change wanted))) λ u l _ _.
       andThen (compute-safe change wanted (valueOf scope) l) λ m l _ h.
       returns (withValue-tree scope m number x h)
+  apply-safe {t} {args = args} {scope} (suitsEdit {o = o} is fit wanted) x besides under n =
+      let f = edit-fits o scope fit wanted x in
+      safe-map (λ w l _ y. subst (λ u. Tree g u w) (tree-type scope (x .typed)) y) (edit-safe g o args scope besides under n (f .0) (f .1))
 
-  applyChain-safe : {Γ : Types} {env : Env} {t : ℕ} {apps : List Application} → OfTypes g Γ env → AllApply g rules Γ replacing t apps → (scope : Words) → Tree g t scope → (besides : ℕ) (n : State)
-      → Safe (λ ws l. Tree g t ws) n (applyChain true g rules deeper apps env scope besides n) (applyChain false g rules deeper′ apps env scope besides n)
+  applyChain-safe : {Γ : Types} {env : Env} {t : ℕ} {apps : List Application} → OfTypes g Γ env → AllApply g rules Γ replacing t apps → (scope : Words) → Tree g t scope → (besides under : ℕ) (n : State)
+      → Safe (λ ws l. Tree g t ws) n (applyChain true g rules deeper apps env scope besides under n) (applyChain false g rules deeper′ apps env scope besides under n)
   unfolding applyChain
-  applyChain-safe typed allNone scope x besides n = returns x
-  applyChain-safe typed (allMore a more) scope x besides n =
+  applyChain-safe typed allNone scope x besides under n = returns x
+  applyChain-safe typed (allMore a more) scope x besides under n =
       andThen (suits-safe typed a n) λ args l _ suits.
-      andThen (apply-safe suits x besides l) λ next l _ y.
-      applyChain-safe typed more next y besides l
+      andThen (apply-safe suits x besides under l) λ next l _ y.
+      applyChain-safe typed more next y besides under l
 
   fill-safe : {Γ : Types} {env : Env} {due : Types} {ps : List Piece} → OfTypes g Γ env → Replacement g rules Γ due ps → (besides k : ℕ) → k ≤ mostNodes → (n : State)
       → Safe (λ ws l. Trees g due ws × (k + size ws ≤ mostNodes)) n (fill true g rules deeper ps env besides k n) (fill false g rules deeper′ ps env besides k n)
@@ -253,7 +226,7 @@ module _ (g : Grammar) (rules : Rules) (each : (n : ℕ) (r : Rule) → getElem?
   fill-safe typed (aChain {x = x} has all r) besides k h n =
       andThen (variable-safe typed x has n) λ w l _ tree.
       andThen (live-safe (besides + k + size w) l) λ u l _ _.
-      andThen (applyChain-safe typed all w tree (besides + k) l) λ v l _ y.
+      andThen (applyChain-safe typed all w tree (besides + k) k l) λ v l _ y.
       andThen (nodes-safe (k + size v) l) λ u l _ small.
       andThen (fill-safe typed r besides (k + size v) small l) λ ws l _ q.
       returns (trees-append (y .typed) (q .0), omega (arith, q .1, size-append v ws (trees-even (y .typed))))
@@ -269,13 +242,14 @@ module _ (g : Grammar) (rules : Rules) (each : (n : ℕ) (r : Rule) → getElem?
 
   succeeds-safe : {t : ℕ} {p : Applied} {args : List Words} {scope : Words} → Suits g rules testing t p args → Tree g t scope → (besides : ℕ) (n : State)
       → Safe Any n (succeeds true g rules deeper p args scope besides n) (succeeds false g rules deeper′ p args scope besides n)
-  unfolding succeeds
+  unfolding succeeds isReplacing
   succeeds-safe (suitsRule {n = k} {r} there usable typed fit) x besides n =
       andThen (present-safe n there) λ q l _ e.
       rw e (below .matching (record { rule = each k r there; arguments = typed; tree = x; reach = fit }) besides l)
   succeeds-safe {args = args} {scope} (suitsOperation compares number wanted) x besides n =
       andThen (check-safe (and (isNumberToken g scope) (areNumberTokens g args)) n (and-intro (isNumberToken-true scope number x) (numbers-true compares wanted))) λ u l _ _.
       compare-safe compares wanted (valueOf scope) l
+  succeeds-safe (suitsEdit is fit wanted) x besides n = false-not (ap isReplacing is)
 
   anySucceeds-safe : {Γ : Types} {env : Env} {t : ℕ} {apps : List Application} {scope : Words} → OfTypes g Γ env → AllApply g rules Γ testing t apps → Tree g t scope → (besides : ℕ) (n : State)
       → Safe Any n (anySucceeds true g rules deeper apps env scope besides n) (anySucceeds false g rules deeper′ apps env scope besides n)

@@ -1,6 +1,8 @@
 -- The soundness of the meaning, from words too, the claim about a list of runs, what rounding is, and that round never stops.
 pub mod Safe
 pub mod Matching
+pub mod Numbers
+pub mod Edits
 pub mod Level
 pub mod Sound
 pub mod FromWords

@@ -21,7 +21,9 @@ use Rattle.judgement.specs.Wanted.{Wanted, exactly, wants}
 use Rattle.judgement.specs.WellTyped.{Types, Has, Arguments, noArgument, anArgument, Pattern, patternEnd, aNode, aNew, aSame}
 use Rattle.meaning.specs.Limits.{mostLive}
 use Rattle.meaning.specs.declared.State.{State}
-use Rattle.meaning.specs.Meaning.{Env, Bindings, live, nodesWithin, nestingWithin, liveWithin, variable, variables, sameTree, bind, match, matchFirst, isNumberToken, areTreesOf}
+use Rattle.meaning.specs.Computation.{nodesWithin, nestingWithin, liveWithin}
+use Rattle.meaning.specs.Operations.{isNumberToken}
+use Rattle.meaning.specs.Meaning.{Env, Bindings, live, variable, variables, sameTree, bind, match, matchFirst, areTreesOf}
 use Rattle.tree.specs.Rest.{Rest}
 use Rattle.tree.proofs.Rest.{rest-node, onward}
 use Rattle.meaning.proofs.Safe.{Safe, returns, andThen, Any, stopUnless-safe, surely-safe, check-safe, present-safe, choose-safe, Maybe, whether-safe, safe-map}

@@ -13,13 +13,14 @@ use Rattle.grammar.specs.Limits.{greatestNumber}
 use Rattle.tree.specs.Limits.{mostNodes, mostNesting}
 use Rattle.tree.specs.Tree.{size, nesting, areTrees, isTree, after, firstTree, typeOf, put}
 use Rattle.rules.specs.Limits.{mostVariables}
-use Rattle.rules.specs.Rules.{Applied, rule, operation, nothing, Operation, add, subtract, quotient, remainder, round, truncate, equal, greater, Shape, node, new, same, Application, Piece, write, copy, chain, Part, deconstruct, search, construct, condition, Strategy, rootOnly, firstMatch, exhaustive, searches, Rule, Rules}
+use Rattle.rules.specs.Rules.{Applied, rule, operation, editing, nothing, Operation, add, subtract, quotient, remainder, round, truncate, equal, greater, Shape, node, new, same, Application, Piece, write, copy, chain, Part, deconstruct, search, construct, condition, Strategy, rootOnly, firstMatch, exhaustive, searches, Rule, Rules}
 use Rattle.meaning.specs.Limits.{mostLive, mostCalls}
 use Rattle.meaning.specs.declared.State.{State}
-use Rattle.meaning.specs.Computation.{initial, Result, ok, stop, stuck, Comp, thenOf, spend, stopUnless, surely, check, present, choose, whether}
-use Rattle.meaning.specs.Operations.{rounded, truncated, inRange, divisor, withOne, withNone, compute, compare}
+use Rattle.meaning.specs.Computation.{initial, Result, ok, stop, stuck, Comp, thenOf, spend, stopUnless, surely, check, present, choose, whether, nodesWithin, nestingWithin, liveWithin}
+use Rattle.meaning.specs.Operations.{rounded, truncated, inRange, divisor, withOne, withNone, compute, compare, valueOf, valuesOf, isNumberToken, areNumberTokens}
+use Rattle.meaning.specs.Edits.{edited, editFits, edit}
 use Rattle.meaning.specs.Meaning as M
-use Rattle.meaning.specs.Meaning.{Env, Bindings, live, nodesWithin, nestingWithin, liveWithin, variable, variables, sameTree, bind, match, matchFirst, valueOf, valuesOf, isNumberToken, areNumberTokens, fits, start, begin, Found, done, stopped, cannotGoOn, Called, resultAs, resultOf, opened, afterRound, Calls, apply, applyChain, fill, finish, succeeds, anySucceeds, part, parts, attempt, seek, replace, turn, callWith, call, callMatches, calls}
+use Rattle.meaning.specs.Meaning.{Env, Bindings, live, variable, variables, sameTree, bind, match, matchFirst, fits, start, begin, Found, done, stopped, cannotGoOn, Called, resultAs, resultOf, opened, afterRound, Calls, apply, applyChain, fill, finish, succeeds, anySucceeds, part, parts, attempt, seek, replace, turn, callWith, call, callMatches, calls}
 
 -- both give the same value or the same stop, which is then of those that are kept, and leave related states; nothing is said where the first is stuck or its stop
 -- is free
@@ -228,24 +229,32 @@ module _ (R : State → State → Type 0) (Free Kept : ℕ → State → Type 0)
     pub matches : (rl : Rule) (args : Env) (scope : Words) (besides : ℕ) {n m : State} → R n m → Rel (deeper .matches rl args scope besides n) (deeper′ .matches rl args scope besides m)
 
   module _ (strict : Bool) (g : Grammar) (rules : Rules) (deeper deeper′ : Calls) (below : Deeper deeper deeper′) where
-    apply-related : (p : Applied) (args : List Words) (scope : Words) (besides : ℕ) {n m : State} → R n m → Rel (apply strict g rules deeper p args scope besides n) (apply strict g rules deeper′ p args scope besides m)
-    unfolding apply
-    apply-related (rule k) args scope besides r =
+    apply-related : (p : Applied) (args : List Words) (scope : Words) (besides under : ℕ) {n m : State} → R n m → Rel (apply strict g rules deeper p args scope besides under n) (apply strict g rules deeper′ p args scope besides under m)
+    unfolding apply edit
+    apply-related (rule k) args scope besides under r =
         andThen (there (getElem? rules k) r) λ rl l m r.
         below .rewrites rl args scope besides r
-    apply-related (operation o) args scope besides r =
+    apply-related (operation o) args scope besides under r =
         andThen (checks strict (and (isNumberToken g scope) (areNumberTokens g args)) r) λ u l m r.
         andThen (compute-related o (valueOf scope) (valuesOf args) r) λ k l m r.
         goes r
-    apply-related nothing args scope besides r = sticks
+    apply-related (editing o) args scope besides under r =
+        andThen (checks strict (editFits g o scope args) r) λ u l m r.
+        andThen (there (edited g o scope args) r) λ w l m r.
+        andThen (nodes (under + size w) r) λ u l m r.
+        andThen (checks strict (areTrees g w (typeOf scope ∷ [])) r) λ u l m r.
+        andThen (nests g w r) λ u l m r.
+        andThen (lives (besides + size w) r) λ u l m r.
+        goes r
+    apply-related nothing args scope besides under r = sticks
 
-    chain-related : (apps : List Application) (env : Env) (scope : Words) (besides : ℕ) {n m : State} → R n m → Rel (applyChain strict g rules deeper apps env scope besides n) (applyChain strict g rules deeper′ apps env scope besides m)
+    chain-related : (apps : List Application) (env : Env) (scope : Words) (besides under : ℕ) {n m : State} → R n m → Rel (applyChain strict g rules deeper apps env scope besides under n) (applyChain strict g rules deeper′ apps env scope besides under m)
     unfolding applyChain
-    chain-related [] env scope besides r = goes r
-    chain-related (a ∷ more) env scope besides r =
+    chain-related [] env scope besides under r = goes r
+    chain-related (a ∷ more) env scope besides under r =
         andThen (variables-related env (a .arguments) r) λ args l m r.
-        andThen (apply-related (a .applied) args scope besides r) λ next l m r.
-        chain-related more env next besides r
+        andThen (apply-related (a .applied) args scope besides under r) λ next l m r.
+        chain-related more env next besides under r
 
     fill-related : (ps : List Piece) (env : Env) (besides k : ℕ) {n m : State} → R n m → Rel (fill strict g rules deeper ps env besides k n) (fill strict g rules deeper′ ps env besides k m)
     unfolding fill
@@ -264,7 +273,7 @@ module _ (R : State → State → Type 0) (Free Kept : ℕ → State → Type 0)
     fill-related (chain x apps ∷ ps) env besides k r =
         andThen (variable-related env x r) λ t l m r.
         andThen (lives (besides + k + size t) r) λ u l m r.
-        andThen (chain-related apps env t (besides + k) r) λ v l m r.
+        andThen (chain-related apps env t (besides + k) k r) λ v l m r.
         andThen (nodes (k + size v) r) λ u l m r.
         andThen (fill-related ps env besides (k + size v) r) λ ws l m r.
         goes r
@@ -285,6 +294,7 @@ module _ (R : State → State → Type 0) (Free Kept : ℕ → State → Type 0)
     succeeds-related (operation o) args scope besides r =
         andThen (checks strict (and (isNumberToken g scope) (areNumberTokens g args)) r) λ u l m r.
         compare-related o (valueOf scope) (valuesOf args) r
+    succeeds-related (editing o) args scope besides r = sticks
     succeeds-related nothing args scope besides r = sticks
 
     any-related : (apps : List Application) (env : Env) (scope : Words) (besides : ℕ) {n m : State} → R n m → Rel (anySucceeds strict g rules deeper apps env scope besides n) (anySucceeds strict g rules deeper′ apps env scope besides m)

@@ -9,11 +9,11 @@ use Rattle.grammar.specs.Limits.{greatestNumber}
 use Rattle.rules.specs.Rules.{round}
 use Rattle.meaning.specs.declared.State.{State}
 use Rattle.meaning.specs.Computation.{ok, thenOf, stopUnless, surely, check}
-use Rattle.meaning.specs.Operations.{rounded, inRange, withNone, compute}
-use Rattle.meaning.specs.Meaning.{valueOf, valuesOf, areNumberTokens, apply}
+use Rattle.meaning.specs.Operations.{rounded, inRange, withNone, compute, valueOf, valuesOf, areNumberTokens}
+use Rattle.meaning.specs.Meaning.{apply}
 use Rattle.meaning.specs.Sound.{RoundNeverStops}
 use Rattle.meaning.proofs.Matching.{isNumberToken-true}
-use Rattle.meaning.proofs.Level.{value-within}
+use Rattle.meaning.proofs.Numbers.{value-within}
 use Rattle.meaning.proofs.Rounding.{half-even-within}
 
 rounded-within : (a : ℕ) → a ≤ greatestNumber → rounded a ≤ greatestNumber
@@ -27,5 +27,5 @@ round-computes a left h = rw (le-leb (rounded a) greatestNumber (rounded-within 
 
 pub round-never-stops : RoundNeverStops
 unfolding apply areNumberTokens valuesOf thenOf check surely
-round-never-stops true g rules deeper t number scope x besides left = rw (isNumberToken-true scope number x, round-computes (valueOf scope) left (value-within scope number (x .typed)))
-round-never-stops false g rules deeper t number scope x besides left = rw (round-computes (valueOf scope) left (value-within scope number (x .typed)))
+round-never-stops true g rules deeper t number scope x besides under left = rw (isNumberToken-true scope number x, round-computes (valueOf scope) left (value-within scope number (x .typed)))
+round-never-stops false g rules deeper t number scope x besides under left = rw (round-computes (valueOf scope) left (value-within scope number (x .typed)))

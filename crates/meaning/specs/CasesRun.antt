@@ -13,6 +13,7 @@ use Rattle.words.specs.Views as Views
 use Rattle.grammar.specs.Grammar as Grammar
 use Rattle.grammar.specs.Kinds as Kinds
 use Rattle.tree.specs.Tree as Tree
+use Rattle.tree.specs.Sequences as Sequences
 use Rattle.tree.specs.Dues as Dues
 use Rattle.tree.specs.Reading as Reading
 use Rattle.rules.specs.Rules as Rules
@@ -22,6 +23,7 @@ use Rattle.judgement.specs.Typing as Typing
 use Rattle.meaning.specs.Computation as Computation
 use Rattle.meaning.specs.Rounding as Rounding
 use Rattle.meaning.specs.Operations as Operations
+use Rattle.meaning.specs.Edits as Edits
 use Rattle.meaning.specs.Meaning as Meaning
 use Rattle.meaning.specs.Outcome as Outcome
 
@@ -42,6 +44,10 @@ elements (n ∷ ns) = 1 ∷ 0 ∷ 2 ∷ n ∷ elements ns
 
 list : List ℕ → Words
 list ns = 0 ∷ 0 ∷ elements ns
+
+-- the same with a list for the repeat
+lists : Words
+lists = 3 ∷ 8 ∷ 1 ∷ 1 ∷ 1 ∷ 16 ∷ 2 ∷ 1 ∷ 2 ∷ []
 
 -- a grammar of one type, a sequence of itself
 sequences : Words
@@ -143,6 +149,10 @@ table =
     ∷ case 9 numbers (1 ∷ 9 ∷ 1 ∷ 1 ∷ 3 ∷ 1 ∷ 0 ∷ 2 ∷ 500 ∷ 64 ∷ 1 ∷ 1 ∷ 65 ∷ 0 ∷ []) twoAndFive (ended done 2 1 (list (200 ∷ [])))
     -- also the empty one
     ∷ case 9 numbers (1 ∷ 9 ∷ 1 ∷ 1 ∷ 1 ∷ 1 ∷ 1 ∷ 3 ∷ 1 ∷ 0 ∷ 2 ∷ 7 ∷ 1 ∷ 1 ∷ []) (list (5 ∷ [])) (ended done 2 1 (list (5 ∷ 7 ∷ [])))
+    -- a list is "a repeat in all but its bit": the paper's example; its rest, and the empty one, are nodes
+    ∷ case 3 lists toFortyTwo twoAndFive (ended done 3 1 (list (4200 ∷ 500 ∷ [])))
+    ∷ case 9 lists (1 ∷ 9 ∷ 1 ∷ 1 ∷ 3 ∷ 1 ∷ 0 ∷ 2 ∷ 500 ∷ 64 ∷ 1 ∷ 1 ∷ 65 ∷ 0 ∷ []) twoAndFive (ended done 2 1 (list (200 ∷ [])))
+    ∷ case 9 lists (1 ∷ 9 ∷ 1 ∷ 1 ∷ 1 ∷ 1 ∷ 1 ∷ 3 ∷ 1 ∷ 0 ∷ 2 ∷ 7 ∷ 1 ∷ 1 ∷ []) (list (5 ∷ [])) (ended done 2 1 (list (5 ∷ 7 ∷ [])))
     -- "Bindings go when a trial ends": a failed attempt's are not there for the next
     -- variable 0 is the second attempt's
     ∷ case 9 numbers (1 ∷ 9 ∷ 1 ∷ 1 ∷ 3 ∷ 1 ∷ 0 ∷ 64 ∷ 2 ∷ 1 ∷ 1 ∷ 5 ∷ 1 ∷ 0 ∷ 65 ∷ 0 ∷ 1 ∷ 0 ∷ 65 ∷ 0 ∷ 1 ∷ 1 ∷ []) twoAndFive (ended done 2 1 (list (200 ∷ 500 ∷ 500 ∷ [])))
@@ -213,6 +223,8 @@ table =
     ∷ case 9 levels (3 ∷ 8 ∷ 0 ∷ 1 ∷ 64 ∷ 0 ∷ 63 ∷ (times 60 (0 ∷ 0 ∷ []) ++ (66 ∷ 0 ∷ 1 ∷ 0 ∷ 1 ∷ 0 ∷ 8 ∷ 0 ∷ 1 ∷ 64 ∷ 0 ∷ 11 ∷ (times 10 (0 ∷ 0 ∷ []) ++ (65 ∷ 0 ∷ 8 ∷ 0 ∷ 1 ∷ 64 ∷ 0 ∷ 1 ∷ 0 ∷ 1 ∷ []))))) (0 ∷ 1 ∷ []) (ended (stopped 43) 2 0 (0 ∷ 1 ∷ []))
     -- the rest of a sequence keeps its place's nesting
     ∷ case 9 sequences (1 ∷ 9 ∷ 0 ∷ 1 ∷ 3 ∷ 0 ∷ 0 ∷ 0 ∷ 1 ∷ 0 ∷ 1 ∷ 61 ∷ (times 30 (0 ∷ 0 ∷ []) ++ (times 31 (0 ∷ 1 ∷ [])))) (0 ∷ 0 ∷ 0 ∷ 1 ∷ 0 ∷ 0 ∷ 0 ∷ 1 ∷ 0 ∷ 0 ∷ 0 ∷ 1 ∷ 0 ∷ 1 ∷ []) (ended done 5 1 (0 ∷ 0 ∷ 0 ∷ 1 ∷ 0 ∷ 0 ∷ 0 ∷ 1 ∷ (times 30 (0 ∷ 0 ∷ []) ++ (times 31 (0 ∷ 1 ∷ [])))))
+    -- .. a list's too
+    ∷ case 9 (1 ∷ 16 ∷ 0 ∷ []) (1 ∷ 9 ∷ 0 ∷ 1 ∷ 3 ∷ 0 ∷ 0 ∷ 0 ∷ 1 ∷ 0 ∷ 1 ∷ 61 ∷ (times 30 (0 ∷ 0 ∷ []) ++ (times 31 (0 ∷ 1 ∷ [])))) (0 ∷ 0 ∷ 0 ∷ 1 ∷ 0 ∷ 0 ∷ 0 ∷ 1 ∷ 0 ∷ 0 ∷ 0 ∷ 1 ∷ 0 ∷ 1 ∷ []) (ended done 5 1 (0 ∷ 0 ∷ 0 ∷ 1 ∷ 0 ∷ 0 ∷ 0 ∷ 1 ∷ (times 30 (0 ∷ 0 ∷ []) ++ (times 31 (0 ∷ 1 ∷ [])))))
     -- H11: a moved tree's nesting is judged where the tree above is finished
     -- a later pair's 45 comes first
     ∷ case 9 (2 ∷ 8 ∷ 2 ∷ 2 ∷ 0 ∷ 1 ∷ 0 ∷ 1 ∷ 2 ∷ []) (2 ∷ 8 ∷ 0 ∷ 3 ∷ 0 ∷ 0 ∷ 64 ∷ 0 ∷ 64 ∷ 1 ∷ 126 ∷ (times 60 (0 ∷ 0 ∷ []) ++ (66 ∷ 0 ∷ 1 ∷ 0 ∷ 1 ∷ 0 ∷ (times 59 (65 ∷ 1 ∷ []) ++ (66 ∷ 1 ∷ 1 ∷ 0 ∷ 1002 ∷ 1 ∷ 65 ∷ 1 ∷ 8 ∷ 0 ∷ 1 ∷ 0 ∷ 1 ∷ 1 ∷ 0 ∷ 1 ∷ []))))) (times 7 (0 ∷ 0 ∷ []) ++ (0 ∷ 1 ∷ (times 7 (1 ∷ 0 ∷ [])))) (ended (stopped 45) 2 0 (times 7 (0 ∷ 0 ∷ []) ++ (0 ∷ 1 ∷ (times 7 (1 ∷ 0 ∷ [])))))
@@ -293,6 +305,18 @@ table =
     ∷ case 3 numbers toFortyTwo (0 ∷ []) (refused 30 0)
     -- the tree: its root of another type
     ∷ case 3 numbers toFortyTwo (1 ∷ 1 ∷ []) (refused 32 0)
+    -- T-04
+    -- a sequence joined with itself; its first element joined to its rest
+    ∷ case 1 numbers (1 ∷ 8 ∷ 0 ∷ 2 ∷ 0 ∷ 0 ∷ 64 ∷ 1 ∷ 5 ∷ 0 ∷ 0 ∷ 66 ∷ 0 ∷ 1 ∷ 0 ∷ 1010 ∷ 1 ∷ 65 ∷ 0 ∷ []) twoAndFive (ended done 1 1 (list (200 ∷ 500 ∷ 200 ∷ 500 ∷ [])))
+    ∷ case 1 numbers (1 ∷ 8 ∷ 0 ∷ 4 ∷ 0 ∷ 0 ∷ 1 ∷ 0 ∷ 64 ∷ 2 ∷ 64 ∷ 1 ∷ 5 ∷ 0 ∷ 0 ∷ 66 ∷ 1 ∷ 1 ∷ 0 ∷ 1010 ∷ 1 ∷ 65 ∷ 0 ∷ []) twoAndFive (ended done 1 1 (list (500 ∷ 200 ∷ [])))
+    -- select from 1.99 to 2.50
+    ∷ case 1 numbers (1 ∷ 12 ∷ 0 ∷ 2 ∷ 0 ∷ 0 ∷ 64 ∷ 1 ∷ 2 ∷ 4 ∷ 2 ∷ 1 ∷ 2 ∷ 199 ∷ 4 ∷ 2 ∷ 1 ∷ 2 ∷ 250 ∷ 6 ∷ 0 ∷ 0 ∷ 66 ∷ 0 ∷ 1 ∷ 0 ∷ 1011 ∷ 2 ∷ 65 ∷ 1 ∷ 65 ∷ 2 ∷ []) (list (100 ∷ 200 ∷ 300 ∷ [])) (ended done 1 1 (list (100 ∷ 200 ∷ [])))
+    -- joined, each 2.00 made 42.00 by a rule, and the first three taken: one attempt, and eight of the rule
+    ∷ case 9 numbers (2 ∷ 12 ∷ 0 ∷ 2 ∷ 0 ∷ 0 ∷ 64 ∷ 1 ∷ 1 ∷ 4 ∷ 2 ∷ 1 ∷ 2 ∷ 300 ∷ 8 ∷ 0 ∷ 0 ∷ 66 ∷ 0 ∷ 3 ∷ 0 ∷ 1010 ∷ 1 ∷ 65 ∷ 0 ∷ 1 ∷ 0 ∷ 1012 ∷ 1 ∷ 65 ∷ 1 ∷ 9 ∷ 2 ∷ 2 ∷ 1 ∷ 2 ∷ 200 ∷ 1 ∷ 2 ∷ 4200 ∷ []) twoAndFive (ended done 9 1 (list (4200 ∷ 500 ∷ 4200 ∷ [])))
+    -- the first number becomes the length of the rest, and the number is added
+    ∷ case 1 numbers (1 ∷ 8 ∷ 0 ∷ 4 ∷ 0 ∷ 0 ∷ 1 ∷ 0 ∷ 64 ∷ 2 ∷ 64 ∷ 1 ∷ 9 ∷ 0 ∷ 0 ∷ 1 ∷ 0 ∷ 66 ∷ 0 ∷ 2 ∷ 0 ∷ 1014 ∷ 1 ∷ 65 ∷ 1 ∷ 1000 ∷ 1 ∷ 65 ∷ 0 ∷ 65 ∷ 1 ∷ []) twoAndFive (ended done 1 1 (list (300 ∷ 500 ∷ [])))
+    -- the numbers in the whole tree, appended
+    ∷ case 1 lists (1 ∷ 12 ∷ 0 ∷ 1 ∷ 64 ∷ 0 ∷ 1 ∷ 1 ∷ 0 ∷ 2 ∷ 0 ∷ 0 ∷ 64 ∷ 1 ∷ 5 ∷ 0 ∷ 0 ∷ 66 ∷ 1 ∷ 1 ∷ 0 ∷ 1015 ∷ 1 ∷ 65 ∷ 0 ∷ []) twoAndFive (ended done 1 1 (list (200 ∷ 500 ∷ 200 ∷ 500 ∷ [])))
     -- 1 to 5, in this order
     ∷ over 4095 16383 0 [] [] [] (refused 1 0)
     ∷ over 4096 16383 0 [] [] [] (refused 2 0)
@@ -304,5 +328,5 @@ table =
     ∷ []
 
 right : found table ≡ given table
-unfolding given found Reader.word Reader.wordIn Reader.many Reader.end Views.equalWords Grammar.typesOf Grammar.field Grammar.element Grammar.form Grammar.kind Grammar.grammar Grammar.allKnown Grammar.anyFormKnown Grammar.finishes Grammar.round Grammar.rounds Grammar.finite Grammar.finiteRecords Grammar.readGrammar Grammar.grammarFits Kinds.kindOf Kinds.allows Kinds.allowed Kinds.childrenOf Kinds.children Kinds.isNumberKind Kinds.isNumber Tree.size Tree.levelsOf Tree.levels Tree.nestingFrom Tree.nesting Tree.areTrees Tree.isTree Tree.first Tree.after Tree.typeOf Tree.put Dues.pairs Dues.whole Reading.duesOf Reading.meetsNode Reading.readTreeOf Rules.operations Rules.applied Rules.shapes Rules.arguments Rules.applications Rules.pairsIn Rules.argumentsWritten Rules.applicationsWritten Rules.chainWritten Rules.unreadable Rules.chainOf Rules.conditionOf Rules.piecesAfter Rules.pieces Layout.strategyOf Layout.stretch Layout.field Layout.pairs Layout.variableAt Layout.deconstructFields Layout.conditionFields Layout.partOf Layout.reach Layout.replacement Layout.mainFits Layout.mainBits Layout.typeField Layout.searchFields Layout.constructFields Layout.partAt Layout.part Layout.parameters Layout.headFields Layout.head Layout.parts Layout.rule Layout.layout Layout.readLayout Layout.rulesFit Wanted.wants Typing.mayStand Typing.isSome Typing.appliesRule Typing.appliesOperation Typing.fitsScope Typing.usable Typing.wantedBy Typing.newVariable Typing.variable Typing.chain Typing.node Typing.meets Typing.typed Typing.variableThere Typing.partTyped Typing.partsTyped Typing.ruleTyped Typing.mainTarget Typing.rulesTyped Typing.readRules Computation.thenOf Computation.spendOf Computation.spend Computation.stopUnless Computation.surely Computation.check Computation.present Computation.choose Computation.whether Rounding.halfEven Operations.rounded Operations.truncated Operations.inRange Operations.divisor Operations.withOne Operations.withNone Operations.compute Operations.compare Meaning.nodesWithin Meaning.nestingWithin Meaning.liveWithin Meaning.total Meaning.variable Meaning.variables Meaning.sameTree Meaning.bind Meaning.match Meaning.matchFirst Meaning.valueOf Meaning.valuesOf Meaning.withValue Meaning.isNumberToken Meaning.areNumberTokens Meaning.areTreesOf Meaning.fits Meaning.begin Meaning.resultAs Meaning.resultOf Meaning.opened Meaning.afterRound Meaning.apply Meaning.applyChain Meaning.fill Meaning.finish Meaning.succeeds Meaning.anySucceeds Meaning.part Meaning.parts Meaning.attempt Meaning.seek Meaning.replace Meaning.turn Meaning.rounds Meaning.callWith Meaning.call Meaning.callMatches Meaning.calls Meaning.runFrom Meaning.run Outcome.callFits Outcome.decode Outcome.endedAs Outcome.outcomeOf Outcome.outcome numbers toFortyTwo twoAndFive elements list sequences levels times table
+unfolding given found Reader.word Reader.wordIn Reader.many Reader.end Views.equalWords Grammar.typesOf Grammar.field Grammar.element Grammar.form Grammar.kind Grammar.grammar Grammar.allKnown Grammar.anyFormKnown Grammar.finishes Grammar.round Grammar.rounds Grammar.finite Grammar.finiteRecords Grammar.readGrammar Grammar.grammarFits Kinds.kindOf Kinds.allows Kinds.allowed Kinds.childrenOf Kinds.children Kinds.isSequenceKind Kinds.isSequence Kinds.isNumberKind Kinds.isNumber Tree.size Tree.levelsOf Tree.levels Tree.nestingFrom Tree.nesting Tree.areTrees Tree.isTree Tree.first Tree.after Tree.typeOf Tree.put Sequences.elementOf Sequences.spine Sequences.sequenceOf Sequences.elementsIn Sequences.elements Sequences.takenFrom Dues.pairs Dues.whole Reading.duesOf Reading.meetsNode Reading.readTreeOf Rules.operations Rules.applied Rules.shapes Rules.arguments Rules.applications Rules.pairsIn Rules.argumentsWritten Rules.applicationsWritten Rules.chainWritten Rules.unreadable Rules.chainOf Rules.conditionOf Rules.piecesAfter Rules.pieces Layout.strategyOf Layout.stretch Layout.field Layout.pairs Layout.variableAt Layout.deconstructFields Layout.conditionFields Layout.partOf Layout.reach Layout.replacement Layout.mainFits Layout.mainBits Layout.typeField Layout.searchFields Layout.constructFields Layout.partAt Layout.part Layout.parameters Layout.headFields Layout.head Layout.parts Layout.rule Layout.layout Layout.readLayout Layout.rulesFit Wanted.wants Typing.mayStand Typing.isSome Typing.appliesRule Typing.appliesOperation Typing.fitsScope Typing.operatesOn Typing.usable Typing.wantedByEdit Typing.wantedByOperation Typing.wantedBy Typing.newVariable Typing.variable Typing.chain Typing.node Typing.meets Typing.typed Typing.variableThere Typing.partTyped Typing.partsTyped Typing.ruleTyped Typing.mainTarget Typing.rulesTyped Typing.readRules Computation.thenOf Computation.spendOf Computation.spend Computation.stopUnless Computation.surely Computation.check Computation.present Computation.choose Computation.whether Computation.nodesWithin Computation.nestingWithin Computation.liveWithin Rounding.halfEven Operations.rounded Operations.truncated Operations.inRange Operations.divisor Operations.withOne Operations.withNone Operations.compute Operations.compare Operations.valueOf Operations.valuesOf Operations.withValue Operations.isNumberToken Operations.areNumberTokens Edits.position Edits.selected Edits.joined Edits.withOne Edits.withTwo Edits.edited Edits.isSequenceTree Edits.each Edits.editFits Edits.edit Meaning.total Meaning.variable Meaning.variables Meaning.sameTree Meaning.bind Meaning.match Meaning.matchFirst Meaning.areTreesOf Meaning.fits Meaning.begin Meaning.resultAs Meaning.resultOf Meaning.opened Meaning.afterRound Meaning.apply Meaning.applyChain Meaning.fill Meaning.finish Meaning.succeeds Meaning.anySucceeds Meaning.part Meaning.parts Meaning.attempt Meaning.seek Meaning.replace Meaning.turn Meaning.rounds Meaning.callWith Meaning.call Meaning.callMatches Meaning.calls Meaning.runFrom Meaning.run Outcome.callFits Outcome.decode Outcome.endedAs Outcome.outcomeOf Outcome.outcome numbers toFortyTwo twoAndFive elements list lists sequences levels times table
 right = refl

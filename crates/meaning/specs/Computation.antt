@@ -1,7 +1,13 @@
--- Computations that spend attempts (the paper's trials), and may stop by a number or be stuck. Assumes nothing: these are definitions.
+-- Computations that spend attempts (the paper's trials), and may stop by a number or be stuck; the limits of trees at which they stop. Assumes nothing: these are definitions.
 use Prim.Native.Nat.{ℕ, zero, suc}
 use mathlib.Core.Bool.{Bool, true, false}
 use mathlib.Core.Option.{Option, none, some}
+use lib.Dec.{leb}
+use Rattle.words.specs.Reader.{Words}
+use Rattle.grammar.specs.Grammar.{Grammar}
+use Rattle.tree.specs.Limits.{mostNodes, mostNesting}
+use Rattle.tree.specs.Tree.{nesting}
+use Rattle.meaning.specs.Limits.{mostLive}
 use Rattle.meaning.specs.declared.State.{State}
 
 -- the state of a run at first: its whole budget is left
@@ -85,3 +91,17 @@ whether none m n left = n left
 -- none, unless the test passes
 abbrev pub provided : {A : Type 0} → Bool → Comp (Option A) → Comp (Option A)
 provided b m = choose b m (return none)
+
+-- THE LIMITS
+
+-- 42: "a tree would pass 2,048 nodes"
+unfoldable pub nodesWithin : ℕ → Comp (Unit {0})
+nodesWithin n = stopUnless 42 (leb n mostNodes)
+
+-- 43: "a finished tree's nesting would pass 64"
+unfoldable pub nestingWithin : Grammar → Words → Comp (Unit {0})
+nestingWithin g ws = stopUnless 43 (leb (nesting g ws) mostNesting)
+
+-- 44: "held nodes would pass 6,144", here live nodes
+unfoldable pub liveWithin : ℕ → Comp (Unit {0})
+liveWithin n = stopUnless 44 (leb n mostLive)

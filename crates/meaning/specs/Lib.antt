@@ -2,6 +2,7 @@ pub mod Limits
 pub mod Computation
 pub mod Rounding
 pub mod Operations
+pub mod Edits
 pub mod Meaning
 pub mod Outcome
 pub mod Sound
@@ -11,3 +12,4 @@ pub mod CasesBench
 pub mod CasesRun
 pub mod CasesLarge
 pub mod CasesStuck
+pub mod CasesEdits

@@ -4,34 +4,19 @@ use Prim.Native.Nat.{ℕ, zero, suc, _+_, _-_}
 use mathlib.Core.List.{List, [], _∷_, _++_}
 use mathlib.Core.Bool.{Bool, true, false, not}
 use mathlib.Core.Option.{Option, none, some}
-use lib.ListN.{length, getD, drop, getElem?}
-use lib.Dec.{eqb, leb, ltb}
+use lib.ListN.{length, drop, getElem?}
+use lib.Dec.{eqb, ltb}
 use Rattle.words.specs.Reader.{Words, pick, and, or}
 use Rattle.words.specs.Views.{equalWords}
 use Rattle.grammar.specs.Grammar.{Grammar}
-use Rattle.grammar.specs.Kinds.{isNumber}
-use Rattle.tree.specs.Limits.{mostNodes, mostNesting}
-use Rattle.tree.specs.Tree.{size, nesting, areTrees, isTree, after, firstTree, typeOf, put}
+use Rattle.tree.specs.Tree.{size, areTrees, isTree, after, firstTree, typeOf, put}
 use Rattle.rules.specs.Limits.{mostVariables}
-use Rattle.rules.specs.Rules.{Applied, rule, operation, nothing, Shape, node, new, same, Application, Piece, write, copy, chain, Part, deconstruct, search, construct, condition, Strategy, rootOnly, firstMatch, exhaustive, searches, Rule, Rules}
-use Rattle.meaning.specs.Limits.{mostCalls, mostLive}
+use Rattle.rules.specs.Rules.{Applied, rule, operation, editing, nothing, Shape, node, new, same, Application, Piece, write, copy, chain, Part, deconstruct, search, construct, condition, Strategy, rootOnly, firstMatch, exhaustive, searches, Rule, Rules}
+use Rattle.meaning.specs.Limits.{mostCalls}
 use Rattle.meaning.specs.declared.State.{State}
-use Rattle.meaning.specs.Computation.{initial, Result, ok, stop, stuck, Comp, _>>=_, _>>_, return, never, spend, stopUnless, surely, check, present, choose, whether, provided}
-use Rattle.meaning.specs.Operations.{compute, compare}
-
--- THE LIMITS
-
--- 42: "a tree would pass 2,048 nodes"
-unfoldable pub nodesWithin : ℕ → Comp (Unit {0})
-nodesWithin n = stopUnless 42 (leb n mostNodes)
-
--- 43: "a finished tree's nesting would pass 64"
-unfoldable pub nestingWithin : Grammar → Words → Comp (Unit {0})
-nestingWithin g ws = stopUnless 43 (leb (nesting g ws) mostNesting)
-
--- 44: "held nodes would pass 6,144", here live nodes
-unfoldable pub liveWithin : ℕ → Comp (Unit {0})
-liveWithin n = stopUnless 44 (leb n mostLive)
+use Rattle.meaning.specs.Computation.{initial, Result, ok, stop, stuck, Comp, _>>=_, _>>_, return, never, spend, surely, check, present, choose, whether, provided, nodesWithin, nestingWithin, liveWithin}
+use Rattle.meaning.specs.Operations.{compute, compare, valueOf, valuesOf, withValue, isNumberToken, areNumberTokens}
+use Rattle.meaning.specs.Edits.{edit}
 
 -- VARIABLES
 
@@ -101,30 +86,6 @@ module _ (strict : Bool) (g : Grammar) where
   matchFirst u ps (t ∷ v ∷ ws) b = do
     m ← provided (eqb t u) (match ps (t ∷ v ∷ ws) b)
     whether m (λ c. return (some c)) (matchFirst u ps ws b)
-
--- NUMBERS
-
--- the value of a token
-unfoldable pub valueOf : Words → ℕ
-valueOf ws = getD ws 1 0
-
--- the values of several
-unfoldable pub valuesOf : List Words → List ℕ
-valuesOf [] = []
-valuesOf (t ∷ ts) = valueOf t ∷ valuesOf ts
-
--- "Types of number tokens may differ; the scope's stays"
-unfoldable pub withValue : Words → ℕ → Words
-withValue ws n = typeOf ws ∷ n ∷ []
-
--- "Operations have number tokens as scope and argument"
-unfoldable pub isNumberToken : Grammar → Words → Bool
-isNumberToken g ws = and (isNumber g (typeOf ws)) (isTree g (typeOf ws) ws)
-
--- are all number tokens?
-unfoldable pub areNumberTokens : Grammar → List Words → Bool
-areNumberTokens g [] = true
-areNumberTokens g (t ∷ ts) = and (isNumberToken g t) (areNumberTokens g ts)
 
 -- CALLS
 
@@ -207,24 +168,26 @@ pub record Calls : Type 0 where
 -- ONE LEVEL OF CALLS
 
 module _ (strict : Bool) (g : Grammar) (rules : Rules) (deeper : Calls) where
-  -- "every rule or operation applied is there and fits"; "an operation is no call". `besides` are the nodes live besides the scope
-  unfoldable pub apply : Applied → List Words → Words → ℕ → Comp Words
-  apply (rule n) args scope besides = do
+  -- "every rule or operation applied is there and fits"; "an operation is no call". `besides` are the nodes live besides the scope, `under` those of the tree
+  -- under way so far
+  unfoldable pub apply : Applied → List Words → Words → ℕ → ℕ → Comp Words
+  apply (rule n) args scope besides under = do
     r ← present (getElem? rules n)
     deeper .rewrites r args scope besides
-  apply (operation o) args scope besides = do
+  apply (operation o) args scope besides under = do
     check strict (and (isNumberToken g scope) (areNumberTokens g args))
     n ← compute o (valueOf scope) (valuesOf args)
     return (withValue scope n)
-  apply nothing args scope besides = never
+  apply (editing o) args scope besides under = edit strict g o args scope besides under
+  apply nothing args scope besides under = never
 
   -- "its applications act on that copy one after the other"
-  unfoldable pub applyChain : List Application → Env → Words → ℕ → Comp Words
-  applyChain [] env scope besides = return scope
-  applyChain (a ∷ more) env scope besides = do
+  unfoldable pub applyChain : List Application → Env → Words → ℕ → ℕ → Comp Words
+  applyChain [] env scope besides under = return scope
+  applyChain (a ∷ more) env scope besides under = do
     args ← variables env (a .arguments)
-    next ← apply (a .applied) args scope besides
-    applyChain more env next besides
+    next ← apply (a .applied) args scope besides under
+    applyChain more env next besides under
 
   -- the words of the pieces, "worked left to right", in a tree under way that has n nodes so far
   unfoldable pub fill : List Piece → Env → ℕ → ℕ → Comp Words
@@ -246,7 +209,7 @@ module _ (strict : Bool) (g : Grammar) (rules : Rules) (deeper : Calls) where
   fill (chain x apps ∷ ps) env besides n = do
     t ← variable env x
     liveWithin (besides + n + size t)
-    u ← applyChain apps env t (besides + n)
+    u ← applyChain apps env t (besides + n) n
     nodesWithin (n + size u)
     ws ← fill ps env besides (n + size u)
     return (u ++ ws)
@@ -267,6 +230,8 @@ module _ (strict : Bool) (g : Grammar) (rules : Rules) (deeper : Calls) where
   succeeds (operation o) args scope besides = do
     check strict (and (isNumberToken g scope) (areNumberTokens g args))
     compare o (valueOf scope) (valuesOf args)
+  -- "Only replacements apply these operations, not tests"
+  succeeds (editing o) args scope besides = never
   succeeds nothing args scope besides = never
 
   -- "the applications are tried in order on the same tree up to the first success"

@@ -1,9 +1,14 @@
--- The eight operations on numbers, in hundredths. Assumes nothing: these are definitions.
+-- The eight operations on numbers, in hundredths; numbers as trees. Assumes nothing: these are definitions.
 use Prim.Native.Nat.{ℕ, _+_, _-_, _*_, _/_}
 use mathlib.Core.List.{List, [], _∷_}
-use mathlib.Core.Bool.{Bool, not}
+use mathlib.Core.Bool.{Bool, true, not}
+use lib.ListN.{getD}
 use lib.Dec.{eqb, leb, ltb}
+use Rattle.words.specs.Reader.{Words, and}
+use Rattle.grammar.specs.Grammar.{Grammar}
+use Rattle.grammar.specs.Kinds.{isNumber}
 use Rattle.grammar.specs.Limits.{greatestNumber}
+use Rattle.tree.specs.Tree.{isTree, typeOf}
 use Rattle.rules.specs.Rules.{Operation, add, subtract, quotient, remainder, round, truncate, equal, greater}
 use Rattle.meaning.specs.Computation.{Comp, _>>_, return, never, stopUnless}
 use Rattle.meaning.specs.Rounding.{halfEven}
@@ -67,3 +72,27 @@ compare quotient a bs = never
 compare remainder a bs = never
 compare round a bs = never
 compare truncate a bs = never
+
+-- NUMBERS AS TREES
+
+-- the value of a token
+unfoldable pub valueOf : Words → ℕ
+valueOf ws = getD ws 1 0
+
+-- the values of several
+unfoldable pub valuesOf : List Words → List ℕ
+valuesOf [] = []
+valuesOf (t ∷ ts) = valueOf t ∷ valuesOf ts
+
+-- "Types of number tokens may differ; the scope's stays"
+unfoldable pub withValue : Words → ℕ → Words
+withValue ws n = typeOf ws ∷ n ∷ []
+
+-- "Operations have number tokens as scope and argument"
+unfoldable pub isNumberToken : Grammar → Words → Bool
+isNumberToken g ws = and (isNumber g (typeOf ws)) (isTree g (typeOf ws) ws)
+
+-- are all number tokens?
+unfoldable pub areNumberTokens : Grammar → List Words → Bool
+areNumberTokens g [] = true
+areNumberTokens g (t ∷ ts) = and (isNumberToken g t) (areNumberTokens g ts)

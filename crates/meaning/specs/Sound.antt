@@ -11,8 +11,8 @@ use Rattle.rules.specs.Rules.{round, operation, Rules}
 use Rattle.judgement.specs.WellTyped.{WellTyped}
 use Rattle.meaning.specs.declared.State.{State}
 use Rattle.meaning.specs.Computation.{ok}
-use Rattle.meaning.specs.Operations.{rounded}
-use Rattle.meaning.specs.Meaning.{valueOf, withValue, Ending, done, stopped, cannotGoOn, Called, Calls, apply, run}
+use Rattle.meaning.specs.Operations.{rounded, valueOf, withValue}
+use Rattle.meaning.specs.Meaning.{Ending, done, stopped, cannotGoOn, Called, Calls, apply, run}
 
 -- "the end or a stop 40 to 45", never stuck
 abbrev pub WellEnded : Ending → Type 0
@@ -43,5 +43,5 @@ Soundness = (g : Grammar) (rules : Rules) → WellTyped g rules → (tree : Word
 
 -- T-02: "Round can no longer cause 45". Applied to any number token, strict or plain, it gives that token with the rounded value and leaves the state as it was
 abbrev pub RoundNeverStops : Type 0
-RoundNeverStops = (strict : Bool) (g : Grammar) (rules : Rules) (deeper : Calls) (t : ℕ) → isNumber g t ≡ true → (scope : Words) → Tree g t scope → (besides : ℕ) (left : State)
-    → apply strict g rules deeper (operation round) [] scope besides left ≡ ok (withValue scope (rounded (valueOf scope))) left
+RoundNeverStops = (strict : Bool) (g : Grammar) (rules : Rules) (deeper : Calls) (t : ℕ) → isNumber g t ≡ true → (scope : Words) → Tree g t scope → (besides under : ℕ) (left : State)
+    → apply strict g rules deeper (operation round) [] scope besides under left ≡ ok (withValue scope (rounded (valueOf scope))) left

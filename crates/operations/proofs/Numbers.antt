@@ -1,15 +1,15 @@
 -- The operations on numbers. Assumes nothing.
-use Prim.Native.Nat.{ℕ, zero, suc, _+_, _-_, _*_, _/_, _<_, _≤_}
+use Prim.Native.Nat.{ℕ, _+_, _-_, _*_, _/_, _<_, _≤_}
 use mathlib.Core.Path.{_≡_, refl, _∙_}
 use mathlib.Core.Bool.{Bool, true, false}
 use native.Mathlib.Omega.{arith}
 use native.Mathlib.Nat.{mul-div-le, div-le-self}
-use lib.ListN.{getD}
 use lib.Dec.{ltb, leb, eqb}
-use borrow.Author.Tests.{le-leb, lt-leb, eq-eqb, ne-eqb, ltb-false}
+use borrow.Author.Tests.{le-leb, lt-leb, eq-eqb, ne-eqb}
 use Rattle.words.specs.Reader.{pick}
 use Rattle.grammar.specs.Limits.{greatestNumber}
-use Rattle.rules.specs.Rules.{Operation, add, subtract, quotient, remainder, round, truncate, equal, greater, rule, operation, nothing, applied, operations}
+use Rattle.rules.specs.Rules.{add, subtract, quotient, remainder, round, truncate, equal, greater}
+use Rattle.rules.proofs.Numbers.{numberOf, operation-number}
 use Rattle.meaning.specs.declared.State.{State}
 use Rattle.meaning.specs.Computation.{ok, thenOf, stopUnless}
 use Rattle.meaning.specs.Rounding.{halfEven}
@@ -17,46 +17,6 @@ use Rattle.meaning.specs.Operations.{rounded, truncated, inRange, divisor, with
 use Rattle.operations.specs.declared.Number.{Number}
 use Rattle.operations.specs.declared.Number.the-variants.{Is, OutOfRange}
 use Rattle.operations.specs.Operating.{inRangeAs, MeansNumber, Operated, Compared}
-
--- THE NUMBERS OF THE OPERATIONS
-
-numberOf : Operation → ℕ
-numberOf add = 1000
-numberOf subtract = 1001
-numberOf quotient = 1002
-numberOf remainder = 1003
-numberOf round = 1004
-numberOf truncate = 1005
-numberOf equal = 1008
-numberOf greater = 1009
-
-no-operation : {o : Operation} → nothing ≡ operation o → ⊥
-no-operation e = let z : _≡_ {A = ℕ} 0 1 = cc in omega arith
-
-is-operation : {o p : Operation} → operation p ≡ operation o → p ≡ o
-is-operation e = cc
-
-listed : (k : ℕ) (o : Operation) → getD operations k nothing ≡ operation o → 1000 + k ≡ numberOf o
-unfolding operations numberOf
-listed zero o e = rw (← is-operation e)
-listed (suc zero) o e = rw (← is-operation e)
-listed (suc (suc zero)) o e = rw (← is-operation e)
-listed (suc (suc (suc zero))) o e = rw (← is-operation e)
-listed (suc (suc (suc (suc zero)))) o e = rw (← is-operation e)
-listed (suc (suc (suc (suc (suc zero))))) o e = rw (← is-operation e)
-listed (suc (suc (suc (suc (suc (suc zero)))))) o e = absurd (no-operation e)
-listed (suc (suc (suc (suc (suc (suc (suc zero))))))) o e = absurd (no-operation e)
-listed (suc (suc (suc (suc (suc (suc (suc (suc zero)))))))) o e = rw (← is-operation e)
-listed (suc (suc (suc (suc (suc (suc (suc (suc (suc zero))))))))) o e = rw (← is-operation e)
-listed (suc (suc (suc (suc (suc (suc (suc (suc (suc (suc k)))))))))) o e = absurd (no-operation e)
-
-numbered : (op : ℕ) (o : Operation) → applied op ≡ operation o → op ≡ numberOf o
-unfolding applied
-numbered op o e = go (ltb op 1000) refl e
-  where
-    go : (b : Bool) → ltb op 1000 ≡ b → elim b [ true ↦ rule op | false ↦ getD operations (op - 1000) nothing ] ≡ operation o → op ≡ numberOf o
-    go true h e = let z : _≡_ {A = ℕ} 0 1 = cc in absurd (omega arith)
-    go false h e = omega (arith, ltb-false op 1000 h, listed (op - 1000) o e)
 
 -- IN RANGE
 
@@ -79,67 +39,67 @@ module _ (op a b x y : ℕ) (ex : x ≡ a) (ey : y ≡ b) where
   pub adds : op ≡ 1000 → (r : Number) → r ≡ inRangeAs (x + y) → Operated op a b r
   unfolding compute withOne numberOf
   adds h r e add left k ns = range-means (a + b) left r (e ∙ rw (ex, ey))
-  adds h r e subtract left k ns = absurd (omega (arith, numbered op subtract k))
-  adds h r e quotient left k ns = absurd (omega (arith, numbered op quotient k))
-  adds h r e remainder left k ns = absurd (omega (arith, numbered op remainder k))
-  adds h r e round left k ns = absurd (omega (arith, numbered op round k))
-  adds h r e truncate left k ns = absurd (omega (arith, numbered op truncate k))
-  adds h r e equal left k ns = absurd (omega (arith, numbered op equal k))
-  adds h r e greater left k ns = absurd (omega (arith, numbered op greater k))
+  adds h r e subtract left k ns = absurd (omega (arith, operation-number op subtract k))
+  adds h r e quotient left k ns = absurd (omega (arith, operation-number op quotient k))
+  adds h r e remainder left k ns = absurd (omega (arith, operation-number op remainder k))
+  adds h r e round left k ns = absurd (omega (arith, operation-number op round k))
+  adds h r e truncate left k ns = absurd (omega (arith, operation-number op truncate k))
+  adds h r e equal left k ns = absurd (omega (arith, operation-number op equal k))
+  adds h r e greater left k ns = absurd (omega (arith, operation-number op greater k))
 
   pub below-zero : op ≡ 1001 → x < y → Operated op a b OutOfRange
   unfolding compute withOne numberOf thenOf stopUnless
-  below-zero h l add left k ns = absurd (omega (arith, numbered op add k))
+  below-zero h l add left k ns = absurd (omega (arith, operation-number op add k))
   below-zero h l subtract left k ns = rw (lt-leb b a (omega arith))
-  below-zero h l quotient left k ns = absurd (omega (arith, numbered op quotient k))
-  below-zero h l remainder left k ns = absurd (omega (arith, numbered op remainder k))
-  below-zero h l round left k ns = absurd (omega (arith, numbered op round k))
-  below-zero h l truncate left k ns = absurd (omega (arith, numbered op truncate k))
-  below-zero h l equal left k ns = absurd (omega (arith, numbered op equal k))
-  below-zero h l greater left k ns = absurd (omega (arith, numbered op greater k))
+  below-zero h l quotient left k ns = absurd (omega (arith, operation-number op quotient k))
+  below-zero h l remainder left k ns = absurd (omega (arith, operation-number op remainder k))
+  below-zero h l round left k ns = absurd (omega (arith, operation-number op round k))
+  below-zero h l truncate left k ns = absurd (omega (arith, operation-number op truncate k))
+  below-zero h l equal left k ns = absurd (omega (arith, operation-number op equal k))
+  below-zero h l greater left k ns = absurd (omega (arith, operation-number op greater k))
 
   pub subtracts : op ≡ 1001 → y ≤ x → (r : Number) → r ≡ inRangeAs (x - y) → Operated op a b r
   unfolding compute withOne numberOf thenOf stopUnless
-  subtracts h l r e add left k ns = absurd (omega (arith, numbered op add k))
+  subtracts h l r e add left k ns = absurd (omega (arith, operation-number op add k))
   subtracts h l r e subtract left k ns = rw (le-leb b a (omega arith)) (range-means (a - b) left r (e ∙ rw (ex, ey)))
-  subtracts h l r e quotient left k ns = absurd (omega (arith, numbered op quotient k))
-  subtracts h l r e remainder left k ns = absurd (omega (arith, numbered op remainder k))
-  subtracts h l r e round left k ns = absurd (omega (arith, numbered op round k))
-  subtracts h l r e truncate left k ns = absurd (omega (arith, numbered op truncate k))
-  subtracts h l r e equal left k ns = absurd (omega (arith, numbered op equal k))
-  subtracts h l r e greater left k ns = absurd (omega (arith, numbered op greater k))
+  subtracts h l r e quotient left k ns = absurd (omega (arith, operation-number op quotient k))
+  subtracts h l r e remainder left k ns = absurd (omega (arith, operation-number op remainder k))
+  subtracts h l r e round left k ns = absurd (omega (arith, operation-number op round k))
+  subtracts h l r e truncate left k ns = absurd (omega (arith, operation-number op truncate k))
+  subtracts h l r e equal left k ns = absurd (omega (arith, operation-number op equal k))
+  subtracts h l r e greater left k ns = absurd (omega (arith, operation-number op greater k))
 
   pub rounds : op ≡ 1004 → (w : ℕ) → w ≡ halfEven x 100 → (r : Number) → r ≡ inRangeAs (w * 100) → Operated op a b r
   unfolding compute withNone numberOf rounded
-  rounds h w ew r e add left k ns = absurd (omega (arith, numbered op add k))
-  rounds h w ew r e subtract left k ns = absurd (omega (arith, numbered op subtract k))
-  rounds h w ew r e quotient left k ns = absurd (omega (arith, numbered op quotient k))
-  rounds h w ew r e remainder left k ns = absurd (omega (arith, numbered op remainder k))
+  rounds h w ew r e add left k ns = absurd (omega (arith, operation-number op add k))
+  rounds h w ew r e subtract left k ns = absurd (omega (arith, operation-number op subtract k))
+  rounds h w ew r e quotient left k ns = absurd (omega (arith, operation-number op quotient k))
+  rounds h w ew r e remainder left k ns = absurd (omega (arith, operation-number op remainder k))
   rounds h w ew r e round left k ns = range-means (halfEven a 100 * 100) left r (e ∙ rw (ew, ex))
-  rounds h w ew r e truncate left k ns = absurd (omega (arith, numbered op truncate k))
-  rounds h w ew r e equal left k ns = absurd (omega (arith, numbered op equal k))
-  rounds h w ew r e greater left k ns = absurd (omega (arith, numbered op greater k))
+  rounds h w ew r e truncate left k ns = absurd (omega (arith, operation-number op truncate k))
+  rounds h w ew r e equal left k ns = absurd (omega (arith, operation-number op equal k))
+  rounds h w ew r e greater left k ns = absurd (omega (arith, operation-number op greater k))
 
   pub truncates : op ≡ 1005 → (r : Number) → r ≡ inRangeAs (x / 100 * 100) → Operated op a b r
   unfolding compute withNone numberOf truncated
-  truncates h r e add left k ns = absurd (omega (arith, numbered op add k))
-  truncates h r e subtract left k ns = absurd (omega (arith, numbered op subtract k))
-  truncates h r e quotient left k ns = absurd (omega (arith, numbered op quotient k))
-  truncates h r e remainder left k ns = absurd (omega (arith, numbered op remainder k))
-  truncates h r e round left k ns = absurd (omega (arith, numbered op round k))
+  truncates h r e add left k ns = absurd (omega (arith, operation-number op add k))
+  truncates h r e subtract left k ns = absurd (omega (arith, operation-number op subtract k))
+  truncates h r e quotient left k ns = absurd (omega (arith, operation-number op quotient k))
+  truncates h r e remainder left k ns = absurd (omega (arith, operation-number op remainder k))
+  truncates h r e round left k ns = absurd (omega (arith, operation-number op round k))
   truncates h r e truncate left k ns = range-means (a / 100 * 100) left r (e ∙ rw ex)
-  truncates h r e equal left k ns = absurd (omega (arith, numbered op equal k))
-  truncates h r e greater left k ns = absurd (omega (arith, numbered op greater k))
+  truncates h r e equal left k ns = absurd (omega (arith, operation-number op equal k))
+  truncates h r e greater left k ns = absurd (omega (arith, operation-number op greater k))
 
   module _ (not-add : op ≡ 1000 → ⊥) (not-subtract : op ≡ 1001 → ⊥) (not-round : op ≡ 1004 → ⊥) (not-truncate : op ≡ 1005 → ⊥) where
     pub by-zero : y ≡ 0 → Operated op a b OutOfRange
     unfolding compute withOne numberOf thenOf stopUnless divisor
-    by-zero h add left k ns = absurd (not-add (numbered op add k))
-    by-zero h subtract left k ns = absurd (not-subtract (numbered op subtract k))
+    by-zero h add left k ns = absurd (not-add (operation-number op add k))
+    by-zero h subtract left k ns = absurd (not-subtract (operation-number op subtract k))
     by-zero h quotient left k ns = rw (eq-eqb b 0 (omega arith))
     by-zero h remainder left k ns = rw (eq-eqb b 0 (omega arith))
-    by-zero h round left k ns = absurd (not-round (numbered op round k))
-    by-zero h truncate left k ns = absurd (not-truncate (numbered op truncate k))
+    by-zero h round left k ns = absurd (not-round (operation-number op round k))
+    by-zero h truncate left k ns = absurd (not-truncate (operation-number op truncate k))
     by-zero h equal left k ns = absurd (ns refl)
     by-zero h greater left k ns = absurd (ns refl)
 
@@ -149,23 +109,23 @@ module _ (op a b x y : ℕ) (ex : x ≡ a) (ey : y ≡ b) where
 
       pub divides : op ≡ 1002 → (r : Number) → r ≡ inRangeAs (x / y * 100) → Operated op a b r
       unfolding compute withOne numberOf thenOf stopUnless divisor
-      divides h r e add left k ns = absurd (not-add (numbered op add k))
-      divides h r e subtract left k ns = absurd (not-subtract (numbered op subtract k))
+      divides h r e add left k ns = absurd (not-add (operation-number op add k))
+      divides h r e subtract left k ns = absurd (not-subtract (operation-number op subtract k))
       divides h r e quotient left k ns = rw (ne-eqb b 0 nonzero) (range-means (a / b * 100) left r (e ∙ rw (ex, ey)))
-      divides h r e remainder left k ns = absurd (omega (arith, numbered op remainder k))
-      divides h r e round left k ns = absurd (not-round (numbered op round k))
-      divides h r e truncate left k ns = absurd (not-truncate (numbered op truncate k))
+      divides h r e remainder left k ns = absurd (omega (arith, operation-number op remainder k))
+      divides h r e round left k ns = absurd (not-round (operation-number op round k))
+      divides h r e truncate left k ns = absurd (not-truncate (operation-number op truncate k))
       divides h r e equal left k ns = absurd (ns refl)
       divides h r e greater left k ns = absurd (ns refl)
 
       pub remains : (op ≡ 1002 → ⊥) → (r : Number) → r ≡ inRangeAs (x - y * (x / y)) → Operated op a b r
       unfolding compute withOne numberOf thenOf stopUnless divisor
-      remains h r e add left k ns = absurd (not-add (numbered op add k))
-      remains h r e subtract left k ns = absurd (not-subtract (numbered op subtract k))
-      remains h r e quotient left k ns = absurd (h (numbered op quotient k))
+      remains h r e add left k ns = absurd (not-add (operation-number op add k))
+      remains h r e subtract left k ns = absurd (not-subtract (operation-number op subtract k))
+      remains h r e quotient left k ns = absurd (h (operation-number op quotient k))
       remains h r e remainder left k ns = rw (ne-eqb b 0 nonzero) (range-means (a - b * (a / b)) left r (e ∙ rw (ex, ey)))
-      remains h r e round left k ns = absurd (not-round (numbered op round k))
-      remains h r e truncate left k ns = absurd (not-truncate (numbered op truncate k))
+      remains h r e round left k ns = absurd (not-round (operation-number op round k))
+      remains h r e truncate left k ns = absurd (not-truncate (operation-number op truncate k))
       remains h r e equal left k ns = absurd (ns refl)
       remains h r e greater left k ns = absurd (ns refl)
 
@@ -181,7 +141,7 @@ module _ (op a b : ℕ) where
   equals h round left k ns = absurd (ns refl)
   equals h truncate left k ns = absurd (ns refl)
   equals h equal left k ns = refl
-  equals h greater left k ns = absurd (omega (arith, numbered op greater k))
+  equals h greater left k ns = absurd (omega (arith, operation-number op greater k))
 
   pub exceeds : (op ≡ 1008 → ⊥) → Compared op a b (ltb b a)
   unfolding compare withOne numberOf
@@ -191,7 +151,7 @@ module _ (op a b : ℕ) where
   exceeds h remainder left k ns = absurd (ns refl)
   exceeds h round left k ns = absurd (ns refl)
   exceeds h truncate left k ns = absurd (ns refl)
-  exceeds h equal left k ns = absurd (h (numbered op equal k))
+  exceeds h equal left k ns = absurd (h (operation-number op equal k))
   exceeds h greater left k ns = refl
 
 -- what the whole quotient takes away is there

@@ -7,11 +7,10 @@ use native.Mathlib.Omega.{arith}
 use native.Mathlib.Nat.{add-zero}
 use lib.ListN.{length, getD}
 use lib.Dec.{eqb}
-use borrow.Author.Tests.{ne-eqb, lt-ltb, le-ltb, lt-leb}
+use borrow.Author.Tests.{lt-ltb, le-ltb}
 use Rattle.words.specs.Reader.{Words, or, value, refused, _>>=_, return, many}
 use Rattle.words.proofs.Laws.{then-value, in-value, many-suc, many-length}
 use Rattle.grammar.specs.Grammar.{Grammar}
-use Rattle.grammar.specs.Kinds.{isNumber}
 use Rattle.tree.specs.Reading.{tree}
 use Rattle.rules.specs.Limits.{mostParameters}
 use Rattle.rules.specs.Rules.{Rule, Rules, rootOnly, firstMatch, exhaustive, searches}
@@ -23,11 +22,11 @@ use Rattle.rules.specs.declared.Head.{Head as HeadFound}
 use Rattle.rules.specs.declared.HeadRead.{HeadRead}
 use Rattle.rules.specs.declared.HeadRead.the-variants.{Header, NoHead}
 use Rattle.judgement.specs.Wanted.{exactly}
-use Rattle.judgement.specs.Typing.{Place, inPattern, inReplacement, inCondition, aTree, aChain, applicationCount, application, argument, Context, meets, appliesRule, appliesOperation, fitsScope, usable, wantedByOperation, wantedBy, noRule}
+use Rattle.judgement.specs.Typing.{Place, inPattern, inReplacement, inCondition, aTree, aChain, applicationCount, application, argument, Context, meets, appliesRule, appliesOperation, fitsScope, operatesOn, usable, wantedByOperation, wantedBy, noRule}
 use Rattle.dues.specs.declared.Met.{Met}
 use Rattle.dues.specs.declared.Met.the-variants.{Bad, Top}
 use Rattle.dues.specs.Views.{wantedOf, dueOf, Pushed, Meets, wordsAt, parametersDue, searchesAs, appliesMap, argumentsCounted}
-use Rattle.dues.proofs.Stack.{parameters-length, tree-due, chain-due, count-due, application-due}
+use Rattle.dues.proofs.Stack.{parameters-length, tree-due, chain-due, count-due, application-due, wanted-due}
 use Rattle.dues.proofs.Pairs.{arguments-other, arguments-met}
 use Rattle.pairs.specs.Views.{Headed, Book, ruleUsable}
 
@@ -188,9 +187,9 @@ module _ (g : Grammar) (rules : Rules) (here : Place) (s a : ℕ) (ws starts : W
     unfolding usable
     usable-other i = rw (le-ltb a (length rules) (rule-not-there h), ← eb, i)
 
-    pub usable-number : b ≡ true → {r : Bool} → r ≡ isNumber g s → r ≡ usable g rules here s a
+    pub usable-operation : b ≡ true → {r : Bool} → r ≡ operatesOn g a s → r ≡ usable g rules here s a
     unfolding usable
-    usable-number i k = k ∙ rw (le-ltb a (length rules) (rule-not-there h), ← eb, i)
+    usable-operation i k = k ∙ rw (le-ltb a (length rules) (rule-not-there h), ← eb, i)
 
 -- AN APPLICATION
 
@@ -204,7 +203,7 @@ module _ (g : Grammar) (rules : Rules) (here : Place) (s t v at sp : ℕ) (st : 
     unfolding meets wantedBy argumentsCounted
     application-rule l k = rw (← eb, h, lt-ltb t (length rules) l) k
 
-    pub application-operation : length rules ≤ t → Meets m Γ st sp st′ (argumentsCounted (wantedByOperation t) Γ v at) → Meets m Γ st sp st′ (meets g rules here (application s) Γ t v at)
+    pub application-operation : length rules ≤ t → Meets m Γ st sp st′ (argumentsCounted (wantedByOperation s t) Γ v at) → Meets m Γ st sp st′ (meets g rules here (application s) Γ t v at)
     unfolding meets wantedBy argumentsCounted
     application-operation l k = rw (← eb, h, le-ltb t (length rules) l) k
 
@@ -231,5 +230,4 @@ module _ (g : Grammar) (rules : Rules) (here : Place) (a b t v at sp : ℕ) (st 
 
   pub due-argument : 65 < a → (a ≡ 100 → ⊥) → (a ≡ 101 → ⊥) → (a ≡ 102 → ⊥) → Meets m Γ st sp st (meets g rules here (argument (wantedOf a b)) Γ t v at)
       → Meets m Γ st sp st (meets g rules here (dueOf a b) Γ t v at)
-  unfolding dueOf
-  due-argument h h₀ h₁ h₂ k = rw (lt-leb a 65 h, ne-eqb a 100 h₀, ne-eqb a 101 h₁, ne-eqb a 102 h₂) k
+  due-argument h h₀ h₁ h₂ k = rw (wanted-due a b h h₀ h₁ h₂) k

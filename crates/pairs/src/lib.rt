@@ -86,7 +86,7 @@ fn usable(
     if !b {
         return false;
     }
-    tables::is_number(heads, s)
+    dues::operates_on(heads, a, s)
 }
 
 // The pair of a rule that is usable: its count of arguments, and what they are.
@@ -142,7 +142,7 @@ fn meet_application(
     if t < n {
         return meet_rule(types, ws, starts, t, v, at, st, sp);
     }
-    dues::meet_operation(t, v, at, st, sp)
+    dues::meet_operation(s, t, v, at, st, sp)
 }
 
 // ALL THE PAIRS
@@ -151,6 +151,7 @@ fn meet_application(
 fn meet_link(
     here: Place,
     heads: &[u32; HEADS],
+    rows: &[u8; ROWS],
     types: u32,
     ws: &[u32],
     starts: &[usize; STARTS],
@@ -165,7 +166,7 @@ fn meet_link(
     sp: usize,
 ) -> Met
     requires { ⌜ (1 ≤ types) × (getD (now ws) 0 0 ≤ 64) × (length (now ws) < 2 ^ 32) × (65 < a) × Known (now known) n × (sp < 890) × (at < 2 ^ 40) × (length (now st) ≡ 2048) ⌝ }
-    ensures { λ r. ⌜ InHeads (now (heads .entry)) (λ g. (rules : Rules) → Book types (now (ws .entry)) (now (starts .entry)) rules → Meets r (take n (now (known .entry))) (now (st .entry)) sp (now (st .exit)) (Typing.meets g rules (placeAs here) (dueOf a b) (take n (now (known .entry))) t v at)) ⌝ }
+    ensures { λ r. ⌜ InTables (now (heads .entry)) (now (rows .entry)) (λ g. (rules : Rules) → Book types (now (ws .entry)) (now (starts .entry)) rules → Meets r (take n (now (known .entry))) (now (st .entry)) sp (now (st .exit)) (Typing.meets g rules (placeAs here) (dueOf a b) (take n (now (known .entry))) t v at)) ⌝ }
 {
     if a == DUE_CHAIN {
         return dues::meet_start(t, v, known, n, at, st, sp);
@@ -176,7 +177,7 @@ fn meet_link(
     if a == DUE_APPLICATION {
         return meet_application(here, heads, types, ws, starts, b, t, v, at, st, sp);
     }
-    dues::meet_argument(heads, a, b, t, v, known, n, at, sp)
+    dues::meet_argument(heads, rows, a, b, t, v, known, n, at, sp)
 }
 
 // A pair (t, v) where the due at the height sp of the stack is to be met.
@@ -206,6 +207,7 @@ fn meet(
     meet_link(
         here,
         heads,
+        rows,
         types,
         ws,
         starts,

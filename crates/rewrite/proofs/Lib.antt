@@ -5,3 +5,5 @@ pub mod Finding
 pub mod Leaves
 pub mod Closing
 pub mod Placing
+pub mod Standing
+pub mod Numbers

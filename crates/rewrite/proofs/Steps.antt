@@ -13,8 +13,8 @@ use Rattle.grammar.specs.Grammar.{Grammar}
 use Rattle.tree.specs.Tree.{size, isTree, after, firstTree}
 use Rattle.rules.specs.Rules.{Shape, node, new, same, shapes}
 use Rattle.meaning.specs.declared.State.{State}
-use Rattle.meaning.specs.Computation.{ok, stop, stuck, thenOf, stopUnless, surely, check, present, choose}
-use Rattle.meaning.specs.Meaning.{Bindings, live, liveWithin, variable, sameTree, bind, match}
+use Rattle.meaning.specs.Computation.{ok, stop, stuck, thenOf, stopUnless, surely, check, present, choose, liveWithin}
+use Rattle.meaning.specs.Meaning.{Bindings, live, variable, sameTree, bind, match}
 
 -- THE PAIR
 

@@ -82,6 +82,11 @@ pub record Replaced (heads rows w w′ : Words) (base n i from m : ℕ) (r : Pla
       → (r .stop ≡ pick (leb (size (put g scope (2 * i) ws)) mostNodes) (pick (leb (nesting g (put g scope (2 * i) ws)) mostNesting) 0 43) 42)
       × PlacedAs g w w′ base t (put g scope (2 * i) ws) (r .stop) (r .nodes)
 
+-- 0 says that a computation gives a value of which P holds; any other number that it stops by it
+abbrev pub Says : {A : Type 0} → (A → Type 0) → ℕ → State → Result A → Type 0
+Says {A} P zero left m = (a : A) × P a × (m ≡ ok a left)
+Says P (suc k) left m = m ≡ stop (suc k) left
+
 -- what an operation made of the number at base: 0, and its value is written; or the stop, and nothing is changed
 abbrev pub ComputedAs : Words → Words → ℕ → Result ℕ → State → ℕ → Type 0
 ComputedAs w w′ base m left zero = (v : ℕ) × (m ≡ ok v left) × (w′ ≡ set w (base + 1) v)

@@ -19,10 +19,15 @@ pub data Shape : Type 0 where
 pub data Operation : Type 0 where
   add subtract quotient remainder round truncate equal greater : Operation
 
--- what is applied: a rule by its number, an operation, or neither
+-- the operations on sequences: "1,010 join", "1,011 select from N1 to N2", "1,012 head", "1,013 tail", "1,014 length" (here count), "1,015 extract"
+pub data Edit : Type 0 where
+  join select head tail count extract : Edit
+
+-- what is applied: a rule by its number, an operation on numbers or on sequences, or none of these
 pub data Applied : Type 0 where
   rule : ℕ → Applied
   operation : Operation → Applied
+  editing : Edit → Applied
   nothing : Applied
 
 -- what is applied to a scope, with the variables that are its arguments
@@ -72,11 +77,12 @@ Rules = List Rule
 
 -- WHAT IS APPLIED
 
--- "1,000 add, 1,001 subtract, 1,002 quotient .., 1,003 remainder .., 1,004 round .., 1,005 truncate .., 1,008 equal, 1,009 scope greater"
+-- "1,000 add, 1,001 subtract, 1,002 quotient .., 1,003 remainder .., 1,004 round .., 1,005 truncate .., 1,008 equal, 1,009 scope greater"; then those
+-- on sequences
 unfoldable pub operations : List Applied
 operations =
     operation add ∷ operation subtract ∷ operation quotient ∷ operation remainder ∷ operation round ∷ operation truncate ∷ nothing ∷ nothing
-    ∷ operation equal ∷ operation greater ∷ []
+    ∷ operation equal ∷ operation greater ∷ editing join ∷ editing select ∷ editing head ∷ editing tail ∷ editing count ∷ editing extract ∷ []
 
 -- an application's first word; the numbers below 1,000 are rule numbers, whether the rule is there or not
 unfoldable pub applied : ℕ → Applied

@@ -39,3 +39,16 @@ pub const LAST_OPERATION: u32 = 1005;
 pub const FIRST_TEST: u32 = 1008;
 
 pub const LAST_TEST: u32 = 1009;
+
+// The operations on sequences: join is the first, extract the last.
+pub const JOIN: u32 = 1010;
+
+pub const SELECT: u32 = 1011;
+
+pub const HEAD: u32 = 1012;
+
+pub const TAIL: u32 = 1013;
+
+pub const COUNT: u32 = 1014;
+
+pub const EXTRACT: u32 = 1015;

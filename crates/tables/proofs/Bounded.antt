@@ -38,7 +38,7 @@ AllLow (f ∷ fs) = Low f × AllLow fs
 abbrev KindLow : Kind → Type 0
 KindLow (token c) = Unit {0}
 KindLow (opt e) = e < mostTypes
-KindLow (sequence e) = e < mostTypes
+KindLow (sequence style e) = e < mostTypes
 KindLow (forms fs) = AllLow fs
 
 abbrev KindsLow : Grammar → Type 0
@@ -75,7 +75,7 @@ module _ (ws : Words) (n : ℕ) (few : n ≤ mostTypes) where
   kind-low : {at : ℕ} {k : Kind} {next : ℕ} → KindAt ws n at k next → KindLow k
   kind-low (isToken e c) = tt
   kind-low (isOpt e c l) = omega arith
-  kind-low (isSequence e c l) = omega arith
+  kind-low (isSequence style e c l) = omega arith
   kind-low {at} (hasForms {fs} {next} c e ec low high r) = forms-low c (at + 2) fs next r
 
   kinds-low : (k at : ℕ) (ks : Grammar) (next : ℕ) → many k (kind ws n) at ≡ value ks next → KindsLow ks
@@ -106,7 +106,7 @@ childrenOf-low : (kd : Kind) (t v : ℕ) → t < mostTypes → KindLow kd → Lo
 unfolding childrenOf
 childrenOf-low (token c) t v h l = tt
 childrenOf-low (opt e) t v h l = pick-low (eqb v 0) (e ∷ []) [] (l, tt) tt
-childrenOf-low (sequence e) t v h l = pick-low (eqb v 0) (e ∷ t ∷ []) [] (l, (h, tt)) tt
+childrenOf-low (sequence style e) t v h l = pick-low (eqb v 0) (e ∷ t ∷ []) [] (l, (h, tt)) tt
 childrenOf-low (forms fs) t v h l = form-at-low fs v l
 
 children-low : (g : Grammar) → KindsLow g → (t v : ℕ) → t < mostTypes → Low (children g t v)

@@ -13,11 +13,16 @@ use Rattle.words.specs.Reader.{Words, pick, or, value, many, accepted}
 use Rattle.words.proofs.Laws.{accepted-value, many-none, many-suc, many-length, or-true}
 use Rattle.words.proofs.Sets.{sets-append, set-below}
 use Rattle.grammar.specs.Limits.{greatestName, greatestNumber}
-use Rattle.grammar.specs.Grammar.{Kind, token, opt, sequence, forms, Grammar, isLiteral, typesOf, element, form, kind}
+use Rattle.grammar.specs.Grammar.{Style, repeat, list, mapIn, Kind, token, opt, sequence, forms, Grammar, isLiteral, typesOf, element, form, kind}
 use Rattle.grammar.specs.Values.{valuesOf}
 use Rattle.tables.specs.Tables.{mapOf, rowAt}
 use Rattle.tables.specs.Filling.{listOf, kindRead, nextOf, typeCount, rowOf, rowsOf, putRows, putKinds, putHeads, ElementPut, FormPut, FormsPut, KindPut}
 use Rattle.tables.proofs.Records.{element-at, FormAt, form-at, KindAt, isToken, isOpt, isSequence, hasForms, RecordAt, record-at}
+
+-- a sequence's map is no other kind's
+style-map : (s : Style) → (4 ≤ mapIn s) × (mapIn s ≡ 8 → ⊥)
+style-map repeat = (omega arith, λ e. omega arith)
+style-map list = (omega arith, λ e. omega arith)
 
 -- AN ELEMENT
 
@@ -228,7 +233,7 @@ module _ (ws : Words) (at : ℕ) (a : accepted (kind ws (typeCount ws) at) ≡ t
     forms-told : (k : Kind) (next : ℕ) → KindAt ws (typeCount ws) at k next → m ≡ 8 → (fs : List (List ℕ)) × (k ≡ forms fs) × (w ≤ 16) × (many w (form ws (typeCount ws)) (at + 2) ≡ value fs next)
     forms-told k next (isToken e c) h = absurd (omega arith)
     forms-told k next (isOpt e c l) h = absurd (omega arith)
-    forms-told k next (isSequence e c l) h = absurd (omega arith)
+    forms-told k next (isSequence style e c l) h = absurd (style-map style .1 (sym e ∙ sym em ∙ h))
     forms-told k next (hasForms {fs} c e ec low high r) h = let z : w ≡ c = ew ∙ ec in (fs, refl, omega arith, rw z r)
 
     pub record-forms : m ≡ 8 → (w ≤ 16) × (accepted (many w (form ws (typeCount ws)) (at + 2)) ≡ true)
@@ -249,7 +254,7 @@ module _ (ws : Words) (at : ℕ) (a : accepted (kind ws (typeCount ws) at) ≡ t
     token-told : (k : Kind) (next : ℕ) → KindAt ws (typeCount ws) at k next → m ≡ 1 → (k ≡ token w) × (next ≡ at + 2)
     token-told k next (isToken e c) h = (rw (ew ∙ c), refl)
     token-told k next (isOpt e c l) h = absurd (omega arith)
-    token-told k next (isSequence e c l) h = absurd (omega arith)
+    token-told k next (isSequence style e c l) h = absurd (omega (arith, style-map style .0))
     token-told k next (hasForms c e ec low high r) h = absurd (omega arith)
 
     pub put-token : m ≡ 1 → (t : ℕ) (rows : List ℕ) → KindPut rows rows t (at + 2) (kind ws (typeCount ws) at)
@@ -266,7 +271,7 @@ module _ (ws : Words) (at : ℕ) (a : accepted (kind ws (typeCount ws) at) ≡ t
     opt-told : (k : Kind) (next : ℕ) → KindAt ws (typeCount ws) at k next → m ≡ 2 → (k ≡ opt w) × (next ≡ at + 2) × (w ≤ typeCount ws - 1)
     opt-told k next (isToken e c) h = absurd (omega arith)
     opt-told k next (isOpt e c l) h = (rw (ew ∙ c), refl, omega arith)
-    opt-told k next (isSequence e c l) h = absurd (omega arith)
+    opt-told k next (isSequence style e c l) h = absurd (omega (arith, style-map style .0))
     opt-told k next (hasForms c e ec low high r) h = absurd (omega arith)
 
     pub record-opt : m ≡ 2 → typeCount ws ≤ 64 → w < 64
@@ -284,14 +289,14 @@ module _ (ws : Words) (at : ℕ) (a : accepted (kind ws (typeCount ws) at) ≡ t
         }
 
     -- a sequence
-    sequence-told : (k : Kind) (next : ℕ) → KindAt ws (typeCount ws) at k next → (m ≡ 8 → ⊥) → (m ≡ 1 → ⊥) → (m ≡ 2 → ⊥) → (k ≡ sequence w) × (next ≡ at + 2) × (w ≤ typeCount ws - 1)
+    sequence-told : (k : Kind) (next : ℕ) → KindAt ws (typeCount ws) at k next → (m ≡ 8 → ⊥) → (m ≡ 1 → ⊥) → (m ≡ 2 → ⊥) → (style : Style) × (k ≡ sequence style w) × (next ≡ at + 2) × (w ≤ typeCount ws - 1)
     sequence-told k next (isToken e c) h₈ h₁ h₂ = absurd (h₁ (em ∙ e))
     sequence-told k next (isOpt e c l) h₈ h₁ h₂ = absurd (h₂ (em ∙ e))
-    sequence-told k next (isSequence e c l) h₈ h₁ h₂ = (rw (ew ∙ c), refl, omega arith)
+    sequence-told k next (isSequence style e c l) h₈ h₁ h₂ = (style, rw (ew ∙ c), refl, omega arith)
     sequence-told k next (hasForms c e ec low high r) h₈ h₁ h₂ = absurd (h₈ (em ∙ e))
 
     pub record-sequence : (m ≡ 8 → ⊥) → (m ≡ 1 → ⊥) → (m ≡ 2 → ⊥) → typeCount ws ≤ 64 → w < 64
-    record-sequence h₈ h₁ h₂ l = let u = the-record in let f = sequence-told (u .0) (u .1) (u .3 .kind-at) h₈ h₁ h₂ in omega (arith, f .2)
+    record-sequence h₈ h₁ h₂ l = let u = the-record in let f = sequence-told (u .0) (u .1) (u .3 .kind-at) h₈ h₁ h₂ in omega (arith, f .3)
 
     pub put-sequence : (m ≡ 8 → ⊥) → (m ≡ 1 → ⊥) → (m ≡ 2 → ⊥) → (t base x : ℕ) (rows rows₁ rows₂ rows₃ : List ℕ) → base ≡ rowAt t 0 → x ≡ w
         → rows₁ ≡ set rows base 2 → rows₂ ≡ set rows₁ (base + 1) x → rows₃ ≡ set rows₂ (base + 2) t → KindPut rows rows₃ t (at + 2) (kind ws (typeCount ws) at)
@@ -301,8 +306,8 @@ module _ (ws : Words) (at : ℕ) (a : accepted (kind ws (typeCount ws) at) ≡ t
         let f = sequence-told (u .0) (u .1) (u .3 .kind-at) h₈ h₁ h₂ in
         let s : rows₃ ≡ sets rows (rowAt t 0) (2 ∷ w ∷ t ∷ []) = e₃ ∙ rw (e₂, e₁, ex, add-one base, add-two base, eb) in
         record {
-          stored = s ∙ sym (ap (λ q. putRows rows t 0 (rowsOf t (kindRead q))) (u .2) ∙ ap (λ k. putRows rows t 0 (rowsOf t k)) (f .0));
-          next = sym (f .1) ∙ sym (ap nextOf (u .2));
+          stored = s ∙ sym (ap (λ q. putRows rows t 0 (rowsOf t (kindRead q))) (u .2) ∙ ap (λ k. putRows rows t 0 (rowsOf t k)) (f .1));
+          next = sym (f .2) ∙ sym (ap nextOf (u .2));
         }
 
     -- the map and the values
@@ -315,7 +320,7 @@ module _ (ws : Words) (at : ℕ) (a : accepted (kind ws (typeCount ws) at) ≡ t
     unfolding mapOf
     is-told k next (isToken e c) = em ∙ e
     is-told k next (isOpt e c l) = em ∙ e
-    is-told k next (isSequence e c l) = em ∙ e
+    is-told k next (isSequence style e c l) = em ∙ e
     is-told k next (hasForms {fs} c e ec low high r) = em ∙ e ∙ map-forms fs c next low r
 
     pub record-map : m ≡ mapOf (kindRead (kind ws (typeCount ws) at))
@@ -343,7 +348,7 @@ module _ (ws : Words) (at : ℕ) (a : accepted (kind ws (typeCount ws) at) ≡ t
         two : (k : Kind) (next : ℕ) → KindAt ws (typeCount ws) at k next → 2 ≡ valuesOf k
         two k next (isToken e c) = absurd (h₁ (em ∙ e))
         two k next (isOpt e c l) = refl
-        two k next (isSequence e c l) = refl
+        two k next (isSequence style e c l) = refl
         two k next (hasForms c e ec low high r) = absurd (h₈ (em ∙ e))
 
 -- THE TYPES

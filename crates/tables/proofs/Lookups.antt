@@ -6,10 +6,10 @@ use mathlib.Core.Bool.{Bool, true, false}
 use native.Mathlib.Omega.{arith}
 use lib.ListN.{length, getD, List·getD-eq-default}
 use lib.Dec.{ltb, eqb}
-use borrow.Author.Tests.{ne-eqb}
-use Rattle.words.specs.Reader.{pick}
+use borrow.Author.Tests.{eq-eqb, ne-eqb}
+use Rattle.words.specs.Reader.{pick, or}
 use Rattle.grammar.specs.Limits.{greatestName, greatestNumber}
-use Rattle.grammar.specs.Grammar.{Kind, token, opt, sequence, forms, Grammar}
+use Rattle.grammar.specs.Grammar.{repeat, list, Kind, token, opt, sequence, forms, Grammar}
 use Rattle.grammar.specs.Kinds.{kindOf, allowed, childrenOf, children, isSequenceKind, isSequence, isNumberKind, isNumber}
 use Rattle.grammar.specs.Values.{valuesOf}
 use Rattle.grammar.proofs.Values.{values-allow}
@@ -46,17 +46,24 @@ pub allowed-by : (g : Grammar) (t v n : ℕ) → n ≡ valuesOf (kindOf g t) →
 unfolding allowed
 allowed-by g t v n e = rw e (values-allow (kindOf g t) v)
 
-map-sequence : (k : Kind) → eqb (mapOf k) 4 ≡ isSequenceKind k
+map-sequence : (k : Kind) → or (eqb (mapOf k) 4) (eqb (mapOf k) 16) ≡ isSequenceKind k
 unfolding mapOf isSequenceKind
 map-sequence (token c) = refl
 map-sequence (opt e) = refl
-map-sequence (sequence e) = refl
+map-sequence (sequence repeat e) = refl
+map-sequence (sequence list e) = refl
 map-sequence (forms []) = refl
 map-sequence (forms (f ∷ fs)) = refl
 
-pub sequence-by : (g : Grammar) (t m : ℕ) → m ≡ mapOf (kindOf g t) → eqb m 4 ≡ isSequence g t
+sequence-by : (g : Grammar) (t m : ℕ) → m ≡ mapOf (kindOf g t) → or (eqb m 4) (eqb m 16) ≡ isSequence g t
 unfolding isSequence
 sequence-by g t m e = rw e (map-sequence (kindOf g t))
+
+pub sequence-repeat : (g : Grammar) (t m : ℕ) → m ≡ mapOf (kindOf g t) → m ≡ 4 → true ≡ isSequence g t
+sequence-repeat g t m e h = rw (← sequence-by g t m e, eq-eqb m 4 h)
+
+pub sequence-list : (g : Grammar) (t m : ℕ) → m ≡ mapOf (kindOf g t) → (m ≡ 4 → ⊥) → eqb m 16 ≡ isSequence g t
+sequence-list g t m e h = rw (← sequence-by g t m e, ne-eqb m 4 h)
 
 pub token-by : (g : Grammar) (t m : ℕ) → m ≡ mapOf (kindOf g t) → eqb m 1 ≡ isToken g t
 unfolding isToken
@@ -70,7 +77,7 @@ values-number (token c) h = go (eqb c 2)
     go true = refl
     go false = refl
 values-number (opt e) h = refl
-values-number (sequence e) h = refl
+values-number (sequence style e) h = refl
 values-number (forms fs) h = ne-eqb (length fs) (greatestNumber + 1) (λ e. omega arith)
 
 pub number-by : (g : Grammar) (t n : ℕ) → length (formsOf (kindOf g t)) ≤ 16 → n ≡ valuesOf (kindOf g t) → eqb n (greatestNumber + 1) ≡ isNumber g t

@@ -9,7 +9,7 @@ use lib.Dec.{ltb, eqb}
 use borrow.Author.Tests.{eqb-true}
 use Rattle.words.specs.Reader.{Words, pick, or, value, refused, andThen, _>>=_, return, word, many}
 use Rattle.words.proofs.Laws.{then-value, pick-value, word-value, in-value, many-length}
-use Rattle.grammar.specs.Grammar.{Kind, token, opt, sequence, forms, isLiteral, typesOf, field, element, form, kind}
+use Rattle.grammar.specs.Grammar.{Style, repeat, list, mapIn, Kind, token, opt, sequence, forms, isLiteral, typesOf, field, element, form, kind}
 
 -- AN ELEMENT
 
@@ -67,7 +67,7 @@ form-short ws n at {ts} {next} e =
 pub data KindAt (ws : Words) (n at : ℕ) : Kind → ℕ → Type 0 where
   isToken : {c : ℕ} → getD ws at 0 ≡ 1 → getD ws (at + 1) 0 ≡ c → KindAt ws n at (token c) (at + 2)
   isOpt : {e : ℕ} → getD ws at 0 ≡ 2 → getD ws (at + 1) 0 ≡ e → e ≤ n - 1 → KindAt ws n at (opt e) (at + 2)
-  isSequence : {e : ℕ} → getD ws at 0 ≡ 4 → getD ws (at + 1) 0 ≡ e → e ≤ n - 1 → KindAt ws n at (sequence e) (at + 2)
+  isSequence : (style : Style) {e : ℕ} → getD ws at 0 ≡ mapIn style → getD ws (at + 1) 0 ≡ e → e ≤ n - 1 → KindAt ws n at (sequence style e) (at + 2)
   hasForms : {fs : List (List ℕ)} {next : ℕ} (k : ℕ) → getD ws at 0 ≡ 8 → getD ws (at + 1) 0 ≡ k → 1 ≤ k → k ≤ 16 → many k (form ws n) (at + 2) ≡ value fs next → KindAt ws n at (forms fs) next
 
 pub record RecordAt (ws : Words) (n at : ℕ) (k : Kind) (next : ℕ) : Type 0 where
@@ -94,8 +94,8 @@ module _ (ws : Words) (n at : ℕ) (k : Kind) (next : ℕ) where
   opt-at : getD ws at 0 ≡ 2 → andThen (field ws 0 (n - 1) (at + 1)) (λ c. return (opt c)) ≡ value k next → RecordAt ws n at k next
   opt-at m h = let u = one-field 0 (n - 1) opt h in is-record (opt (u .1)) (at + 2) (u .4) (u .5) (u .0) (isOpt m (u .2) (u .3))
 
-  sequence-at : getD ws at 0 ≡ 4 → andThen (field ws 0 (n - 1) (at + 1)) (λ c. return (sequence c)) ≡ value k next → RecordAt ws n at k next
-  sequence-at m h = let u = one-field 0 (n - 1) sequence h in is-record (sequence (u .1)) (at + 2) (u .4) (u .5) (u .0) (isSequence m (u .2) (u .3))
+  sequence-at : (style : Style) → getD ws at 0 ≡ mapIn style → andThen (field ws 0 (n - 1) (at + 1)) (λ c. return (sequence style c)) ≡ value k next → RecordAt ws n at k next
+  sequence-at style m h = let u = one-field 0 (n - 1) (sequence style) h in is-record (sequence style (u .1)) (at + 2) (u .4) (u .5) (u .0) (isSequence style m (u .2) (u .3))
 
   has-forms : (c p : ℕ) (fs : List (List ℕ)) → getD ws at 0 ≡ 8 → c ≡ getD ws (at + 1) 0 → 1 ≤ c → c ≤ 16 → p ≡ at + 2 → many c (form ws n) p ≡ value fs next → KindAt ws n at (forms fs) next
   has-forms c p fs m ec low high ep e = hasForms c m (sym ec) low high (rw ep at e)
@@ -113,14 +113,15 @@ module _ (ws : Words) (n at : ℕ) (k : Kind) (next : ℕ) where
   record-at e =
       let u = then-value (word 10 ws at) _ e in
       let w = word-value 10 ws at (u .2) in
-      go (u .0) (u .1) (w .1) (w .2) (eqb (u .0) 1) (eqb (u .0) 2) (eqb (u .0) 4) (eqb (u .0) 8) refl refl refl refl (u .3)
+      go (u .0) (u .1) (w .1) (w .2) (eqb (u .0) 1) (eqb (u .0) 2) (eqb (u .0) 4) (eqb (u .0) 8) (eqb (u .0) 16) refl refl refl refl refl (u .3)
     where
-      go : (m p : ℕ) → m ≡ getD ws at 0 → p ≡ at + 1 → (a b c d : Bool) → eqb m 1 ≡ a → eqb m 2 ≡ b → eqb m 4 ≡ c → eqb m 8 ≡ d
-          → pick a (_>>=_ (field ws 1 3) (λ c. return (token c))) (pick b (_>>=_ (field ws 0 (n - 1)) (λ c. return (opt c))) (pick c (_>>=_ (field ws 0 (n - 1)) (λ c. return (sequence c)))
-          (pick d (_>>=_ (field ws 1 16) (λ c. _>>=_ (many c (form ws n)) (λ fs. return (forms fs)))) (λ q. refused 11 at)))) p ≡ value k next
+      go : (m p : ℕ) → m ≡ getD ws at 0 → p ≡ at + 1 → (a b c d f : Bool) → eqb m 1 ≡ a → eqb m 2 ≡ b → eqb m 4 ≡ c → eqb m 8 ≡ d → eqb m 16 ≡ f
+          → pick a (_>>=_ (field ws 1 3) (λ c. return (token c))) (pick b (_>>=_ (field ws 0 (n - 1)) (λ c. return (opt c))) (pick c (_>>=_ (field ws 0 (n - 1)) (λ c. return (sequence repeat c)))
+          (pick d (_>>=_ (field ws 1 16) (λ c. _>>=_ (many c (form ws n)) (λ fs. return (forms fs)))) (pick f (_>>=_ (field ws 0 (n - 1)) (λ c. return (sequence list c))) (λ q. refused 11 at))))) p ≡ value k next
           → RecordAt ws n at k next
-      go m p em ep true b c d ea eb ec ed h = token-at (sym em ∙ eqb-true m 1 ea) (rw ep at h)
-      go m p em ep false true c d ea eb ec ed h = opt-at (sym em ∙ eqb-true m 2 eb) (rw ep at h)
-      go m p em ep false false true d ea eb ec ed h = sequence-at (sym em ∙ eqb-true m 4 ec) (rw ep at h)
-      go m p em ep false false false true ea eb ec ed h = forms-at (sym em ∙ eqb-true m 8 ed) (rw ep at h)
-      go m p em ep false false false false ea eb ec ed h = let z : _≡_ {A = ℕ} 0 1 = cc in absurd (omega arith)
+      go m p em ep true b c d f ea eb ec ed ef h = token-at (sym em ∙ eqb-true m 1 ea) (rw ep at h)
+      go m p em ep false true c d f ea eb ec ed ef h = opt-at (sym em ∙ eqb-true m 2 eb) (rw ep at h)
+      go m p em ep false false true d f ea eb ec ed ef h = sequence-at repeat (sym em ∙ eqb-true m 4 ec) (rw ep at h)
+      go m p em ep false false false true f ea eb ec ed ef h = forms-at (sym em ∙ eqb-true m 8 ed) (rw ep at h)
+      go m p em ep false false false false true ea eb ec ed ef h = sequence-at list (sym em ∙ eqb-true m 16 ef) (rw ep at h)
+      go m p em ep false false false false false ea eb ec ed ef h = let z : _≡_ {A = ℕ} 0 1 = cc in absurd (omega arith)

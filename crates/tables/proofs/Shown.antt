@@ -46,7 +46,7 @@ kind-small : (ws : Words) (n at : ℕ) (k : Kind) (next : ℕ) → KindAt ws n a
 unfolding rowsOf formsOf
 kind-small ws n at k next (isToken e c) = record { few = omega arith; short = λ t. tt; forms-few = omega arith }
 kind-small ws n at k next (isOpt e c l) = record { few = omega arith; short = λ t. (omega arith, tt); forms-few = omega arith }
-kind-small ws n at k next (isSequence e c l) = record { few = omega arith; short = λ t. (omega arith, tt); forms-few = omega arith }
+kind-small ws n at k next (isSequence style e c l) = record { few = omega arith; short = λ t. (omega arith, tt); forms-few = omega arith }
 kind-small ws n at k next (hasForms {fs} c e ec low high r) =
     let l = many-length (form ws n) c (at + 2) fs next r in
     record { few = omega arith; short = λ t. forms-short ws n c (at + 2) fs next r; forms-few = omega arith }
@@ -114,7 +114,7 @@ rows-few : (t : ℕ) (k : Kind) → Small k → length (rowsOf t k) ≤ 16
 unfolding rowsOf
 rows-few t (token c) s = omega arith
 rows-few t (opt e) s = omega arith
-rows-few t (sequence e) s = omega arith
+rows-few t (sequence style e) s = omega arith
 rows-few t (forms fs) s = s .few
 
 kinds-below : (ks : Grammar) (rows : List ℕ) (t j : ℕ) → j < rowAt t 0 → getD (putKinds rows t ks) j 0 ≡ getD rows j 0
@@ -128,8 +128,8 @@ unfolding rowsOf childrenOf
 row-children t v (token c) = refl
 row-children t zero (opt e) = refl
 row-children t (suc v) (opt e) = rw (eqb·suc-zero v)
-row-children t zero (sequence e) = refl
-row-children t (suc v) (sequence e) = rw (eqb·suc-zero v)
+row-children t zero (sequence style e) = refl
+row-children t (suc v) (sequence style e) = rw (eqb·suc-zero v)
 row-children t v (forms fs) = refl
 
 no-form : (t v : ℕ) → childrenOf (forms []) t v ≡ []

@@ -36,7 +36,7 @@ rowOf ts = length ts ∷ ts
 unfoldable pub rowsOf : ℕ → Kind → List (List ℕ)
 rowsOf t (token c) = []
 rowsOf t (opt e) = (e ∷ []) ∷ []
-rowsOf t (sequence e) = (e ∷ t ∷ []) ∷ []
+rowsOf t (sequence style e) = (e ∷ t ∷ []) ∷ []
 rowsOf t (forms fs) = fs
 
 -- the rows of type t from the value v on

@@ -7,7 +7,7 @@ use lib.ListN.{length, getD}
 use lib.Dec.{eqb}
 use Rattle.words.specs.Reader.{Read, value, refused}
 use Rattle.grammar.specs.Limits.{mostTypes, mostForms, mostElements}
-use Rattle.grammar.specs.Grammar.{Kind, token, opt, sequence, forms, Grammar}
+use Rattle.grammar.specs.Grammar.{mapIn, Kind, token, opt, sequence, forms, Grammar}
 use Rattle.grammar.specs.Kinds.{kindOf, children}
 use Rattle.grammar.specs.Values.{valuesOf}
 
@@ -15,7 +15,7 @@ use Rattle.grammar.specs.Values.{valuesOf}
 unfoldable pub mapOf : Kind → ℕ
 mapOf (token c) = 1
 mapOf (opt e) = 2
-mapOf (sequence e) = 4
+mapOf (sequence style e) = mapIn style
 mapOf (forms []) = 0
 mapOf (forms (f ∷ fs)) = 8
 
@@ -27,7 +27,7 @@ isToken g t = eqb (mapOf (kindOf g t)) 1
 unfoldable pub formsOf : Kind → List (List ℕ)
 formsOf (token c) = []
 formsOf (opt e) = []
-formsOf (sequence e) = []
+formsOf (sequence style e) = []
 formsOf (forms fs) = fs
 
 -- `heads` has two words a type: the map of its record, and how many values its nodes may have

@@ -197,7 +197,10 @@ pub fn is_sequence(heads: &[u32; HEADS], t: u32) -> bool
     ensures { λ r. ⌜ InHeads (now (heads .entry)) (λ g. r ≡ isSequence g t) ⌝ }
 {
     let m = map_of(heads, t);
-    m == 4
+    if m == 4 {
+        return true;
+    }
+    m == 16
 }
 
 // Is the type a token?

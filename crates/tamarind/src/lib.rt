@@ -418,7 +418,7 @@ pub extern "C" fn tamarind_run(
 }
 
 // 0 is document 01, and a change request that a caller can see sets its own number: 1 is T-01, 2 is T-02.
-const EDITION: u32 = 2;
+const EDITION: u32 = 4;
 
 // The edition of these functions: a caller asks whether it was written for this one.
 #[no_mangle]

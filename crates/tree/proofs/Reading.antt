@@ -104,7 +104,7 @@ kind-dues (opt e) d v k h = go (eqb v 0)
     go : (b : Bool) → duesOf (pick b (suc k ∷ []) []) (pick b (e ∷ []) []) ≡ level (suc k) (pick b (e ∷ []) [])
     go true = refl
     go false = refl
-kind-dues (sequence e) d v k h = let z : _≡_ {A = ℕ} 0 1 = cc in absurd (omega arith)
+kind-dues (sequence style e) d v k h = let z : _≡_ {A = ℕ} 0 1 = cc in absurd (omega arith)
 kind-dues (forms fs) d v k h = dues-level (suc k) (getD fs v [])
 
 pub children-dues : (g : Grammar) (d v k : ℕ) → isSequence g d ≡ false → duesOf (levels g d v k) (children g d v) ≡ level (suc k) (children g d v)
@@ -116,7 +116,7 @@ kind-some : (kd : Kind) (d k : ℕ) → isSequenceKind kd ≡ true → duesOf (l
 unfolding isSequenceKind levelsOf childrenOf duesOf
 kind-some (token c) d k h = let z : _≡_ {A = ℕ} 0 1 = cc in absurd (omega arith)
 kind-some (opt e) d k h = let z : _≡_ {A = ℕ} 0 1 = cc in absurd (omega arith)
-kind-some (sequence e) d k h = refl
+kind-some (sequence style e) d k h = refl
 kind-some (forms fs) d k h = let z : _≡_ {A = ℕ} 0 1 = cc in absurd (omega arith)
 
 pub sequence-some : (g : Grammar) (d k : ℕ) → isSequence g d ≡ true → duesOf (levels g d 0 k) (children g d 0) ≡ tree (suc k) (getD (children g d 0) 0 0) ∷ tree k d ∷ []
@@ -127,7 +127,7 @@ kind-none : (kd : Kind) (d v k : ℕ) → isSequenceKind kd ≡ true → (v ≡ 
 unfolding isSequenceKind levelsOf childrenOf duesOf
 kind-none (token c) d v k h z = let z : _≡_ {A = ℕ} 0 1 = cc in absurd (omega arith)
 kind-none (opt e) d v k h z = let z : _≡_ {A = ℕ} 0 1 = cc in absurd (omega arith)
-kind-none (sequence e) d v k h z = rw (ne-eqb v 0 z)
+kind-none (sequence style e) d v k h z = rw (ne-eqb v 0 z)
 kind-none (forms fs) d v k h z = let z : _≡_ {A = ℕ} 0 1 = cc in absurd (omega arith)
 
 pub sequence-none : (g : Grammar) (d v k : ℕ) → isSequence g d ≡ true → (v ≡ 0 → ⊥) → duesOf (levels g d v k) (children g d v) ≡ []

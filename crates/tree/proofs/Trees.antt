@@ -185,7 +185,7 @@ levelsOf-length : (kd : Kind) (t v k : ℕ) → length (levelsOf kd v k) ≡ len
 unfolding levelsOf childrenOf
 levelsOf-length (token c) t v k = refl
 levelsOf-length (opt e) t v k = pick-length (eqb v 0) (suc k ∷ []) [] (e ∷ []) [] refl refl
-levelsOf-length (sequence e) t v k = pick-length (eqb v 0) (suc k ∷ k ∷ []) [] (e ∷ t ∷ []) [] refl refl
+levelsOf-length (sequence style e) t v k = pick-length (eqb v 0) (suc k ∷ k ∷ []) [] (e ∷ t ∷ []) [] refl refl
 levelsOf-length (forms fs) t v k = length-map (getD fs v []) (λ e. suc k)
 
 -- one for each child
@@ -221,7 +221,7 @@ levelsOf-rise : (kd : Kind) (v k l : ℕ) → k ≤ l → LeAll (levelsOf kd v k
 unfolding levelsOf
 levelsOf-rise (token c) v k l h = tt
 levelsOf-rise (opt e) v k l h = pick-leAll (eqb v 0) (suc k ∷ []) [] (suc l ∷ []) [] (omega arith, tt) tt
-levelsOf-rise (sequence e) v k l h = pick-leAll (eqb v 0) (suc k ∷ k ∷ []) [] (suc l ∷ l ∷ []) [] (omega arith, (h, tt)) tt
+levelsOf-rise (sequence style e) v k l h = pick-leAll (eqb v 0) (suc k ∷ k ∷ []) [] (suc l ∷ l ∷ []) [] (omega arith, (h, tt)) tt
 levelsOf-rise (forms fs) v k l h = leAll-map (getD fs v []) k l h
 
 levels-rise : (g : Grammar) (t v k l : ℕ) → k ≤ l → LeAll (levels g t v k) (levels g t v l)
@@ -269,7 +269,7 @@ levelsOf-positive : (kd : Kind) (v k : ℕ) → 1 ≤ k → Positive (levelsOf k
 unfolding levelsOf
 levelsOf-positive (token c) v k h = tt
 levelsOf-positive (opt e) v k h = pick-positive (eqb v 0) (suc k ∷ []) [] (omega arith, tt) tt
-levelsOf-positive (sequence e) v k h = pick-positive (eqb v 0) (suc k ∷ k ∷ []) [] (omega arith, (h, tt)) tt
+levelsOf-positive (sequence style e) v k h = pick-positive (eqb v 0) (suc k ∷ k ∷ []) [] (omega arith, (h, tt)) tt
 levelsOf-positive (forms fs) v k h = positive-map (getD fs v []) k
 
 pub more-positive : (g : Grammar) (t v k : ℕ) (ks : List ℕ) → 1 ≤ k → Positive ks → Positive (levels g t v k ++ ks)

@@ -8,7 +8,7 @@ use Rattle.words.specs.Reader.{Words, word, wordIn, many, end}
 use Rattle.words.specs.Views.{answer}
 use Rattle.words.specs.declared.Check.{Check}
 use Rattle.words.specs.declared.Check.the-variants.{Passed, Refused}
-use Rattle.grammar.specs.Grammar.{token, sequence, forms, Grammar, typesOf, field, element, form, kind, grammar, allKnown, anyFormKnown, finishes, round, rounds, finite, finiteRecords, readGrammar, grammarFits, checkGrammar}
+use Rattle.grammar.specs.Grammar.{repeat, token, sequence, forms, Grammar, typesOf, field, element, form, kind, grammar, allKnown, anyFormKnown, finishes, round, rounds, finite, finiteRecords, readGrammar, grammarFits, checkGrammar}
 use Rattle.grammar.specs.Kinds.{kindOf, allows, allowed, childrenOf, children}
 use Rattle.tree.specs.Tree.{levelsOf, levels}
 use Rattle.tree.specs.Dues.{pairs, whole}
@@ -18,6 +18,13 @@ use Rattle.tree.specs.Reading.{duesOf, meetsNode, readTreeOf, checkTree}
 -- program of repeat number
 numbers : Words
 numbers = 3 ∷ 8 ∷ 1 ∷ 1 ∷ 1 ∷ 4 ∷ 2 ∷ 1 ∷ 2 ∷ []
+
+-- program of list number; one type, a list of itself
+lists : Words
+lists = 3 ∷ 8 ∷ 1 ∷ 1 ∷ 1 ∷ 16 ∷ 2 ∷ 1 ∷ 2 ∷ []
+
+listed : Words
+listed = 1 ∷ 16 ∷ 0 ∷ []
 
 -- a form with a literal before its one type, an opt of the root: it nests
 nests : Words
@@ -91,6 +98,15 @@ inputs =
     ∷ (itself, times 70 (0 ∷ 0 ∷ 0 ∷ 1 ∷ []) (0 ∷ 1 ∷ []))
     ∷ (itself, times 63 (0 ∷ 0 ∷ []) (times 64 (0 ∷ 1 ∷ []) []))
     ∷ (itself, times 64 (0 ∷ 0 ∷ []) (times 65 (0 ∷ 1 ∷ []) []))
+    -- a list: its elements with no nodes between them, none, a third value, an element of another type; its rest and its element nest as a repeat's
+    ∷ (lists, twelve)
+    ∷ (lists, 0 ∷ 0 ∷ 1 ∷ 1 ∷ [])
+    ∷ (lists, 0 ∷ 0 ∷ 1 ∷ 2 ∷ [])
+    ∷ (lists, 0 ∷ 0 ∷ 1 ∷ 0 ∷ 1 ∷ 1 ∷ [])
+    ∷ (lists, 0 ∷ 0 ∷ times 70 (1 ∷ 0 ∷ 2 ∷ 7 ∷ []) (1 ∷ 1 ∷ []))
+    ∷ (listed, times 70 (0 ∷ 0 ∷ 0 ∷ 1 ∷ []) (0 ∷ 1 ∷ []))
+    ∷ (listed, times 63 (0 ∷ 0 ∷ []) (times 64 (0 ∷ 1 ∷ []) []))
+    ∷ (listed, times 64 (0 ∷ 0 ∷ []) (times 65 (0 ∷ 1 ∷ []) []))
     ∷ []
 
 outputs : List Check
@@ -130,16 +146,24 @@ outputs =
     ∷ Passed 282
     ∷ Passed 254
     ∷ Refused 33 128
+    ∷ Passed 12
+    ∷ Passed 4
+    ∷ Refused 32 3
+    ∷ Refused 32 4
+    ∷ Passed 284
+    ∷ Passed 282
+    ∷ Passed 254
+    ∷ Refused 33 128
     ∷ []
 
 right : map run inputs ≡ outputs
-unfolding word wordIn many end typesOf field element form kind grammar allKnown anyFormKnown finishes round rounds finite finiteRecords readGrammar grammarFits checkGrammar kindOf allows allowed childrenOf children levelsOf levels pairs whole duesOf meetsNode readTreeOf checkTree numbers nests itself pair twelve times deep run inputs outputs
+unfolding word wordIn many end typesOf field element form kind grammar allKnown anyFormKnown finishes round rounds finite finiteRecords readGrammar grammarFits checkGrammar kindOf allows allowed childrenOf children levelsOf levels pairs whole duesOf meetsNode readTreeOf checkTree numbers lists listed nests itself pair twelve times deep run inputs outputs
 right = refl
 
 -- THE TREES OWED after 0 to 6 nodes of the twelve-word slip, and from its second and its third node on
 
 program : Grammar
-program = forms ((1 ∷ []) ∷ []) ∷ sequence 2 ∷ token 2 ∷ []
+program = forms ((1 ∷ []) ∷ []) ∷ sequence repeat 2 ∷ token 2 ∷ []
 
 owing : List (List ℕ)
 owing =

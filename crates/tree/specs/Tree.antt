@@ -27,7 +27,7 @@ size (t ∷ v ∷ ws) = suc (size ws)
 unfoldable pub levelsOf : Kind → ℕ → ℕ → List ℕ
 levelsOf (token c) v k = []
 levelsOf (opt e) v k = pick (eqb v 0) (suc k ∷ []) []
-levelsOf (sequence e) v k = pick (eqb v 0) (suc k ∷ k ∷ []) []
+levelsOf (sequence style e) v k = pick (eqb v 0) (suc k ∷ k ∷ []) []
 levelsOf (forms fs) v k = map (λ e. suc k) (getD fs v [])
 
 -- the same for a node of the grammar

@@ -1,4 +1,5 @@
--- Rule books with what their single check finds, by the readings T1 to T18 of document 01's words: one table, one proof. Assumes nothing.
+-- Rule books with what their single check finds, by the readings T1 to T18 of document 01's words and T04-1 to T04-8 of document 02's: one table, one proof.
+-- Assumes nothing.
 use Prim.Native.Nat.{ℕ, zero, suc}
 use mathlib.Core.Path.{_≡_, refl}
 use mathlib.Core.List.{List, [], _∷_, _++_}
@@ -11,6 +12,7 @@ use Rattle.words.specs.Reader as Reader
 use Rattle.grammar.specs.Grammar as Grammar
 use Rattle.grammar.specs.Kinds as Kinds
 use Rattle.tree.specs.Tree as Tree
+use Rattle.tree.specs.Sequences as Sequences
 use Rattle.tree.specs.Dues as Dues
 use Rattle.tree.specs.Reading as Reading
 use Rattle.rules.specs.Rules as Rules
@@ -21,6 +23,10 @@ use Rattle.judgement.specs.Typing as Typing
 -- program of repeat number: the root, the sequence, the number
 numbers : Words
 numbers = 3 ∷ 8 ∷ 1 ∷ 1 ∷ 1 ∷ 4 ∷ 2 ∷ 1 ∷ 2 ∷ []
+
+-- a root of a repeat and a list of the same numbers: the root, the repeat, the list, the number
+kinds : Words
+kinds = 4 ∷ 8 ∷ 1 ∷ 2 ∷ 1 ∷ 2 ∷ 4 ∷ 3 ∷ 16 ∷ 3 ∷ 1 ∷ 2 ∷ []
 
 -- a form with a literal before its one type, an opt of the root: it nests
 nests : Words
@@ -55,6 +61,26 @@ sixteen = withLeaf (64 ∷ 2 ∷ [])
 
 fifteen : Words
 fifteen = withLeaf (2 ∷ 5 ∷ [])
+
+-- a root of eight types: 1 and 2 repeats and 3 a list of the number 5, 4 an opt of it, 6 a name, 7 another number, 8 a repeat of the repeat 1
+edits : Words
+edits = 9 ∷ 8 ∷ 1 ∷ 8 ∷ 1 ∷ 2 ∷ 3 ∷ 4 ∷ 5 ∷ 6 ∷ 7 ∷ 8 ∷ 4 ∷ 5 ∷ 4 ∷ 5 ∷ 16 ∷ 5 ∷ 2 ∷ 5 ∷ 1 ∷ 2 ∷ 1 ∷ 1 ∷ 1 ∷ 2 ∷ 4 ∷ 1 ∷ []
+
+-- a main rule that takes its root apart, so that variables 0 to 8 have the types 0 to 8, and has this part, from word 28 on
+apart : Words → Words
+apart a = 1 ∷ 12 ∷ 0 ∷ 1 ∷ 64 ∷ 0 ∷ 2 ∷ 1 ∷ 0 ∷ 9 ∷ 0 ∷ 0 ∷ 64 ∷ 1 ∷ 64 ∷ 2 ∷ 64 ∷ 3 ∷ 64 ∷ 4 ∷ 64 ∷ 5 ∷ 64 ∷ 6 ∷ 64 ∷ 7 ∷ 64 ∷ 8 ∷ (a ++ 1 ∷ 65 ∷ 0 ∷ [])
+
+-- a build of type s from the variable s, in k pairs: one application, from word 35 on
+built : ℕ → ℕ → Words → Words
+built s k a = apart (4 ∷ s ∷ k ∷ 66 ∷ s ∷ 1 ∷ 0 ∷ a)
+
+-- a condition on the variable s, in k pairs: one application, from word 34 on
+tested : ℕ → ℕ → Words → Words
+tested s k a = apart (8 ∷ k ∷ 66 ∷ s ∷ 1 ∷ 0 ∷ a)
+
+-- a main rule, then a rule for type s with the repeat 1 and the number 5 as parameters, and a replacement of k pairs: one application, from word 22 on
+replaced : ℕ → ℕ → Words → Words
+replaced s k a = 2 ∷ 8 ∷ 0 ∷ 1 ∷ 64 ∷ 0 ∷ 1 ∷ 65 ∷ 0 ∷ 10 ∷ s ∷ 2 ∷ 1 ∷ 5 ∷ 1 ∷ 64 ∷ s ∷ k ∷ 66 ∷ 2 ∷ 1 ∷ 0 ∷ a
 
 -- a grammar's words, a book's, and the answer
 data Case : Type 0 where
@@ -175,6 +201,128 @@ table =
     ∷ case numbers (1 ∷ 12 ∷ 0 ∷ 1 ∷ 64 ∷ 0 ∷ 1 ∷ 1 ∷ 1 ∷ 1 ∷ 64 ∷ 0 ∷ 1 ∷ 65 ∷ 0 ∷ []) (Refused 22 8)
     ∷ case numbers (1 ∷ 12 ∷ 0 ∷ 1 ∷ 64 ∷ 0 ∷ 1 ∷ 3 ∷ 2 ∷ 0 ∷ 1 ∷ 64 ∷ 2 ∷ 1 ∷ 65 ∷ 0 ∷ []) (Passed 16)
     ∷ case numbers (1 ∷ 12 ∷ 0 ∷ 1 ∷ 64 ∷ 0 ∷ 1 ∷ 3 ∷ 2 ∷ 0 ∷ 1 ∷ 64 ∷ 0 ∷ 1 ∷ 65 ∷ 0 ∷ []) (Refused 23 12)
+    -- a list is written as a repeat is, its rest on its own nesting
+    ∷ case kinds (1 ∷ 8 ∷ 0 ∷ 3 ∷ 0 ∷ 0 ∷ 64 ∷ 1 ∷ 64 ∷ 2 ∷ 7 ∷ 0 ∷ 0 ∷ 65 ∷ 0 ∷ 2 ∷ 0 ∷ 3 ∷ 7 ∷ 2 ∷ 0 ∷ 3 ∷ 8 ∷ 2 ∷ 1 ∷ []) (Passed 25)
+    ∷ case (1 ∷ 16 ∷ 0 ∷ []) (1 ∷ 8 ∷ 0 ∷ 127 ∷ times 63 (0 ∷ 0 ∷ 0 ∷ 1 ∷ []) (0 ∷ 1 ∷ 1 ∷ 0 ∷ 1 ∷ [])) (Passed 261)
+    -- neither stands for the other: as a node, as a variable, as an argument
+    ∷ case kinds (1 ∷ 8 ∷ 0 ∷ 3 ∷ 0 ∷ 0 ∷ 64 ∷ 1 ∷ 64 ∷ 2 ∷ 3 ∷ 0 ∷ 0 ∷ 65 ∷ 0 ∷ 65 ∷ 1 ∷ []) (Passed 17)
+    ∷ case kinds (1 ∷ 8 ∷ 0 ∷ 3 ∷ 0 ∷ 0 ∷ 64 ∷ 1 ∷ 64 ∷ 2 ∷ 3 ∷ 0 ∷ 0 ∷ 2 ∷ 1 ∷ 65 ∷ 1 ∷ []) (Refused 23 13)
+    ∷ case kinds (1 ∷ 8 ∷ 0 ∷ 3 ∷ 0 ∷ 0 ∷ 64 ∷ 1 ∷ 64 ∷ 2 ∷ 3 ∷ 0 ∷ 0 ∷ 65 ∷ 1 ∷ 65 ∷ 0 ∷ []) (Refused 23 14)
+    ∷ case kinds (2 ∷ 8 ∷ 0 ∷ 3 ∷ 0 ∷ 0 ∷ 64 ∷ 1 ∷ 64 ∷ 2 ∷ 6 ∷ 0 ∷ 0 ∷ 66 ∷ 0 ∷ 1 ∷ 0 ∷ 1 ∷ 1 ∷ 65 ∷ 1 ∷ 65 ∷ 1 ∷ 10 ∷ 1 ∷ 1 ∷ 2 ∷ 1 ∷ 64 ∷ 1 ∷ 1 ∷ 65 ∷ 1 ∷ []) (Passed 33)
+    ∷ case kinds (2 ∷ 8 ∷ 0 ∷ 3 ∷ 0 ∷ 0 ∷ 64 ∷ 1 ∷ 64 ∷ 2 ∷ 6 ∷ 0 ∷ 0 ∷ 66 ∷ 0 ∷ 1 ∷ 0 ∷ 1 ∷ 1 ∷ 65 ∷ 0 ∷ 65 ∷ 1 ∷ 10 ∷ 1 ∷ 1 ∷ 2 ∷ 1 ∷ 64 ∷ 1 ∷ 1 ∷ 65 ∷ 1 ∷ []) (Refused 23 20)
+    -- T04-8: "Only replacements apply these operations, not tests": join, select, head, tail, length and extract in a rule's replacement
+    ∷ case edits (replaced 1 4 (1010 ∷ 1 ∷ 65 ∷ 1 ∷ [])) (Passed 26)
+    ∷ case edits (replaced 1 5 (1011 ∷ 2 ∷ 65 ∷ 1 ∷ 65 ∷ 1 ∷ [])) (Passed 28)
+    ∷ case edits (replaced 1 4 (1012 ∷ 1 ∷ 65 ∷ 1 ∷ [])) (Passed 26)
+    ∷ case edits (replaced 1 4 (1013 ∷ 1 ∷ 65 ∷ 1 ∷ [])) (Passed 26)
+    ∷ case edits (replaced 5 4 (1014 ∷ 1 ∷ 65 ∷ 0 ∷ [])) (Passed 26)
+    ∷ case edits (replaced 1 4 (1015 ∷ 1 ∷ 65 ∷ 0 ∷ [])) (Passed 26)
+    -- .. in a build
+    ∷ case edits (built 1 4 (1010 ∷ 1 ∷ 65 ∷ 1 ∷ [])) (Passed 42)
+    ∷ case edits (built 1 5 (1011 ∷ 2 ∷ 65 ∷ 5 ∷ 65 ∷ 5 ∷ [])) (Passed 44)
+    ∷ case edits (built 1 4 (1012 ∷ 1 ∷ 65 ∷ 5 ∷ [])) (Passed 42)
+    ∷ case edits (built 1 4 (1013 ∷ 1 ∷ 65 ∷ 5 ∷ [])) (Passed 42)
+    ∷ case edits (built 5 4 (1014 ∷ 1 ∷ 65 ∷ 1 ∷ [])) (Passed 42)
+    ∷ case edits (built 1 4 (1015 ∷ 1 ∷ 65 ∷ 8 ∷ [])) (Passed 42)
+    -- .. in a test: at the first word
+    ∷ case edits (tested 1 4 (1010 ∷ 1 ∷ 65 ∷ 1 ∷ [])) (Refused 22 34)
+    ∷ case edits (tested 1 5 (1011 ∷ 2 ∷ 65 ∷ 5 ∷ 65 ∷ 5 ∷ [])) (Refused 22 34)
+    ∷ case edits (tested 1 4 (1012 ∷ 1 ∷ 65 ∷ 5 ∷ [])) (Refused 22 34)
+    ∷ case edits (tested 1 4 (1013 ∷ 1 ∷ 65 ∷ 5 ∷ [])) (Refused 22 34)
+    ∷ case edits (tested 5 4 (1014 ∷ 1 ∷ 65 ∷ 1 ∷ [])) (Refused 22 34)
+    ∷ case edits (tested 1 4 (1015 ∷ 1 ∷ 65 ∷ 8 ∷ [])) (Refused 22 34)
+    -- several in one chain, on a sequence and on a number
+    ∷ case edits (apart (4 ∷ 1 ∷ 11 ∷ 66 ∷ 1 ∷ 4 ∷ 0 ∷ 1010 ∷ 1 ∷ 65 ∷ 5 ∷ 1011 ∷ 2 ∷ 65 ∷ 5 ∷ 65 ∷ 7 ∷ 1012 ∷ 1 ∷ 65 ∷ 5 ∷ 1013 ∷ 1 ∷ 65 ∷ 7 ∷ [])) (Passed 56)
+    ∷ case edits (apart (4 ∷ 5 ∷ 6 ∷ 66 ∷ 5 ∷ 2 ∷ 0 ∷ 1014 ∷ 1 ∷ 65 ∷ 1 ∷ 1000 ∷ 1 ∷ 65 ∷ 7 ∷ [])) (Passed 46)
+    -- T04-1: no operation, on a number, on a sequence, in a test
+    ∷ case edits (built 5 4 (1006 ∷ 1 ∷ 65 ∷ 5 ∷ [])) (Refused 22 35)
+    ∷ case edits (built 5 4 (1007 ∷ 1 ∷ 65 ∷ 5 ∷ [])) (Refused 22 35)
+    ∷ case edits (built 5 4 (1016 ∷ 1 ∷ 65 ∷ 5 ∷ [])) (Refused 22 35)
+    ∷ case edits (built 1 4 (1016 ∷ 1 ∷ 65 ∷ 5 ∷ [])) (Refused 22 35)
+    ∷ case edits (tested 5 4 (1016 ∷ 1 ∷ 65 ∷ 5 ∷ [])) (Refused 22 34)
+    -- T04-2: a scope that is no sequence: a number, though it is an element; an opt, a form, a name
+    ∷ case edits (built 5 4 (1010 ∷ 1 ∷ 65 ∷ 5 ∷ [])) (Refused 22 35)
+    ∷ case edits (built 5 5 (1011 ∷ 2 ∷ 65 ∷ 5 ∷ 65 ∷ 5 ∷ [])) (Refused 22 35)
+    ∷ case edits (built 4 4 (1012 ∷ 1 ∷ 65 ∷ 5 ∷ [])) (Refused 22 35)
+    ∷ case edits (built 0 4 (1013 ∷ 1 ∷ 65 ∷ 5 ∷ [])) (Refused 22 35)
+    ∷ case edits (built 6 4 (1015 ∷ 1 ∷ 65 ∷ 6 ∷ [])) (Refused 22 35)
+    -- .. for length one that is no number; nor does a sequence fit an operation on numbers
+    ∷ case edits (built 1 4 (1014 ∷ 1 ∷ 65 ∷ 1 ∷ [])) (Refused 22 35)
+    ∷ case edits (built 3 4 (1014 ∷ 1 ∷ 65 ∷ 3 ∷ [])) (Refused 22 35)
+    ∷ case edits (built 6 4 (1014 ∷ 1 ∷ 65 ∷ 1 ∷ [])) (Refused 22 35)
+    ∷ case edits (built 1 4 (1000 ∷ 1 ∷ 65 ∷ 5 ∷ [])) (Refused 22 35)
+    ∷ case edits (built 1 3 (1005 ∷ 0 ∷ [])) (Refused 22 35)
+    ∷ case edits (tested 1 4 (1008 ∷ 1 ∷ 65 ∷ 5 ∷ [])) (Refused 22 34)
+    -- .. before the count
+    ∷ case edits (built 5 3 (1010 ∷ 0 ∷ [])) (Refused 22 35)
+    -- T04-6: lists are "fit for the same operations", and any number for length
+    ∷ case edits (built 3 4 (1010 ∷ 1 ∷ 65 ∷ 3 ∷ [])) (Passed 42)
+    ∷ case edits (built 3 5 (1011 ∷ 2 ∷ 65 ∷ 5 ∷ 65 ∷ 5 ∷ [])) (Passed 44)
+    ∷ case edits (built 3 4 (1012 ∷ 1 ∷ 65 ∷ 5 ∷ [])) (Passed 42)
+    ∷ case edits (built 3 4 (1013 ∷ 1 ∷ 65 ∷ 5 ∷ [])) (Passed 42)
+    ∷ case edits (built 3 4 (1015 ∷ 1 ∷ 65 ∷ 1 ∷ [])) (Passed 42)
+    ∷ case edits (built 7 4 (1014 ∷ 1 ∷ 65 ∷ 3 ∷ [])) (Passed 42)
+    -- T04-4: the count of arguments, before the arguments
+    ∷ case edits (built 1 3 (1010 ∷ 0 ∷ [])) (Refused 22 36)
+    ∷ case edits (built 1 5 (1010 ∷ 2 ∷ 9 ∷ 9 ∷ 9 ∷ 9 ∷ [])) (Refused 22 36)
+    ∷ case edits (built 1 4 (1011 ∷ 1 ∷ 65 ∷ 5 ∷ [])) (Refused 22 36)
+    ∷ case edits (built 1 6 (1011 ∷ 3 ∷ 65 ∷ 5 ∷ 65 ∷ 5 ∷ 65 ∷ 5 ∷ [])) (Refused 22 36)
+    ∷ case edits (built 1 5 (1012 ∷ 2 ∷ 65 ∷ 5 ∷ 65 ∷ 5 ∷ [])) (Refused 22 36)
+    ∷ case edits (built 1 3 (1013 ∷ 0 ∷ [])) (Refused 22 36)
+    ∷ case edits (built 5 3 (1014 ∷ 0 ∷ [])) (Refused 22 36)
+    ∷ case edits (built 5 5 (1014 ∷ 2 ∷ 65 ∷ 1 ∷ 65 ∷ 1 ∷ [])) (Refused 22 36)
+    ∷ case edits (built 1 3 (1015 ∷ 0 ∷ [])) (Refused 22 36)
+    ∷ case edits (built 1 5 (1015 ∷ 2 ∷ 65 ∷ 1 ∷ 65 ∷ 1 ∷ [])) (Refused 22 36)
+    -- T04-3: an argument's first word, and its variable, also where any type may stand
+    ∷ case edits (built 1 4 (1010 ∷ 1 ∷ 1 ∷ 1 ∷ [])) (Refused 23 37)
+    ∷ case edits (built 1 4 (1010 ∷ 1 ∷ 65 ∷ 9 ∷ [])) (Refused 22 38)
+    ∷ case edits (built 1 4 (1012 ∷ 1 ∷ 64 ∷ 5 ∷ [])) (Refused 23 37)
+    ∷ case edits (built 5 4 (1014 ∷ 1 ∷ 66 ∷ 1 ∷ [])) (Refused 23 37)
+    ∷ case edits (built 5 4 (1014 ∷ 1 ∷ 65 ∷ 9 ∷ [])) (Refused 22 38)
+    ∷ case edits (built 1 4 (1015 ∷ 1 ∷ 5 ∷ 0 ∷ [])) (Refused 23 37)
+    ∷ case edits (built 1 4 (1015 ∷ 1 ∷ 65 ∷ 9 ∷ [])) (Refused 22 38)
+    -- T04-5: join takes the very type or the element's. Not another repeat, nor the list, of the same element; nor an opt of it, another number, or the root
+    ∷ case edits (built 1 4 (1010 ∷ 1 ∷ 65 ∷ 5 ∷ [])) (Passed 42)
+    ∷ case edits (built 1 4 (1010 ∷ 1 ∷ 65 ∷ 2 ∷ [])) (Refused 23 38)
+    ∷ case edits (built 1 4 (1010 ∷ 1 ∷ 65 ∷ 3 ∷ [])) (Refused 23 38)
+    ∷ case edits (built 1 4 (1010 ∷ 1 ∷ 65 ∷ 4 ∷ [])) (Refused 23 38)
+    ∷ case edits (built 1 4 (1010 ∷ 1 ∷ 65 ∷ 7 ∷ [])) (Refused 23 38)
+    ∷ case edits (built 1 4 (1010 ∷ 1 ∷ 65 ∷ 0 ∷ [])) (Refused 23 38)
+    -- .. to a list; to a repeat of repeats, where the element's element is no element; a repeat of repeats to its element
+    ∷ case edits (built 3 4 (1010 ∷ 1 ∷ 65 ∷ 5 ∷ [])) (Passed 42)
+    ∷ case edits (built 3 4 (1010 ∷ 1 ∷ 65 ∷ 1 ∷ [])) (Refused 23 38)
+    ∷ case edits (built 8 4 (1010 ∷ 1 ∷ 65 ∷ 1 ∷ [])) (Passed 42)
+    ∷ case edits (built 8 4 (1010 ∷ 1 ∷ 65 ∷ 2 ∷ [])) (Refused 23 38)
+    ∷ case edits (built 8 4 (1010 ∷ 1 ∷ 65 ∷ 5 ∷ [])) (Refused 23 38)
+    ∷ case edits (built 1 4 (1010 ∷ 1 ∷ 65 ∷ 8 ∷ [])) (Refused 23 38)
+    -- T04-7: a list of itself
+    ∷ case (1 ∷ 16 ∷ 0 ∷ []) (1 ∷ 8 ∷ 0 ∷ 1 ∷ 64 ∷ 0 ∷ 4 ∷ 66 ∷ 0 ∷ 1 ∷ 0 ∷ 1010 ∷ 1 ∷ 65 ∷ 0 ∷ []) (Passed 15)
+    -- select takes two numbers of any types, judged left to right
+    ∷ case edits (built 1 5 (1011 ∷ 2 ∷ 65 ∷ 5 ∷ 65 ∷ 7 ∷ [])) (Passed 44)
+    ∷ case edits (built 1 5 (1011 ∷ 2 ∷ 65 ∷ 1 ∷ 65 ∷ 5 ∷ [])) (Refused 23 38)
+    ∷ case edits (built 1 5 (1011 ∷ 2 ∷ 65 ∷ 5 ∷ 65 ∷ 6 ∷ [])) (Refused 23 40)
+    ∷ case edits (built 1 5 (1011 ∷ 2 ∷ 65 ∷ 5 ∷ 65 ∷ 9 ∷ [])) (Refused 22 40)
+    ∷ case edits (built 1 5 (1011 ∷ 2 ∷ 65 ∷ 6 ∷ 65 ∷ 9 ∷ [])) (Refused 23 38)
+    ∷ case edits (built 1 5 (1011 ∷ 2 ∷ 65 ∷ 9 ∷ 65 ∷ 6 ∷ [])) (Refused 22 38)
+    ∷ case edits (built 1 4 (1011 ∷ 2 ∷ 65 ∷ 5 ∷ [])) (Refused 23 39)
+    -- head and tail one
+    ∷ case edits (built 1 4 (1012 ∷ 1 ∷ 65 ∷ 7 ∷ [])) (Passed 42)
+    ∷ case edits (built 1 4 (1012 ∷ 1 ∷ 65 ∷ 6 ∷ [])) (Refused 23 38)
+    ∷ case edits (built 1 4 (1012 ∷ 1 ∷ 65 ∷ 1 ∷ [])) (Refused 23 38)
+    ∷ case edits (built 1 4 (1013 ∷ 1 ∷ 65 ∷ 7 ∷ [])) (Passed 42)
+    ∷ case edits (built 1 4 (1013 ∷ 1 ∷ 65 ∷ 4 ∷ [])) (Refused 23 38)
+    -- length any sequence: a list, one of sequences; no number, opt or form
+    ∷ case edits (built 5 4 (1014 ∷ 1 ∷ 65 ∷ 3 ∷ [])) (Passed 42)
+    ∷ case edits (built 5 4 (1014 ∷ 1 ∷ 65 ∷ 8 ∷ [])) (Passed 42)
+    ∷ case edits (built 5 4 (1014 ∷ 1 ∷ 65 ∷ 5 ∷ [])) (Refused 23 38)
+    ∷ case edits (built 5 4 (1014 ∷ 1 ∷ 65 ∷ 4 ∷ [])) (Refused 23 38)
+    ∷ case edits (built 5 4 (1014 ∷ 1 ∷ 65 ∷ 0 ∷ [])) (Refused 23 38)
+    -- extract any type: its own, the element's, a form, an opt, a name
+    ∷ case edits (built 1 4 (1015 ∷ 1 ∷ 65 ∷ 1 ∷ [])) (Passed 42)
+    ∷ case edits (built 1 4 (1015 ∷ 1 ∷ 65 ∷ 5 ∷ [])) (Passed 42)
+    ∷ case edits (built 1 4 (1015 ∷ 1 ∷ 65 ∷ 0 ∷ [])) (Passed 42)
+    ∷ case edits (built 1 4 (1015 ∷ 1 ∷ 65 ∷ 4 ∷ [])) (Passed 42)
+    ∷ case edits (built 1 4 (1015 ∷ 1 ∷ 65 ∷ 6 ∷ [])) (Passed 42)
     ∷ []
 
 given : List Case → List Check
@@ -186,5 +334,5 @@ found [] = []
 found (case gs ws c ∷ cs) = answer (checkRules gs ws) ∷ found cs
 
 right : found table ≡ given table
-unfolding Reader.word Reader.wordIn Reader.many Reader.end Grammar.typesOf Grammar.field Grammar.element Grammar.form Grammar.kind Grammar.grammar Grammar.allKnown Grammar.anyFormKnown Grammar.finishes Grammar.round Grammar.rounds Grammar.finite Grammar.finiteRecords Grammar.readGrammar Grammar.grammarFits Kinds.kindOf Kinds.allows Kinds.allowed Kinds.childrenOf Kinds.children Kinds.isNumberKind Kinds.isNumber Tree.levelsOf Tree.levels Dues.pairs Dues.whole Reading.duesOf Rules.operations Rules.applied Rules.shapes Rules.arguments Rules.applications Rules.pairsIn Rules.argumentsWritten Rules.applicationsWritten Rules.chainWritten Rules.unreadable Rules.chainOf Rules.conditionOf Rules.piecesAfter Rules.pieces Layout.strategyOf Layout.stretch Layout.field Layout.pairs Layout.variableAt Layout.deconstructFields Layout.conditionFields Layout.partOf Layout.reach Layout.replacement Layout.mainFits Layout.mainBits Layout.typeField Layout.searchFields Layout.constructFields Layout.partAt Layout.part Layout.parameters Layout.headFields Layout.head Layout.parts Layout.rule Layout.layout Layout.readLayout Layout.rulesFit Wanted.wants Typing.mayStand Typing.isSome Typing.appliesRule Typing.appliesOperation Typing.fitsScope Typing.usable Typing.wantedBy Typing.newVariable Typing.variable Typing.chain Typing.node Typing.meets Typing.typed Typing.variableThere Typing.partTyped Typing.partsTyped Typing.ruleTyped Typing.mainTarget Typing.rulesTyped Typing.readRules Typing.checkRules numbers nests twos sums leaves times deep withLeaf sixteen fifteen table given found
+unfolding Reader.word Reader.wordIn Reader.many Reader.end Grammar.typesOf Grammar.field Grammar.element Grammar.form Grammar.kind Grammar.grammar Grammar.allKnown Grammar.anyFormKnown Grammar.finishes Grammar.round Grammar.rounds Grammar.finite Grammar.finiteRecords Grammar.readGrammar Grammar.grammarFits Kinds.kindOf Kinds.allows Kinds.allowed Kinds.childrenOf Kinds.children Kinds.isSequenceKind Kinds.isSequence Kinds.isNumberKind Kinds.isNumber Tree.levelsOf Tree.levels Sequences.elementOf Dues.pairs Dues.whole Reading.duesOf Rules.operations Rules.applied Rules.shapes Rules.arguments Rules.applications Rules.pairsIn Rules.argumentsWritten Rules.applicationsWritten Rules.chainWritten Rules.unreadable Rules.chainOf Rules.conditionOf Rules.piecesAfter Rules.pieces Layout.strategyOf Layout.stretch Layout.field Layout.pairs Layout.variableAt Layout.deconstructFields Layout.conditionFields Layout.partOf Layout.reach Layout.replacement Layout.mainFits Layout.mainBits Layout.typeField Layout.searchFields Layout.constructFields Layout.partAt Layout.part Layout.parameters Layout.headFields Layout.head Layout.parts Layout.rule Layout.layout Layout.readLayout Layout.rulesFit Wanted.wants Typing.mayStand Typing.isSome Typing.appliesRule Typing.appliesOperation Typing.fitsScope Typing.operatesOn Typing.usable Typing.wantedByEdit Typing.wantedByOperation Typing.wantedBy Typing.newVariable Typing.variable Typing.chain Typing.node Typing.meets Typing.typed Typing.variableThere Typing.partTyped Typing.partsTyped Typing.ruleTyped Typing.mainTarget Typing.rulesTyped Typing.readRules Typing.checkRules numbers kinds nests twos sums leaves times deep withLeaf sixteen fifteen edits apart built tested replaced table given found
 right = refl

@@ -24,6 +24,8 @@ pub struct Done {
     pub filled: usize,
     /// Nodes of the trees built from them.
     pub built: usize,
+    /// Nodes of the scopes, arguments and results of operations on sequences.
+    pub edited: usize,
     /// Nodes of a scope before the place where a tree is put.
     pub before: usize,
     /// Nodes of a scope from that place on.
@@ -35,7 +37,7 @@ pub type Term = (&'static str, fn(&Done) -> usize, f64);
 
 /// The terms. The costs are those of the machine of the sheet, rounded up until
 /// no measured input passes the formula.
-pub const TERMS: [Term; 12] = [
+pub const TERMS: [Term; 13] = [
     ("attempt", |done| done.attempts, 30.0),
     ("node passed over by a search", |done| done.passed, 0.9),
     ("part of an attempt", |done| done.parts, 15.0),
@@ -54,6 +56,11 @@ pub const TERMS: [Term; 12] = [
         6.0,
     ),
     ("node of the tree built", |done| done.built, 1.5),
+    (
+        "node of an operation on a sequence, in its scope, arguments and result",
+        |done| done.edited,
+        3.0,
+    ),
     (
         "node before the place of a replacement",
         |done| done.before,
@@ -80,7 +87,8 @@ pub type Most = (&'static str, Done);
 
 /// The most that each piece of an attempt can do, whatever the input: the
 /// attempt with its search and pattern, its replacement, and a part of each kind.
-pub fn most() -> [Most; 6] {
+/// What is built stands there without and with operations on sequences.
+pub fn most() -> [Most; 8] {
     // Its pattern may be looked at before it is set against the node. To it fall
     // the search that it ends, one after its replacement in which no attempt is
     // made, and the copy of a chain's tree that its replacement makes smaller.
@@ -91,10 +99,10 @@ pub fn most() -> [Most; 6] {
         built: NODES,
         ..set_against_one()
     };
-    let replacement = Done {
+    let placed = |done: Done| Done {
         before: NODES,
         behind: NODES,
-        ..built()
+        ..done
     };
     let condition = Done {
         parts: 1,
@@ -105,13 +113,21 @@ pub fn most() -> [Most; 6] {
     let part = |done: Done| Done { parts: 1, ..done };
     [
         ("attempt, with its search and its pattern", attempt),
-        ("replacement, put in place", replacement),
+        ("replacement, put in place", placed(built())),
+        (
+            "replacement with operations on sequences",
+            placed(built_by_edits()),
+        ),
         ("deconstruct", part(set_against_one())),
         (
             "deconstruct that searches",
             part(set_against_all(NODES, PAIRS)),
         ),
         ("construct", part(built())),
+        (
+            "construct with operations on sequences",
+            part(built_by_edits()),
+        ),
         ("condition", condition),
     ]
 }
@@ -165,10 +181,26 @@ fn built() -> Done {
     }
 }
 
-/// The most that one attempt can cost, in nanoseconds: with eight parts of the
-/// dearest kind.
+/// The same with operations on sequences. Each has an argument or two, so that a
+/// chain takes two pairs and two for each operation. An operation makes the tree
+/// of its chain smaller without an attempt: so each chain may copy as many nodes
+/// as a tree may have, and each rule that it applies may search as many.
+fn built_by_edits() -> Done {
+    let chains = PAIRS / 4;
+    let edits = PAIRS * APPLICATIONS / (2 + 2 * APPLICATIONS);
+    let plain = built();
+    Done {
+        passed: plain.applications * NODES,
+        built: (1 + chains) * NODES,
+        edited: edits * 3 * NODES,
+        ..plain
+    }
+}
+
+/// The most that one attempt can cost, in nanoseconds: with eight parts and a
+/// replacement of the dearest kind.
 pub fn dearest_attempt() -> f64 {
-    let [attempt, replacement, parts @ ..] = most().map(|(_, done)| formula(&done));
+    let [attempt, plain, edited, parts @ ..] = most().map(|(_, done)| formula(&done));
     let dearest = parts.into_iter().fold(0.0, f64::max);
-    attempt + replacement + PARTS as f64 * dearest
+    attempt + plain.max(edited) + PARTS as f64 * dearest
 }

@@ -11,6 +11,7 @@ pub const MOST_NESTING: usize = 64;
 const BUDGET: u32 = 100_000;
 /// The paper's grammar: a program of a sequence of numbers.
 const NUMBERS: [u32; 9] = [3, 8, 1, 1, 1, 4, 2, 1, 2];
+const SEQUENCE: u32 = 1;
 const NUMBER: u32 = 2;
 /// The number that the main rule looks for, the slip's last.
 const SOUGHT: u32 = 4_711;
@@ -34,10 +35,15 @@ pub enum Last {
     Deconstructs,
     Searches,
     Compares,
+    Joins,
+    JoinsElement,
+    Selects,
+    Counts,
+    Extracts,
 }
 
 impl Last {
-    pub const ALL: [Last; 8] = [
+    pub const ALL: [Last; 13] = [
         Last::Fails,
         Last::Copies,
         Last::Constructs,
@@ -46,6 +52,11 @@ impl Last {
         Last::Deconstructs,
         Last::Searches,
         Last::Compares,
+        Last::Joins,
+        Last::JoinsElement,
+        Last::Selects,
+        Last::Counts,
+        Last::Extracts,
     ];
 }
 
@@ -159,18 +170,43 @@ impl Chain {
             Last::Deconstructs => (vec![vec![1, bound, 1, NUMBER, SOUGHT]], copy),
             Last::Searches => (vec![vec![3, NUMBER, bound, 1, NUMBER, SOUGHT]], copy),
             Last::Compares => (vec![[vec![8], application(bound, 1_008, 1)].concat()], copy),
+            Last::Joins => (edited(bound, 1_010, &[bound + 1]), copy),
+            Last::JoinsElement => (edited(bound, 1_010, &[bound]), copy),
+            Last::Selects => (edited(bound, 1_011, &[bound, bound]), copy),
+            Last::Extracts => (edited(bound, 1_015, &[bound]), copy),
+            Last::Counts => {
+                let length = applied_to(bound, 1_014, &[bound + 1]);
+                let parts = vec![one_number(bound), [vec![4, NUMBER], length].concat()];
+                (parts, copy)
+            }
         };
         self.rule(number, &parts, &replacement)
     }
 }
 
+/// A construct of the sequence of the bound number alone, the variable behind it.
+fn one_number(bound: u32) -> Vec<u32> {
+    vec![4, SEQUENCE, 3, SEQUENCE, 0, 65, bound, SEQUENCE, 1]
+}
+
+/// Constructs of that sequence, and of what an operation makes of it.
+fn edited(bound: u32, operation: u32, arguments: &[u32]) -> Vec<Vec<u32>> {
+    let chain = applied_to(bound + 1, operation, arguments);
+    vec![one_number(bound), [vec![4, SEQUENCE], chain].concat()]
+}
+
 /// A replacement that is one application to a variable, which is also each of
 /// the arguments.
 fn application(variable: u32, applied: u32, arguments: usize) -> Vec<u32> {
-    let count = arguments as u32;
+    applied_to(variable, applied, &vec![variable; arguments])
+}
+
+/// A replacement that is one application to a variable, with these as arguments.
+fn applied_to(variable: u32, applied: u32, arguments: &[u32]) -> Vec<u32> {
+    let count = arguments.len() as u32;
     let mut words = vec![3 + count, 66, variable, 1, 0, applied, count];
-    for _ in 0..count {
-        words.extend([65, variable]);
+    for argument in arguments {
+        words.extend([65, *argument]);
     }
     words
 }

@@ -63,6 +63,10 @@ pub fn all() -> Vec<Worst> {
         filling_irregularly(),
         nesting(),
         binding(),
+        selecting(),
+        selecting_irregularly(),
+        joining(),
+        extracting(),
     ];
     all.extend([0, 1, 2, 3, 5, 8].map(searching_for_variables));
     all
@@ -329,6 +333,92 @@ fn operating() -> Worst {
         (grammar, rules, slip),
         round,
     )
+}
+
+/// The elements of a sequence cut three times where it begins, and then off.
+const CUTS: [[u32; 4]; 4] = [
+    [1_013, 1, 65, 0],
+    [1_013, 1, 65, 0],
+    [1_013, 1, 65, 0],
+    [1_012, 1, 65, 0],
+];
+
+fn selecting() -> Worst {
+    let sequence = [elements(980, &[2, 0]), vec![1, 1]].concat();
+    let edited = cut_nodes(&sequence);
+    editing(
+        "352 selections in one attempt",
+        (980, sequence),
+        CUTS,
+        edited,
+    )
+}
+
+/// The same with elements of 0 to 8 numbers, in no order.
+fn selecting_irregularly() -> Worst {
+    let sequence = counted_elements(&mut Random::new(0), 1_961);
+    let edited = cut_nodes(&sequence);
+    editing("the same, irregular", (0, sequence), CUTS, edited)
+}
+
+/// The nodes of the three cuts that leave all and of the one that leaves none.
+fn cut_nodes(sequence: &[u32]) -> usize {
+    let nodes = sequence.len() / 2;
+    3 * (2 * nodes + 1) + nodes + 2
+}
+
+/// A sequence joined with itself and cut to what it was, and once more, then cut
+/// off.
+fn joining() -> Worst {
+    doubling("176 joins in one attempt", 1_010)
+}
+
+/// The same with the elements in the sequence, which are all taken, for the
+/// sequence.
+fn extracting() -> Worst {
+    doubling("176 extractions in one attempt", 1_015)
+}
+
+fn doubling(name: &str, operation: u32) -> Worst {
+    let sequence = [elements(500, &[2, 0]), vec![1, 1]].concat();
+    let nodes = sequence.len() / 2;
+    let twice = 2 * nodes - 1;
+    let edited = 2 * (2 * nodes + twice) + twice + 1 + nodes + twice + 2;
+    let double = [operation, 1, 65, 2];
+    let chain = [double, [1_012, 1, 65, 1], double, [1_012, 1, 65, 0]];
+    editing(name, (500, sequence), chain, edited)
+}
+
+/// Eight constructs of 11 chains of four operations on a sequence. It is the last
+/// field of the slip; before it stand two numbers, 0.00 and how many elements it
+/// has.
+fn editing(
+    name: &str,
+    (count, sequence): (u32, Vec<u32>),
+    operations: [[u32; 4]; 4],
+    edited: usize,
+) -> Worst {
+    let nodes = sequence.len() / 2;
+    let types = &counted_grammar()[5..];
+    let grammar = [&[5, 8, 1, 3, 3, 3, 1], types, &[4, 1]].concat();
+    let chain = [vec![4, 0, 66, 2, 4, 0], operations.concat()].concat();
+    let part = [vec![4, 4, 122], chain.repeat(11), vec![4, 1]].concat();
+    let head = vec![1, 13, 0, 2, 4, 0, 0, 64, 3, 64, 3, 64, 1, 8];
+    let replacement = vec![4, 0, 0, 65, 0, 65, 1, 65, 2];
+    let rules = [head, part.repeat(8), replacement].concat();
+    let slip = [vec![0, 0, 3, 0, 3, 100 * count], sequence].concat();
+    let round = Done {
+        attempts: 1,
+        passed: 1,
+        parts: 8,
+        pairs: 4,
+        filled: 8 * 122 + 4,
+        built: 8 * (11 * nodes + 23) + nodes + 3,
+        edited: 8 * 11 * edited,
+        behind: nodes + 3,
+        ..Done::default()
+    };
+    Worst::new(name, (grammar, rules, slip), round)
 }
 
 /// Eight constructs and a replacement that copy the slip.

@@ -44,14 +44,14 @@ fn whole(replacement: &[Pair]) -> RuleText {
     }
 }
 
-fn construct(ty: u32, replacement: &[Pair]) -> PartText {
+pub(crate) fn construct(ty: u32, replacement: &[Pair]) -> PartText {
     PartText::Construct {
         ty,
         replacement: replacement.to_vec(),
     }
 }
 
-fn input(grammar: &[u32], rules: &[RuleText], tree: Vec<u32>, budget: usize) -> Input {
+pub(crate) fn input(grammar: &[u32], rules: &[RuleText], tree: Vec<u32>, budget: usize) -> Input {
     Input {
         grammar: grammar.to_vec(),
         rules: write_rules(rules),

@@ -11,6 +11,7 @@ enum TypeText {
     Token(u32),
     Optional(u32),
     Sequence(u32),
+    List(u32),
     Forms(Vec<Vec<u32>>),
 }
 
@@ -167,7 +168,8 @@ fn one_type(random: &mut Random, count: u32) -> TypeText {
     match random.below(100) {
         0..=29 => TypeText::Token(random.pick(&[1, 2, 2, 3])),
         30..=42 => TypeText::Optional(element),
-        43..=60 => TypeText::Sequence(element),
+        43..=53 => TypeText::Sequence(element),
+        54..=60 => TypeText::List(element),
         _ => {
             let forms = match random.below(20) {
                 0 => 16,
@@ -248,7 +250,7 @@ fn damage_one_word(random: &mut Random, grammar: &mut Labeled<Field>) {
     let word = grammar.words[position];
     grammar.words[position] = match field {
         Field::TypeCount => wrong_count(random, word, limits::TYPES),
-        Field::Map => random.pick(&[0, 1, 2, 3, 4, 5, 7, 8, 9, 12, 15, 16, u32::MAX]),
+        Field::Map => random.pick(&[0, 1, 2, 3, 4, 5, 8, 9, 12, 15, 16, 17, 20, 32, u32::MAX]),
         Field::Class => random.pick(&[0, 1, 2, 3, 4, u32::MAX]),
         Field::Type => random.pick(&[types, types - 1, 64, 65_536, u32::MAX]),
         Field::FormCount => wrong_count(random, word, limits::FORMS),
@@ -272,6 +274,10 @@ fn write(types: &[TypeText]) -> Labeled<Field> {
             }
             TypeText::Sequence(element) => {
                 text.push(Field::Map, 4);
+                text.push(Field::Type, *element);
+            }
+            TypeText::List(element) => {
+                text.push(Field::Map, 16);
                 text.push(Field::Type, *element);
             }
             TypeText::Forms(forms) => {

@@ -10,6 +10,7 @@ use crate::families;
 use crate::grammars::{any_grammar, damaged_grammar, grammar, long_grammar};
 use crate::random::Random;
 use crate::rulebooks::{damaged_rules, rules};
+use crate::sequences;
 use crate::trees::{damaged_tree, random_tree, tree_at_limits, Shapes};
 
 /// The greatest budget of most generated runs, so that each is short.
@@ -76,16 +77,17 @@ pub fn check_input(seed: u64) -> Input {
 /// An input of a family that is rich in chains, with one word of its rules
 /// changed.
 fn damaged_family(random: &mut Random, seed: u64) -> Input {
-    let mut input = match random.below(4) {
+    let mut input = match random.below(6) {
         0 => families::conditions(seed),
         1 => families::calls_near_limit(seed),
+        2 | 3 => sequences::sequence_operations(seed),
         _ => families::operations_near_limit(seed),
     };
     let position = random.below(input.rules.len());
     input.rules[position] = match random.below(4) {
         0 | 1 => random.below(5) as u32,
         2 => random.between(64, 67) as u32,
-        _ => random.between(999, 1_010) as u32,
+        _ => random.between(999, 1_016) as u32,
     };
     input
 }
@@ -96,7 +98,7 @@ fn damaged_family(random: &mut Random, seed: u64) -> Input {
 pub fn run_input(seed: u64) -> Input {
     let mut random = Random::new(seed);
     let seed = u64::from(random.word());
-    let input = match random.below(20) {
+    let input = match random.below(24) {
         0 | 1 => families::calls_near_limit(seed),
         2 => families::nodes_near_limit(seed),
         3 | 4 => families::nesting_near_limit(seed),
@@ -106,6 +108,8 @@ pub fn run_input(seed: u64) -> Input {
         8 => families::conditions(seed),
         9 => families::searches(seed),
         10 => families::rounding(seed),
+        11 | 12 => sequences::sequence_operations(seed),
+        13 => sequences::sequences_near_limit(seed),
         _ => typed_input(seed),
     };
     if random.chance(50) {

@@ -9,6 +9,7 @@ mod labeled;
 mod lists;
 mod random;
 mod rulebooks;
+mod sequences;
 mod shrink;
 mod trees;
 
@@ -26,6 +27,7 @@ pub use lists::{run_list, RunList};
 pub use random::Random;
 pub use reference::bench::Input;
 pub use rulebooks::{damaged_rules, rules};
+pub use sequences::{sequence_operations, sequences_near_limit};
 pub use shrink::shrink;
 pub use trees::{damaged_tree, tree, tree_at_limits};
 

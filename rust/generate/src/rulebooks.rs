@@ -12,9 +12,9 @@ use crate::trees::{token_value, Bounds, Shapes, Style};
 /// One pair of a pattern or replacement.
 pub type Pair = (u32, u32);
 
-const NEW_VARIABLE: u32 = 64;
-const VARIABLE: u32 = 65;
-const CHAIN: u32 = 66;
+pub(crate) const NEW_VARIABLE: u32 = 64;
+pub(crate) const VARIABLE: u32 = 65;
+pub(crate) const CHAIN: u32 = 66;
 
 /// A rule before it is written as words. Its bit map follows from what it has.
 #[derive(Clone, Debug, Default)]
@@ -297,10 +297,10 @@ fn damage_one_word(
         Field::ChainLength => random.below(6) as u32,
         Field::ChainZero => random.pick(&[1, 2, u32::MAX]),
         Field::Applied => match random.below(5) {
-            0 => random.between(998, 1_012) as u32,
+            0 => random.between(998, 1_018) as u32,
             1 | 2 => random.below(rules + 1) as u32,
             3 => random.pick(&[63, 64, 65, 999]),
-            _ => random.between(1_000, 1_009) as u32,
+            _ => random.between(1_000, 1_016) as u32,
         },
         Field::ArgumentCount => random.pick(&[0, 1, 2, word + 1, u32::MAX]),
         Field::ArgumentKind => random.pick(&[0, any_type, 64, 66, u32::MAX]),
@@ -833,8 +833,13 @@ impl RuleBody<'_> {
 
     /// A variable of a type.
     fn variable_of(&mut self, ty: TypeNumber) -> Option<u32> {
+        self.variable_where(|variable| variable == ty)
+    }
+
+    /// A variable of a type that fits.
+    fn variable_where(&mut self, fits: impl Fn(TypeNumber) -> bool) -> Option<u32> {
         let fitting: Vec<u32> = (0..self.variables.len())
-            .filter(|&number| self.variables[number].ty == ty)
+            .filter(|&number| fits(self.variables[number].ty))
             .map(|number| number as u32)
             .collect();
         self.random.pick_any(&fitting)
@@ -854,6 +859,11 @@ impl RuleBody<'_> {
     /// One application with its arguments.
     fn application(&mut self, variable: u32, tested: bool) -> Option<Vec<Pair>> {
         let scope = self.variables[variable as usize].ty;
+        if !tested && self.random.chance(40) {
+            if let Some(pairs) = self.sequence_application(scope) {
+                return Some(pairs);
+            }
+        }
         let number = self.samples.shapes.grammar.is_number(scope);
         if number && self.random.chance(60) {
             let operation = if tested {
@@ -890,10 +900,29 @@ impl RuleBody<'_> {
 
     fn number_variable(&mut self) -> Option<u32> {
         let grammar = self.samples.shapes.grammar;
-        let numbers: Vec<u32> = (0..self.variables.len())
-            .filter(|&number| grammar.is_number(self.variables[number].ty))
-            .map(|number| number as u32)
-            .collect();
-        self.random.pick_any(&numbers)
+        self.variable_where(|ty| grammar.is_number(ty))
+    }
+
+    /// An operation on sequences that fits the scope, with arguments that fit it,
+    /// if there are any.
+    fn sequence_application(&mut self, scope: TypeNumber) -> Option<Vec<Pair>> {
+        let grammar = self.samples.shapes.grammar;
+        if grammar.is_number(scope) {
+            let sequence = self.variable_where(|ty| grammar.element(ty).is_some())?;
+            return Some(vec![(1_014, 1), (VARIABLE, sequence)]);
+        }
+        let element = grammar.element(scope)?;
+        let operation = self
+            .random
+            .pick(&[1_010, 1_010, 1_011, 1_012, 1_013, 1_015]);
+        let arguments = match operation {
+            1_010 => vec![self.variable_where(|ty| ty == scope || ty == element)?],
+            1_011 => vec![self.number_variable()?, self.number_variable()?],
+            1_015 => vec![self.variable_where(|_| true)?],
+            _ => vec![self.number_variable()?],
+        };
+        let mut pairs = vec![(operation, arguments.len() as u32)];
+        pairs.extend(arguments.iter().map(|&variable| (VARIABLE, variable)));
+        Some(pairs)
     }
 }

@@ -5,7 +5,7 @@ use std::collections::BTreeMap;
 use generate::{
     calls_near_limit, check_input, counting_down, live_nodes_at_limit, live_nodes_near_limit,
     nesting_near_limit, nodes_near_limit, operations_near_limit, reference_outcome, rounding,
-    run_input, run_list, shrink, to_bench, typed_input, Input,
+    run_input, run_list, sequence_operations, shrink, to_bench, typed_input, Input,
 };
 use reference::bench;
 use reference::grammar::Grammar;
@@ -72,7 +72,7 @@ fn every_stop_of_runs_is_reached_often() {
 
 #[test]
 fn typed_rules_usually_pass_and_often_match() {
-    let (mut passed, mut replaced, mut kinds) = (0, 0, [0; 4]);
+    let (mut passed, mut replaced, mut kinds) = (0, 0, [0; 5]);
     for seed in 0..2_000 {
         let input = typed_input(seed);
         assert_eq!(check_grammar(&input.grammar), Ok(()));
@@ -81,12 +81,12 @@ fn typed_rules_usually_pass_and_often_match() {
             passed += 1;
             replaced += u32::from(replacements > 0);
         }
-        for (kind, map) in [1, 2, 4, 8].iter().enumerate() {
+        for (kind, map) in [1, 2, 4, 8, 16].iter().enumerate() {
             kinds[kind] += u32::from(input.grammar[1] == *map);
         }
     }
     println!("of 2000 typed inputs {passed} pass and {replaced} replace something");
-    println!("roots that are token, optional, sequence, forms: {kinds:?}");
+    println!("roots that are token, optional, repeat, forms, list: {kinds:?}");
     assert!(passed > 1_800 && replaced > 600);
     assert!(kinds.iter().all(|&count| count > 0));
 }
@@ -339,4 +339,18 @@ fn lists_have_refused_runs_and_memories_of_every_kind() {
     println!("of 2000 memories {short} are too short, {least} just long enough, {longer} longer");
     println!("{between} of 1000 lists have a refused run between two accepted ones");
     assert!(short >= LEAST && least >= LEAST && longer >= LEAST && between >= LEAST);
+}
+
+#[test]
+fn operations_on_sequences_are_never_refused() {
+    let (mut done, mut stopped) = (0, 0);
+    for seed in 0..2_000 {
+        match reference_outcome(&sequence_operations(seed)) {
+            Outcome::Ended { stop: None, .. } => done += 1,
+            Outcome::Ended { .. } => stopped += 1,
+            Outcome::Refused(refusal) => panic!("{seed}: {refusal:?}"),
+        }
+    }
+    println!("of 2000 runs with operations on sequences {done} are done, {stopped} stopped");
+    assert!(done >= 1_000);
 }

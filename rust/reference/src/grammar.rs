@@ -24,7 +24,8 @@ pub enum Kind {
     Token(TokenClass),
     /// The paper's "opt".
     Optional,
-    /// The paper's "repeat".
+    /// The paper's "repeat" and, with T-04, its "list", which is "a repeat in
+    /// all but its bit".
     Sequence,
     Forms,
 }
@@ -74,9 +75,16 @@ impl Grammar {
         (word as usize) < self.types.len()
     }
 
-    /// Whether a type is a number token, on which operations work.
+    /// Whether a type is a number token, on which number operations work.
     pub fn is_number(&self, ty: TypeNumber) -> bool {
         self.kind(ty) == Kind::Token(TokenClass::Number)
+    }
+
+    /// The type of a sequence's elements, or `None` if the type is no
+    /// sequence.
+    pub fn element(&self, ty: TypeNumber) -> Option<TypeNumber> {
+        let ty = &self.types[ty as usize];
+        (ty.kind == Kind::Sequence).then(|| ty.alternatives[0][0])
     }
 
     /// The types of the children of a node, or `None` if a node of that type
@@ -114,7 +122,7 @@ impl Grammar {
 
 fn read_type(reader: &mut Reader, own: TypeNumber, count: u32) -> Result<Type, Refusal> {
     let is_type = |word| word < count;
-    let map = reader.word_where(|word| matches!(word, 1 | 2 | 4 | 8))?;
+    let map = reader.word_where(|word| matches!(word, 1 | 2 | 4 | 8 | 16))?;
     let (kind, alternatives) = match map {
         1 => {
             let class = match reader.count(1, 3)? {
@@ -128,7 +136,7 @@ fn read_type(reader: &mut Reader, own: TypeNumber, count: u32) -> Result<Type, R
             let element = reader.word_where(is_type)?;
             (Kind::Optional, vec![vec![element], vec![]])
         }
-        4 => {
+        4 | 16 => {
             let element = reader.word_where(is_type)?;
             (Kind::Sequence, vec![vec![element, own], vec![]])
         }

@@ -1,19 +1,20 @@
 //! A plain implementation of the rewriting core of document 01 ("The
-//! rewriting core of the counter pad") with change requests T-01 and T-02 of
-//! document 02, written from those papers alone with real trees, to compare
+//! rewriting core of the counter pad") with change requests T-01, T-02 and T-04
+//! of document 02, written from those papers alone with real trees, to compare
 //! another core with.
 //!
 //! Names are the field's usual ones. The paper's own words stand at each
 //! definition: a "slip" is a tree, a "rule book" the rules, a "trial" an
 //! attempt, a "group" an application chain, "held nodes" live nodes, a
-//! "repeat" a sequence, and "take apart", "build" and "test" are deconstruct,
-//! construct and condition.
+//! "repeat" or "list" a sequence, and "take apart", "build" and "test" are
+//! deconstruct, construct and condition.
 
 pub mod bench;
 pub mod grammar;
 pub mod limits;
 pub mod rules;
 pub mod run;
+mod sequence;
 pub mod tree;
 pub mod typing;
 mod words;

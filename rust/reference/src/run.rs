@@ -8,6 +8,7 @@ use std::cmp::Ordering;
 use crate::grammar::Grammar;
 use crate::limits;
 use crate::rules::Reach;
+use crate::sequence;
 use crate::tree::{Piece, Tree};
 use crate::typing::{
     Application, Applied, Chain, Comparison, Operation, Part, PatternItem, Program, Replacement,
@@ -272,7 +273,8 @@ impl Engine<'_> {
         let mut scope = self.copy_scope(chain, variables)?;
         let mut success = false;
         for application in &chain.applications {
-            success = self.apply(application, &mut scope, variables, Purpose::Test)?;
+            // What a test works on goes to no tree above it.
+            success = self.apply(application, &mut scope, variables, Purpose::Test, 0)?;
             if success {
                 break;
             }
@@ -302,7 +304,7 @@ impl Engine<'_> {
                 ReplacementItem::Chain(chain) => {
                     let mut scope = self.copy_scope(chain, variables)?;
                     for application in &chain.applications {
-                        self.apply(application, &mut scope, variables, Purpose::Rewrite)?;
+                        self.apply(application, &mut scope, variables, Purpose::Rewrite, size)?;
                     }
                     // Moved to the tree above, the scope stays live.
                     size = grown(size, scope.size())?;
@@ -325,13 +327,15 @@ impl Engine<'_> {
         Ok(tree.clone())
     }
 
-    /// Applies a rule or operation to a scope. Says whether it succeeded.
+    /// Applies a rule or operation to a scope that is to be moved to a tree
+    /// with `above` nodes so far. Says whether it succeeded.
     fn apply(
         &mut self,
         application: &Application,
         scope: &mut Tree,
         variables: &[Tree],
         purpose: Purpose,
+        above: usize,
     ) -> Result<bool, Stop> {
         let arguments = application.arguments.iter().map(|&v| &variables[v]);
         match application.applied {
@@ -352,7 +356,28 @@ impl Engine<'_> {
                     Comparison::Greater => scope.value() > argument,
                 })
             }
+            Applied::SequenceOperation(operation) => {
+                let arguments: Vec<&Tree> = arguments.collect();
+                let result = sequence::operate(self.grammar, operation, scope, &arguments);
+                self.take_place_of(scope, result, above)?;
+                Ok(true)
+            }
         }
+    }
+
+    /// Lets the result of a sequence operation take its scope's place. This is
+    /// one step, in which the lowest number stops: 42 over all that the
+    /// replacement has so far, 43 over the result alone.
+    fn take_place_of(&mut self, scope: &mut Tree, result: Tree, above: usize) -> Result<(), Stop> {
+        grown(above, result.size())?;
+        if result.height() > limits::NESTING {
+            return Err(Stop::NestsTooDeep);
+        }
+        // The scope goes as the result comes: they are never live together.
+        self.live -= scope.size();
+        self.hold(result.size())?;
+        *scope = result;
+        Ok(())
     }
 
     /// Puts a replacement, which is live, in the place of the match.

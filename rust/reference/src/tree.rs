@@ -104,6 +104,14 @@ impl Tree {
         Tree(Rc::new(node))
     }
 
+    /// A sequence with these elements.
+    pub fn sequence(grammar: &Grammar, ty: TypeNumber, elements: &[Tree]) -> Tree {
+        let empty = Tree::node(grammar, ty, 1, Vec::new());
+        elements.iter().rfold(empty, |rest, element| {
+            Tree::node(grammar, ty, 0, vec![element.clone(), rest])
+        })
+    }
+
     /// The type of the root.
     pub fn ty(&self) -> TypeNumber {
         self.0.ty
@@ -135,6 +143,13 @@ impl Tree {
         Preorder {
             to_come: vec![self],
         }
+    }
+
+    /// The elements of a sequence, the first one first.
+    pub fn elements(&self) -> impl Iterator<Item = &Tree> {
+        // The last rest is empty and has no children.
+        std::iter::successors(Some(self), |rest| rest.children().get(1))
+            .filter_map(|rest| rest.children().first())
     }
 
     /// The words of the tree, two a node.

@@ -72,6 +72,7 @@ pub enum Applied {
     Rule(usize),
     Operation(Operation),
     Comparison(Comparison),
+    SequenceOperation(SequenceOperation),
 }
 
 /// The operations that change a number, 1,000 to 1,005.
@@ -90,6 +91,18 @@ pub enum Operation {
 pub enum Comparison {
     Equal,
     Greater,
+}
+
+/// The operations on sequences of T-04, 1,010 to 1,015.
+#[derive(Clone, Copy, Debug, PartialEq, Eq)]
+pub enum SequenceOperation {
+    Join,
+    Select,
+    Head,
+    Tail,
+    /// Its scope is a number, only its argument is a sequence.
+    Length,
+    Extract,
 }
 
 /// One part of a rule.
@@ -389,7 +402,7 @@ impl RuleTyping<'_> {
         let Some(applied) = self.applied(pair.first, scope, chain_use) else {
             return pair.refuse_first(22);
         };
-        let parameters = self.parameters(applied);
+        let parameters = self.parameters(applied, scope);
         if pair.second as usize != parameters.len() {
             return pair.refuse_second(22);
         }
@@ -399,10 +412,7 @@ impl RuleTyping<'_> {
             if pair.first != Pair::VARIABLE {
                 return pair.refuse_first(23);
             }
-            arguments.push(self.variable_of(pair, |ty| match parameter {
-                Parameter::Type(parameter) => ty == parameter,
-                Parameter::AnyNumber => self.grammar.is_number(ty),
-            })?);
+            arguments.push(self.variable_of(pair, |ty| self.fits(ty, parameter))?);
         }
         Ok(Application { applied, arguments })
     }
@@ -415,21 +425,26 @@ impl RuleTyping<'_> {
             let usable_on_scope = rule.reach != Reach::RootOnly || rule.target == scope;
             return (usable_here && usable_on_scope).then_some(Applied::Rule(number as usize));
         }
-        let (applied, wanted_use) = match number {
-            1_000 => (Operation::Add.into(), ChainUse::Replacement),
-            1_001 => (Operation::Subtract.into(), ChainUse::Replacement),
-            1_002 => (Operation::Quotient.into(), ChainUse::Replacement),
-            1_003 => (Operation::Remainder.into(), ChainUse::Replacement),
-            1_004 => (Operation::Round.into(), ChainUse::Replacement),
-            1_005 => (Operation::Truncate.into(), ChainUse::Replacement),
-            1_008 => (Comparison::Equal.into(), ChainUse::Condition),
-            1_009 => (Comparison::Greater.into(), ChainUse::Condition),
-            _ => return None,
+        let applied = operation(number)?;
+        let wanted_use = match applied {
+            Applied::Comparison(_) => ChainUse::Condition,
+            _ => ChainUse::Replacement,
         };
-        (chain_use == wanted_use && self.grammar.is_number(scope)).then_some(applied)
+        (chain_use == wanted_use && self.works_on(applied, scope)).then_some(applied)
     }
 
-    fn parameters(&self, applied: Applied) -> Vec<Parameter> {
+    /// Whether an operation works on scopes of this type.
+    fn works_on(&self, operation: Applied, scope: TypeNumber) -> bool {
+        match operation {
+            Applied::SequenceOperation(operation) if operation != SequenceOperation::Length => {
+                self.grammar.element(scope).is_some()
+            }
+            _ => self.grammar.is_number(scope),
+        }
+    }
+
+    /// What the arguments must be of a rule or operation on this scope.
+    fn parameters(&self, applied: Applied, scope: TypeNumber) -> Vec<Parameter> {
         match applied {
             Applied::Rule(rule) => {
                 let types = self.layout[rule].parameters.iter();
@@ -437,6 +452,26 @@ impl RuleTyping<'_> {
             }
             Applied::Operation(Operation::Round | Operation::Truncate) => vec![],
             Applied::Operation(_) | Applied::Comparison(_) => vec![Parameter::AnyNumber],
+            Applied::SequenceOperation(operation) => match operation {
+                SequenceOperation::Join => vec![Parameter::SameOrElement(scope)],
+                SequenceOperation::Select => vec![Parameter::AnyNumber; 2],
+                SequenceOperation::Head | SequenceOperation::Tail => vec![Parameter::AnyNumber],
+                SequenceOperation::Length => vec![Parameter::AnySequence],
+                SequenceOperation::Extract => vec![Parameter::Any],
+            },
+        }
+    }
+
+    /// Whether an argument of this type can stand for a parameter.
+    fn fits(&self, ty: TypeNumber, parameter: Parameter) -> bool {
+        match parameter {
+            Parameter::Type(parameter) => ty == parameter,
+            Parameter::AnyNumber => self.grammar.is_number(ty),
+            Parameter::AnySequence => self.grammar.element(ty).is_some(),
+            Parameter::SameOrElement(sequence) => {
+                ty == sequence || self.grammar.element(sequence) == Some(ty)
+            }
+            Parameter::Any => true,
         }
     }
 }
@@ -446,6 +481,31 @@ impl RuleTyping<'_> {
 enum Parameter {
     Type(TypeNumber),
     AnyNumber,
+    AnySequence,
+    /// A tree of the very type of this sequence, or one of its elements.
+    SameOrElement(TypeNumber),
+    Any,
+}
+
+/// The operation with a number, if there is one.
+fn operation(number: u32) -> Option<Applied> {
+    Some(match number {
+        1_000 => Operation::Add.into(),
+        1_001 => Operation::Subtract.into(),
+        1_002 => Operation::Quotient.into(),
+        1_003 => Operation::Remainder.into(),
+        1_004 => Operation::Round.into(),
+        1_005 => Operation::Truncate.into(),
+        1_008 => Comparison::Equal.into(),
+        1_009 => Comparison::Greater.into(),
+        1_010 => SequenceOperation::Join.into(),
+        1_011 => SequenceOperation::Select.into(),
+        1_012 => SequenceOperation::Head.into(),
+        1_013 => SequenceOperation::Tail.into(),
+        1_014 => SequenceOperation::Length.into(),
+        1_015 => SequenceOperation::Extract.into(),
+        _ => return None,
+    })
 }
 
 impl From<Operation> for Applied {
@@ -457,5 +517,11 @@ impl From<Operation> for Applied {
 impl From<Comparison> for Applied {
     fn from(comparison: Comparison) -> Applied {
         Applied::Comparison(comparison)
+    }
+}
+
+impl From<SequenceOperation> for Applied {
+    fn from(operation: SequenceOperation) -> Applied {
+        Applied::SequenceOperation(operation)
     }
 }

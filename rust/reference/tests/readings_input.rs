@@ -1,5 +1,5 @@
 //! The readings B (bench), C (call), G (grammar) and S (tree) with T02-1 and
-//! T02-3 (larger amounts), one test each.
+//! T02-3 (larger amounts), one test each. T-04 adds the list to the grammar.
 
 mod common;
 
@@ -192,10 +192,10 @@ fn c3_memories_and_single_checks() {
 }
 
 #[test]
-fn g1_only_four_maps() {
+fn g1_only_five_maps() {
     for map in (0..=32).chain([0x8000_0000, u32::MAX]) {
         let refused = grammar_refusal(&[1, map, 0]) == Some((11, 1));
-        assert_eq!(refused, !matches!(map, 1 | 2 | 4 | 8), "{map}");
+        assert_eq!(refused, !matches!(map, 1 | 2 | 4 | 8 | 16), "{map}");
     }
 }
 
@@ -259,6 +259,7 @@ fn g4_no_finite_tree_whether_reached_or_not() {
 fn g5_literals_only_in_forms() {
     assert_eq!(grammar_refusal(&[1, 2, 65_536]), Some((11, 2)));
     assert_eq!(grammar_refusal(&[1, 4, 65_536]), Some((11, 2)));
+    assert_eq!(grammar_refusal(&[1, 16, 65_536]), Some((11, 2)));
     assert_eq!(grammar_refusal(&[1, 2, 1]), Some((11, 2)));
     let form = |element| grammar_refusal(&[1, 8, 1, 1, element]);
     assert_eq!(form(65_536), None);
@@ -275,7 +276,9 @@ fn g5_literals_only_in_forms() {
 fn g6_optional_and_sequence_of_themselves() {
     assert_eq!(grammar_refusal(&[1, 2, 0]), None);
     assert_eq!(grammar_refusal(&[1, 4, 0]), None);
+    assert_eq!(grammar_refusal(&[1, 16, 0]), None);
     assert_eq!(grammar_refusal(&[2, 2, 1, 4, 0]), None);
+    assert_eq!(grammar_refusal(&[2, 16, 1, 4, 0]), None);
 }
 
 #[test]

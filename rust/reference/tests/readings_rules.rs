@@ -292,7 +292,11 @@ fn t9_rules_and_operations_not_there_or_not_usable() {
     let applied = |number| refusal(&with_replacement(&[(66, 0), (1, 0), (number, 0)]));
     assert_eq!(applied(0), None);
     assert_eq!(applied(1_004), None);
-    for number in [1, 64, 999, 1_006, 1_007, 1_008, 1_009, 1_010, u32::MAX] {
+    for number in [1, 64, 999, 1_006, 1_007, 1_008, 1_009, 1_016, u32::MAX] {
+        assert_eq!(applied(number), Some((22, 12)), "{number}");
+    }
+    // T-04's operations on sequences are there, but not on a number.
+    for number in [1_010, 1_011, 1_012, 1_013, 1_015] {
         assert_eq!(applied(number), Some((22, 12)), "{number}");
     }
     // A rule 1 on a number: the replacement of rule 0 stands at word 8.
@@ -358,7 +362,7 @@ fn t9_rules_and_operations_not_there_or_not_usable() {
     assert_eq!(test(1, &[]), None);
     assert_eq!(test(1_008, &[(65, 0)]), None);
     assert_eq!(test(1_009, &[(65, 0)]), None);
-    for number in 1_000..=1_007 {
+    for number in (1_000..=1_007).chain(1_010..=1_016) {
         assert_eq!(test(number, &[(65, 0)]), Some((22, 14)), "{number}");
     }
 }

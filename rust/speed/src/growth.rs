@@ -1,6 +1,6 @@
 //! Times runs of which one thing is doubled twice, to show that the cost grows
-//! with it and no faster: the nodes that one search goes over, and the attempts
-//! of a run.
+//! with it and no faster: the nodes that one search goes over, the attempts of
+//! a run, and the elements of a sequence that is joined and cut.
 //!
 //! Nothing is subtracted. Each time of the proved core includes the clearing of
 //! 16,384 words of work memory, about 1.3 microseconds whatever the input, and
@@ -26,9 +26,15 @@ const SEARCH_BUDGETS: [u32; 3] = [25 * 1_023, 50 * 1_023, 100 * 1_023];
 /// Whole searches where the 26th amount counts down. `replace_heavy` needs more
 /// attempts than these to end.
 const REPLACE_BUDGETS: [u32; 3] = [100 * 26, 200 * 26, 400 * 26];
+/// The elements of the sequence that the operations of each round are applied
+/// to, up to those of the workloads.
+const ELEMENTS: [u32; 3] = [200, 400, 800];
 
 const SEARCH_HEAVY: &[u8] = include_bytes!("../workloads/search_heavy.txt");
 const REPLACE_HEAVY: &[u8] = include_bytes!("../workloads/replace_heavy.txt");
+const JOIN_HEAVY: &[u8] = include_bytes!("../workloads/join_heavy.txt");
+const SELECT_HEAVY: &[u8] = include_bytes!("../workloads/select_heavy.txt");
+const EXTRACT_HEAVY: &[u8] = include_bytes!("../workloads/extract_heavy.txt");
 
 /// What grows, and an input for each of its sizes.
 struct Series {
@@ -104,7 +110,7 @@ fn counts(input: &Input) -> (Option<u32>, u32, u32) {
     }
 }
 
-fn all_series() -> [Series; 5] {
+fn all_series() -> [Series; 8] {
     [
         Series {
             name: "nodes of one search",
@@ -125,6 +131,18 @@ fn all_series() -> [Series; 5] {
         Series {
             name: "attempts of replace_heavy, one amount counts down",
             inputs: REPLACE_BUDGETS.map(|budget| (budget, with_budget(replace_evenly(), budget))),
+        },
+        Series {
+            name: "elements of join_heavy",
+            inputs: ELEMENTS.map(|elements| (elements, join_heavy(elements))),
+        },
+        Series {
+            name: "elements of select_heavy",
+            inputs: ELEMENTS.map(|elements| (elements, first_elements(SELECT_HEAVY, elements))),
+        },
+        Series {
+            name: "elements of extract_heavy",
+            inputs: ELEMENTS.map(|elements| (elements, first_elements(EXTRACT_HEAVY, elements))),
         },
     ]
 }
@@ -197,6 +215,24 @@ fn amounts(tree: &[u32]) -> Vec<usize> {
         .collect()
 }
 
+/// Each round takes half of the elements and joins them with themselves. How
+/// many that are is the one number of the rules that is not of the rounds.
+fn join_heavy(elements: u32) -> Input {
+    let mut input = first_elements(JOIN_HEAVY, elements);
+    let half = input.rules.iter_mut().find(|word| **word == 40_000);
+    *half.expect("400.00, half of 800") = 100 * (elements / 2);
+    input
+}
+
+/// A workload whose tree has a number, which counts the rounds, and so many
+/// elements of the sequence behind it.
+fn first_elements(text: &[u8], elements: u32) -> Input {
+    let mut input = workload(text);
+    input.tree.truncate(4 + 4 * elements as usize);
+    input.tree.extend([1, 1]);
+    input
+}
+
 fn workload(text: &[u8]) -> Input {
     reference::bench::parse(text).expect("a bench input")
 }
@@ -252,7 +288,7 @@ mod tests {
 
     #[test]
     fn a_run_spends_its_budget() {
-        let [_, _, search_heavy, replace_heavy, replace_evenly] = all_series();
+        let [_, _, search_heavy, replace_heavy, replace_evenly, ..] = all_series();
         let spent = |budgets: [u32; 3], replacements: [u32; 3]| {
             [0, 1, 2].map(|i| (budgets[i], Some(40), budgets[i], replacements[i]))
         };
@@ -268,5 +304,21 @@ mod tests {
             outcomes(&replace_evenly),
             spent(REPLACE_BUDGETS, [100, 200, 400])
         );
+    }
+
+    #[test]
+    fn a_run_on_sequences_has_as_many_rounds_whatever_its_elements() {
+        let [.., join_heavy, select_heavy, extract_heavy] = all_series();
+        for series in [&join_heavy, &select_heavy, &extract_heavy] {
+            let rounds = ELEMENTS.map(|elements| (elements, None, 101, 100));
+            assert_eq!(outcomes(series), rounds, "{}", series.name);
+            for (elements, input) in &series.inputs {
+                assert_eq!(input.tree.len(), 2 * (2 * *elements as usize + 3));
+                let Outcome::Ended { words, .. } = reference_outcome(input) else {
+                    panic!("{} is refused", series.name);
+                };
+                assert_eq!(words.len(), input.tree.len(), "{}", series.name);
+            }
+        }
     }
 }

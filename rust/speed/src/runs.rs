@@ -10,7 +10,7 @@ use reference::Outcome;
 use crate::timing::times;
 
 /// Runs as bench inputs.
-const WORKLOADS: [(&str, &[u8]); 10] = [
+const WORKLOADS: [(&str, &[u8]); 13] = [
     ("smallest", include_bytes!("../workloads/smallest.txt")),
     ("typical", include_bytes!("../workloads/typical.txt")),
     (
@@ -35,6 +35,15 @@ const WORKLOADS: [(&str, &[u8]); 10] = [
     ),
     ("call_heavy", include_bytes!("../workloads/call_heavy.txt")),
     ("bind_heavy", include_bytes!("../workloads/bind_heavy.txt")),
+    ("join_heavy", include_bytes!("../workloads/join_heavy.txt")),
+    (
+        "select_heavy",
+        include_bytes!("../workloads/select_heavy.txt"),
+    ),
+    (
+        "extract_heavy",
+        include_bytes!("../workloads/extract_heavy.txt"),
+    ),
     (
         "refuse_book",
         include_bytes!("../workloads/refuse_book.txt"),

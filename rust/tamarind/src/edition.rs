@@ -9,7 +9,8 @@ use crate::foreign;
 /// specified, and a change request that a caller can see sets its own number.
 /// 1 is T-01: operation 1,004 rounds an exact half to the even whole number.
 /// 2 is T-02: a number may be as great as 4,000,000,000 hundredths.
-pub const EDITION: u32 = 2;
+/// 4 is T-04: the list, and operations on sequences.
+pub const EDITION: u32 = 4;
 
 /// The edition of the archive that is linked.
 pub fn edition() -> u32 {

@@ -26,8 +26,8 @@ type-of-requires c κs = search needs
 wanted-requires : tie.Need-wanted-requires
 wanted-requires c κs = search needs
 
-add-t19 : tie.Need-add-t19
-add-t19 c = search needs
+add-t20 : tie.Need-add-t20
+add-t20 c = search needs
 
 returns-2 : tie.Need-returns-2
 returns-2 c = λ g h rules here st. argument-other g rules here (c .before .before .before .before .before .before .before .before .args .t) (c .before .before .before .before .before .before .before .before .args .v) (c .before .before .before .before .before .before .before .before .args .at) (c .before .before .before .before .before .before .before .before .args .sp) st (take (c .before .before .before .before .before .before .before .before .args .n) (c .before .before .before .before .before .before .before .before .args .known .now)) (wantedOf (c .before .before .before .before .before .before .before .before .args .a) (c .before .before .before .before .before .before .before .before .args .b)) (c .before .before .before .before .before .before .before .if1 .left) _ (c .before .before .before .before .before .before .there .ensures (take (c .before .before .before .before .before .before .before .before .args .n) (c .before .before .before .before .before .before .before .before .args .known .now)) (context-length (c .before .before .before .before .before .before .before .before .args .known .now) (c .before .before .before .before .before .before .before .before .args .n) (c .before .before .before .before .before .before .before .before .pre .0))) (c .before .before .before .before .c2 .given .1) (c .before .before .type-of .ensures) (c .before .wanted .ensures g h) (not-true _ (c .if2 .taken))
@@ -48,7 +48,7 @@ meet-argument-spec =
     enum-known-c-2
     type-of-requires
     wanted-requires
-    add-t19
+    add-t20
     returns-2
     returns-3
     returns-4)

@@ -36,7 +36,7 @@ meet-argument-requires : tie.Need-meet-argument-requires
 meet-argument-requires c κs = search needs
 
 returns-5 : tie.Need-returns-5
-returns-5 c = λ g h rules. tree-variable g rules (placeAs (c .before .before .before .before .before .before .before .before .args .here)) (c .before .before .before .before .before .before .before .before .args .nesting) (c .before .before .before .before .before .before .before .before .args .d) (c .before .before .before .before .before .before .before .before .args .t) (c .before .before .before .before .before .before .before .before .args .v) (c .before .before .before .before .before .before .before .before .args .at) (c .before .before .before .before .before .before .before .before .args .sp) (c .before .before .before .before .before .before .before .before .args .st .now) (take (c .before .before .before .before .before .before .before .before .args .n) (c .before .before .before .before .before .before .before .before .args .known .now)) (c .before .before .before .before .before .before .may-stand .ensures) (not-false _ (c .before .before .before .before .before .if1 .left)) (c .before .before .before .before .if2 .left) (c .before .before .before .if3 .left) (c .before .before .if4 .left) (c .before .if5 .taken) (c .meet-argument .ensures g (h .heads-of) rules (placeAs (c .before .before .before .before .before .before .before .before .args .here)) (c .before .before .before .before .before .before .before .before .args .st .now))
+returns-5 c = λ g h rules. tree-variable g rules (placeAs (c .before .before .before .before .before .before .before .before .args .here)) (c .before .before .before .before .before .before .before .before .args .nesting) (c .before .before .before .before .before .before .before .before .args .d) (c .before .before .before .before .before .before .before .before .args .t) (c .before .before .before .before .before .before .before .before .args .v) (c .before .before .before .before .before .before .before .before .args .at) (c .before .before .before .before .before .before .before .before .args .sp) (c .before .before .before .before .before .before .before .before .args .st .now) (take (c .before .before .before .before .before .before .before .before .args .n) (c .before .before .before .before .before .before .before .before .args .known .now)) (c .before .before .before .before .before .before .may-stand .ensures) (not-false _ (c .before .before .before .before .before .if1 .left)) (c .before .before .before .before .if2 .left) (c .before .before .before .if3 .left) (c .before .before .if4 .left) (c .before .if5 .taken) (c .meet-argument .ensures g h rules (placeAs (c .before .before .before .before .before .before .before .before .args .here)) (c .before .before .before .before .before .before .before .before .args .st .now))
 
 meet-chain-requires : tie.Need-meet-chain-requires
 meet-chain-requires c κs = search needs

@@ -1,4 +1,5 @@
 -- `grammar::kind` meets its contract. Assumes nothing.
+use Rattle.grammar.specs.Grammar.{repeat, list}
 use Rattle.grammar.proofs.Laws.{kind-bad, kind-token, kind-opt, kind-sequence, kind-forms-bad, kind-forms, kind-none}
 use borrow.Author.Needs.{needs}
 use Rattle.grammar.proofs.kind.Statement.{statement}
@@ -49,7 +50,7 @@ closed-requires-3 : tie.Need-closed-requires-3
 closed-requires-3 c κs = search needs
 
 returns-3 : tie.Need-returns-3
-returns-3 c = kind-sequence (c .before .before .before .before .before .before .before .before .before .before .before .args .ws .now) (c .before .before .before .before .before .before .before .before .before .before .before .args .known .now) (c .before .before .before .before .before .before .before .before .before .before .before .args .n) (c .before .before .before .before .before .before .before .before .before .before .before .args .at) _ (c .before .before .before .before .before .before .before .before .read-word .ensures) (c .before .before .before .before .before .before .m2 .given .1) (c .before .before .if3 .taken) _ (c .before .field3 .ensures) _ (c .closed3 .ensures)
+returns-3 c = kind-sequence (c .before .before .before .before .before .before .before .before .before .before .before .args .ws .now) (c .before .before .before .before .before .before .before .before .before .before .before .args .known .now) (c .before .before .before .before .before .before .before .before .before .before .before .args .n) (c .before .before .before .before .before .before .before .before .before .before .before .args .at) _ (c .before .before .before .before .before .before .before .before .read-word .ensures) (c .before .before .before .before .before .before .m2 .given .1) repeat (c .before .before .if3 .taken) _ (c .before .field3 .ensures) _ (c .closed3 .ensures)
 
 field-requires-4 : tie.Need-field-requires-4
 field-requires-4 c κs = search needs
@@ -69,11 +70,23 @@ forms-requires c κs = search needs
 returns-5 : tie.Need-returns-5
 returns-5 c = kind-forms (c .before .before .before .before .before .before .before .before .before .before .before .before .before .before .before .args .ws .now) (c .before .before .before .before .before .before .before .before .before .before .before .before .before .before .before .args .known .now) (c .before .before .before .before .before .before .before .before .before .before .before .before .before .before .before .args .n) (c .before .before .before .before .before .before .before .before .before .before .before .before .before .before .before .args .at) _ (c .before .before .before .before .before .before .before .before .before .before .before .before .read-word .ensures) (c .before .before .before .before .before .before .before .before .before .before .m2 .given .1) (c .before .before .before .before .before .if4 .taken) _ (c .before .before .before .before .field4 .ensures) (c .before .before .g2 .given .1) _ (c .forms .ensures)
 
+sub-field-3 : tie.Need-sub-field-3
+sub-field-3 c = search needs
+
+field-requires-5 : tie.Need-field-requires-5
+field-requires-5 c κs = search needs
+
+closed-requires-4 : tie.Need-closed-requires-4
+closed-requires-4 c κs = search needs
+
 returns-6 : tie.Need-returns-6
-returns-6 c = kind-bad (c .before .before .before .before .before .before .args .ws .now) (c .before .before .before .before .before .before .args .known .now) (c .before .before .before .before .before .before .args .n) (c .before .before .before .before .before .before .args .at) _ (c .before .before .before .read-word .ensures) (c .before .m .given .1)
+returns-6 c = kind-sequence (c .before .before .before .before .before .before .before .before .before .before .before .before .before .args .ws .now) (c .before .before .before .before .before .before .before .before .before .before .before .before .before .args .known .now) (c .before .before .before .before .before .before .before .before .before .before .before .before .before .args .n) (c .before .before .before .before .before .before .before .before .before .before .before .before .before .args .at) _ (c .before .before .before .before .before .before .before .before .before .before .read-word .ensures) (c .before .before .before .before .before .before .before .before .m2 .given .1) list (c .before .before .if5 .taken) _ (c .before .field5 .ensures) _ (c .closed4 .ensures)
 
 returns-7 : tie.Need-returns-7
-returns-7 c = kind-none (c .before .before .before .before .before .before .before .before .before .before .args .ws .now) (c .before .before .before .before .before .before .before .before .before .before .args .known .now) (c .before .before .before .before .before .before .before .before .before .before .args .n) (c .before .before .before .before .before .before .before .before .before .before .args .at) _ (c .before .before .before .before .before .before .before .read-word .ensures) (c .before .before .before .before .before .m2 .given .1) (c .before .before .before .if1 .left) (c .before .before .if2 .left) (c .before .if3 .left) (c .if4 .left)
+returns-7 c = kind-bad (c .before .before .before .before .before .before .args .ws .now) (c .before .before .before .before .before .before .args .known .now) (c .before .before .before .before .before .before .args .n) (c .before .before .before .before .before .before .args .at) _ (c .before .before .before .read-word .ensures) (c .before .m .given .1)
+
+returns-8 : tie.Need-returns-8
+returns-8 c = kind-none (c .before .before .before .before .before .before .before .before .before .before .before .args .ws .now) (c .before .before .before .before .before .before .before .before .before .before .before .args .known .now) (c .before .before .before .before .before .before .before .before .before .before .before .args .n) (c .before .before .before .before .before .before .before .before .before .before .before .args .at) _ (c .before .before .before .before .before .before .before .before .read-word .ensures) (c .before .before .before .before .before .before .m2 .given .1) (c .before .before .before .before .if1 .left) (c .before .before .before .if2 .left) (c .before .before .if3 .left) (c .before .if4 .left) (c .if5 .left)
 
 pub kind-spec : {M : Type 1} → statement M
 kind-spec =
@@ -99,5 +112,9 @@ kind-spec =
     enum-known-g-2
     forms-requires
     returns-5
+    sub-field-3
+    field-requires-5
+    closed-requires-4
     returns-6
-    returns-7)
+    returns-7
+    returns-8)

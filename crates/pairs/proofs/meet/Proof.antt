@@ -43,7 +43,7 @@ same-length-2 : tie.Need-same-length-2
 same-length-2 c = search needs
 
 returns-2 : tie.Need-returns-2
-returns-2 c = λ g h rules b. c .before .before .meet-link .ensures g (h .heads-of) rules b
+returns-2 c = λ g h rules b. c .before .before .meet-link .ensures g h rules b
 
 pub meet-spec : {M : Type 1} → statement M
 meet-spec =

@@ -1,5 +1,5 @@
 -- `tables::is_sequence` meets its contract. Assumes nothing.
-use Rattle.tables.proofs.Lookups.{sequence-by}
+use Rattle.tables.proofs.Lookups.{sequence-repeat, sequence-list}
 use borrow.Author.Needs.{needs}
 use Rattle.tables.proofs.is_sequence.Statement.{statement}
 use Rattle.tables.proofs.is_sequence.Tie as tie
@@ -11,7 +11,10 @@ map-of-requires : tie.Need-map-of-requires
 map-of-requires c κs = search needs
 
 returns : tie.Need-returns
-returns c = λ g hs. sequence-by g (c .before .args .t) _ (c .map-of .ensures g hs)
+returns c = λ g hs. sequence-repeat g (c .before .before .args .t) _ (c .before .map-of .ensures g hs) (c .if1 .taken)
+
+returns-2 : tie.Need-returns-2
+returns-2 c = λ g hs. sequence-list g (c .before .before .args .t) _ (c .before .map-of .ensures g hs) (c .if1 .left)
 
 pub is-sequence-spec : {M : Type 1} → statement M
-is-sequence-spec = tie.close (tie.spec map-of-requires returns)
+is-sequence-spec = tie.close (tie.spec map-of-requires returns returns-2)

@@ -30,6 +30,7 @@ pub fn first_line(budget: u32, grammar: &[u32], rules: &[u32], tree: &[u32]) -> 
 }
 
 /// A tree of the paper's grammar with these numbers: 2 x numbers + 2 nodes.
+/// It is no list in the sense of T-04, but fits that kind of sequence as well.
 pub fn list(numbers: &[u32]) -> Vec<u32> {
     [vec![0, 0], sequence(numbers)].concat()
 }
@@ -47,6 +48,39 @@ pub fn list_of_nodes(nodes: usize) -> Vec<u32> {
     let list = list(&vec![5; nodes / 2 - 1]);
     assert_eq!(list.len(), 2 * nodes);
     list
+}
+
+/// The words of a sequence of any type with these elements.
+pub fn sequence_of(ty: u32, elements: &[Vec<u32>]) -> Vec<u32> {
+    let mut words = Vec::new();
+    for element in elements {
+        words.extend([ty, 0]);
+        words.extend(element);
+    }
+    words.extend([ty, 1]);
+    words
+}
+
+/// The operations on sequences of T-04.
+pub const JOIN: u32 = 1_010;
+pub const SELECT: u32 = 1_011;
+pub const HEAD: u32 = 1_012;
+pub const TAIL: u32 = 1_013;
+pub const LENGTH: u32 = 1_014;
+pub const EXTRACT: u32 = 1_015;
+
+/// The pairs of an application chain on a variable.
+pub fn chain(variable: u32, applications: &[Vec<(u32, u32)>]) -> Vec<(u32, u32)> {
+    let mut pairs = vec![(66, variable), (applications.len() as u32, 0)];
+    pairs.extend(applications.concat());
+    pairs
+}
+
+/// The pairs of one application, of a rule or operation, to these variables.
+pub fn apply(applied: u32, arguments: &[u32]) -> Vec<(u32, u32)> {
+    let mut pairs = vec![(applied, arguments.len() as u32)];
+    pairs.extend(arguments.iter().map(|&variable| (65, variable)));
+    pairs
 }
 
 /// A pattern or replacement: the count of pairs, and the pairs.

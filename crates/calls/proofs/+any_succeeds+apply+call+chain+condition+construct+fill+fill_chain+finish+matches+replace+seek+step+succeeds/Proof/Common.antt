@@ -35,13 +35,13 @@ abbrev pub μ-any-succeeds : Measures 7 any-succeeds-kinds.ps ℕ
 μ-any-succeeds κs a = a .1 .1 .1 .1 .1 .1 .1 .1 .1 .1 .1 .0 * 16 + 8
 
 abbrev pub μ-apply : Measures 7 apply-kinds.ps ℕ
-μ-apply κs a = a .1 .1 .1 .1 .1 .1 .1 .1 .1 .1 .1 .1 .1 .0 * 16 + 4
+μ-apply κs a = a .1 .1 .1 .1 .1 .1 .1 .1 .1 .1 .1 .1 .1 .1 .0 * 16 + 4
 
 abbrev pub μ-call : Measures 6 call-kinds.ps ℕ
 μ-call κs a = a .1 .1 .1 .1 .1 .1 .1 .1 .1 .1 .1 .1 .0 * 16 + 12
 
 abbrev pub μ-chain : Measures 7 chain-kinds.ps ℕ
-μ-chain κs a = a .1 .1 .1 .1 .1 .1 .1 .1 .1 .1 .1 .1 .1 .0 * 16 + 5
+μ-chain κs a = a .1 .1 .1 .1 .1 .1 .1 .1 .1 .1 .1 .1 .1 .1 .0 * 16 + 5
 
 abbrev pub μ-condition : Measures 6 condition-kinds.ps ℕ
 μ-condition κs a = a .1 .1 .1 .1 .1 .1 .1 .1 .1 .1 .0 * 16 + 9

@@ -1,6 +1,7 @@
 -- The parts of the proof that `calls::seek` meets its contract. Assumes nothing.
 use Rattle.rewrite.specs.Matching.{matchIn}
-use Rattle.calls.proofs.Frames.{stretch-below, Still, still-after, grown-still}
+use Rattle.rewrite.proofs.Standing.{stretch-below}
+use Rattle.calls.proofs.Frames.{Still, still-after, grown-still}
 use Rattle.rewrite.proofs.Clashing.{next-in}
 use Rattle.rewrite.specs.Candidates.{NextCandidate}
 use Rattle.rewrite.proofs.Matcher.{answers-kept, kept-same, kept-more}
