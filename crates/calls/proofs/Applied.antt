@@ -15,7 +15,6 @@ use Rattle.grammar.specs.Grammar.{Grammar}
 use Rattle.rules.specs.Limits.{mostParameters}
 use Rattle.rules.specs.Rules.{Operation, add, subtract, quotient, remainder, round, truncate, equal, greater, Edit, Applied, rule, operation, editing, nothing, applied, arguments, Rule, Rules}
 use Rattle.rules.specs.Layout as Layout
-use Rattle.rules.specs.Layout.{parameters}
 use Rattle.rules.proofs.Laid.{head-few, rule-value}
 use Rattle.rules.proofs.Numbers.{rule-number, an-operation, an-edit}
 use Rattle.meaning.specs.declared.State.{State}

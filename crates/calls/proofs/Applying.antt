@@ -22,7 +22,7 @@ use Rattle.meaning.specs.Computation.{Result, ok, stop, stuck, Comp, thenOf, ch
 use Rattle.meaning.specs.Operations.{compute, valueOf, valuesOf, withValue, isNumberToken, areNumberTokens}
 use Rattle.meaning.specs.Edits.{edit}
 use Rattle.meaning.specs.Meaning as M
-use Rattle.meaning.specs.Meaning.{Env, total, variables, done, cannotGoOn, resultAs, resultOf, opened, begin, calls}
+use Rattle.meaning.specs.Meaning.{Env, variables, done, cannotGoOn, resultAs, resultOf, opened, begin, calls}
 use Rattle.operations.specs.Operating.{argumentsOf}
 use Rattle.rewrite.specs.Vars.{Vars, EnvAt, startsOf, startAt, Sound}
 use Rattle.rewrite.specs.Arena.{Arguments, Standing, Gathered, ComputedAs, Computed, Says}

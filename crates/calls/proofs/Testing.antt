@@ -18,7 +18,7 @@ use Rattle.meaning.specs.declared.State.{State}
 use Rattle.meaning.specs.Computation.{Result, ok, stop, stuck, Comp, thenOf, check, present, choose, whether, provided, return, liveWithin}
 use Rattle.meaning.specs.Operations.{compare, valueOf, valuesOf, isNumberToken, areNumberTokens}
 use Rattle.meaning.specs.Meaning as M
-use Rattle.meaning.specs.Meaning.{Env, Bindings, live, total, start, begin, variables, calls}
+use Rattle.meaning.specs.Meaning.{Env, Bindings, live, start, begin, variables, calls}
 use Rattle.operations.specs.Operating.{argumentsOf, Compared}
 use Rattle.marks.specs.Marked.{Stands}
 use Rattle.rewrite.specs.Vars.{startAt, Sound}

@@ -18,7 +18,7 @@ use Rattle.tree.specs.Limits.{mostNodes, mostNesting}
 use Rattle.tree.specs.Tree.{Trees, Tree, size, nesting, areTrees, isTree, typeOf}
 use Rattle.tree.specs.Sequences.{elementOf, sequenceOf, elements, EachTree, sizes, taken}
 use Rattle.tree.proofs.Trees.{and-intro, tree-type, tree-passes, trees-pass, passes-tree}
-use Rattle.tree.proofs.Sequences.{each-append, each-take, each-drop, sequence-size, sequence-trees, elements-typed, elements-made, taken-typed}
+use Rattle.tree.proofs.Sequences.{each-append, each-take, each-drop, sequence-size, sequence-trees, elements-typed, elements-made, taken-typed, taken-whole, taken-elements}
 use Rattle.rules.specs.Rules.{Edit, join, select, head, tail, count, extract}
 use Rattle.judgement.specs.Wanted.{wants, scopeFits, wantedIn}
 use Rattle.meaning.specs.Limits.{mostLive}
@@ -75,6 +75,19 @@ joined-typed g t u is h = go (isTree g t u) (isTree g (elementOf g t) u) (eqb (t
         elements-typed g t is u (subst (λ x. Trees g (x ∷ []) u) same (passes-tree u q .typed))
     go false true false p q r h = (passes-tree u q .typed, tt)
     go false false c p q r h = let z : _≡_ {A = ℕ} 0 1 = cc in absurd (omega arith)
+
+-- join appends what extract does, unless the sequence is of itself
+pub joined-taken : (g : Grammar) (t : ℕ) (u : Words) → isSequence g t ≡ true → (t ≡ elementOf g t → ⊥) → Trees g (typeOf u ∷ []) u → EachTree g (elementOf g t) (joined g t u) → joined g t u ≡ taken g (elementOf g t) u
+unfolding joined
+joined-taken g t u is other r each = go (eqb (typeOf u) t) refl
+  where
+    go : (b : Bool) → eqb (typeOf u) t ≡ b → joined g t u ≡ taken g (elementOf g t) u
+    go true q =
+        let tree : Trees g (t ∷ []) u = subst (λ k. Trees g (k ∷ []) u) (eqb-true (typeOf u) t q) r in
+        rw q (sym (taken-elements g t other (elements g u) (elements-typed g t is u tree)) ∙ ap (taken g (elementOf g t)) (elements-made g t is u tree))
+    go false q =
+        let one : EachTree g (elementOf g t) (u ∷ []) = rw q at each in
+        rw q (sym (taken-whole g (elementOf g t) (one .0)))
 
 selected-typed : (g : Grammar) (e a b : ℕ) (es : List Words) → EachTree g e es → EachTree g e (selected a b es)
 unfolding selected

@@ -7,17 +7,19 @@ use lib.ListN.{length, getD, take, drop, length-drop, take-append-drop}
 use lib.Seq.{take-at, drop-at, take-nil, length-take-le}
 use Rattle.words.specs.Reader.{Words}
 use Rattle.grammar.specs.Grammar.{Grammar}
-use Rattle.tree.specs.Limits.{mostNodes}
-use Rattle.tree.specs.Tree.{size}
+use Rattle.tree.specs.Limits.{mostNodes, mostNesting}
+use Rattle.tree.specs.Tree.{size, nesting}
 use Rattle.tree.specs.Sequences.{elementOf, sequenceOf, EachTree}
-use Rattle.tree.proofs.Sequences.{each-take, sequence-size}
+use Rattle.tree.proofs.Sequences.{each-take, sequence-size, sequence-trees, rest-nesting}
 use Rattle.meaning.specs.Limits.{mostLive}
 use Rattle.meaning.specs.Edits.{selected}
 use Rattle.marks.specs.Marked.{typeIn}
+use Rattle.rewrite.specs.Arena.{Standing}
 use Rattle.rewrite.specs.declared.arena.Placed.{Placed}
-use Rattle.sequences.specs.Listed.{Listed, before, Walks, Loosened, Made, Finishes, FrontCut, Selects}
+use Rattle.sequences.specs.Listed.{Listed, before, Walks, Loosened, limits, Made, Finishes, FrontCut, Selects}
 use Rattle.sequences.specs.declared.Walked.{Walked}
-use Rattle.sequences.proofs.Listing.{listed-as, listed-later, listed-root}
+use Rattle.sequences.proofs.Listing.{before-more, before-none, listed-as, listed-nodes, listed-later, listed-root}
+use Rattle.sequences.proofs.Sealing.{limits-none}
 use Rattle.sequences.proofs.Joining.{made-from, made-many}
 
 -- THE FRONT
@@ -74,9 +76,15 @@ selected-is (suc c) b es =
     ∙ ap (λ i. take (suc (min b (length es)) - suc c) (drop i es)) s ∙ ap (λ i. take i (drop c es)) n ∙ take-cap (b - c) (drop c es)
     ∙ ap (λ i. take (b - i) (drop i es)) (sym s)
 
+-- as many nodes, so all elements
+take-all : (k : ℕ) (es : List Words) → before (take k es) ≡ before es → take k es ≡ es
+take-all k [] h = take-nil k
+take-all zero (e ∷ es) h = absurd (omega (arith, before-more e es, before-none))
+take-all (suc k) (e ∷ es) h = ap (λ l. e ∷ l) (take-all k es (omega (arith, before-more e es, before-more e (take k es))))
+
 -- SELECTED
 
-module _ (heads rows w w₁ : Words) (base n a b under besides skip m t most : ℕ) (held : besides ≤ mostLive) (et : t ≡ typeIn (getD w base 0)) (es : skip ≡ a - 1) (f : FrontCut w w₁ base n skip m) (em : most ≡ b - skip)
+module _ (heads rows w w₁ : Words) (base n a b under besides skip m t most : ℕ) (held : besides + n ≤ mostLive) (et : t ≡ typeIn (getD w base 0)) (es : skip ≡ a - 1) (f : FrontCut w w₁ base n skip m) (em : most ≡ b - skip)
     (r : Walked) (x : Walks w₁ base m most r) where
   -- the elements that are left
   abbrev kept : List Words → List Words
@@ -94,20 +102,37 @@ module _ (heads rows w w₁ : Words) (base n a b under besides skip m t most : �
   kept-size : {g : Grammar} {k : ℕ} (es : List Words) → Listed g w base n k es → size (sequenceOf k (selected a b es)) ≡ suc (r .node)
   kept-size {g} {k} es l = ap (λ fs. size (sequenceOf k fs)) (kept-is es) ∙ sequence-size g (elementOf g k) k (kept es) (kept-each es l) ∙ ap suc (sym (kept-before es l))
 
-  pub selected-many : mostNodes < under + r .node + 1 → (p : Placed) → p ≡ record { stop = 42; nodes = 0 } → Selects heads rows w w₁ base n a b under besides p
+  pub selected-many : mostNodes < under + (r .node + 1) → (p : Placed) → p ≡ record { stop = 42; nodes = 0 } → Selects heads rows w w₁ base n a b under besides p
   selected-many h p e = record {
     long = f .long;
     few = rw e (omega arith);
     fits = rw e (omega arith);
-    meant = λ g k es tb l. made-many e (f .below) (omega (arith, kept-size es l));
+    meant = λ g k es tb deep l. made-many e (f .below) (omega (arith, kept-size es l));
   }
 
-  pub selected-there : under + r .node + 1 ≤ mostNodes → (w₂ w₃ : Words) (p : Placed) → Loosened w₁ w₂ base (r .node) → Finishes heads rows w₂ w₃ t base (r .node) besides p → Selects heads rows w w₃ base n a b under besides p
+  -- nothing is cut off at the end: what is left stands there
+  pub selected-whole : under + (r .node + 1) ≤ mostNodes → r .node + 1 ≡ m → Selects heads rows w w₁ base n a b under besides (record { stop = 0; nodes = r .node + 1 })
+  selected-whole h whole = record {
+    long = f .long;
+    few = omega arith;
+    fits = omega (arith, f .fewer);
+    meant = λ g k es tb deep l.
+        let fs = drop skip es in
+        let cut = f .front-cut g k es l in
+        let all : kept es ≡ fs = take-all most fs (omega (arith, kept-before es l, listed-nodes cut)) in
+        let flat : nesting g (sequenceOf k fs) ≤ mostNesting = omega (arith, rest-nesting g k (l .is) skip es (l .each)) in
+        let stop : 0 ≡ limits g under besides (sequenceOf k fs) = sym (limits-none g under besides (sequenceOf k fs) (omega (arith, cut .nodes)) flat (omega (arith, cut .nodes, f .fewer))) in
+        let there : Standing g w₁ base m k (sequenceOf k fs) = record { tree = record { typed = sequence-trees g k (l .is) fs (cut .each); nodes = omega (arith, cut .nodes); nested = flat }; nodes = cut .nodes; words = cut .words } in
+        let made : Made g w w₁ base under besides k (sequenceOf k fs) (record { stop = 0; nodes = r .node + 1 }) = record { below = f .below; stop-is = stop; stands = λ z. rw whole there } in
+        subst (λ gs. Made g w w₁ base under besides k (sequenceOf k gs) (record { stop = 0; nodes = r .node + 1 })) (sym (kept-is es ∙ all)) made;
+  }
+
+  pub selected-there : under + (r .node + 1) ≤ mostNodes → (w₂ w₃ : Words) (p : Placed) → Loosened w₁ w₂ base (r .node) → Finishes heads rows w₂ w₃ t base (r .node) besides p → Selects heads rows w w₃ base n a b under besides p
   selected-there h w₂ w₃ p l s = record {
     long = s .long ∙ l .long ∙ f .long;
     few = s .few;
     fits = s .fits;
-    meant = λ g k es tb y.
+    meant = λ g k es tb deep y.
         let root : t ≡ k = et ∙ listed-root y in
         let fs = drop skip es in
         let cut = f .front-cut g k es y in

@@ -16,6 +16,7 @@ use Rattle.tree.specs.Limits.{mostNodes, mostNesting}
 use Rattle.tree.specs.Tree.{size, nesting, areTrees, isTree, typeOf}
 use Rattle.tree.specs.Sequences.{elementOf, sequenceOf, elements, taken}
 use Rattle.tree.proofs.Trees.{tree-some, tree-type, trees-pass}
+use Rattle.tree.proofs.Sequences.{elements-made}
 use Rattle.rules.specs.Rules.{Edit, join, select, head, tail, count, extract, editing, applied}
 use Rattle.rules.proofs.Numbers.{editNumber, edit-number, edit-applied}
 use Rattle.meaning.specs.Limits.{mostLive}
@@ -188,7 +189,8 @@ module _ (heads rows w w′ : Words) (op base n first second under besides : ℕ
       → sequenceOf (typeOf scope) (selected a b (elements g scope)) ≡ u → Made g w w′ base under besides t u r
   cut-made g scope t a b u tb st h j e =
       let is = scope-is scope h st in
-      let m = j .meant g t (elements g scope) tb (standing-listed scope (tb .rows-of .types) (is .1) st) in
+      let deep : nesting g (sequenceOf t (elements g scope)) ≤ mostNesting = rw (elements-made g t (is .1) scope (st .tree .typed)) (st .tree .nested) in
+      let m = j .meant g t (elements g scope) tb deep (standing-listed scope (tb .rows-of .types) (is .1) st) in
       subst (λ v. Made g w w′ base under besides t v r) (ap (λ k. sequenceOf k (selected a b (elements g scope))) (sym (is .0)) ∙ e) m
 
   module _ (a v : ℕ) (ev : v ≡ getD w (first + 1) 0) (ea : a ≡ v / 100) where

@@ -1,28 +1,34 @@
 -- A sequence grows at its end: finished, joined with a sequence, joined with one element. Assumes nothing.
 use Prim.Native.Nat.{ℕ, suc, _+_, _-_, _*_, _≤_, _<_}
 use mathlib.Core.Path.{_≡_, refl, sym, ap, _∙_, subst}
-use mathlib.Core.List.{List, [], _∷_, _++_, append-nil}
+use mathlib.Core.Bool.{Bool, true, false}
+use mathlib.Core.List.{List, [], _∷_, _++_}
 use native.Mathlib.Omega.{arith}
 use lib.ListN.{length, getD, take, drop, length-take}
-use borrow.Author.Tests.{eq-eqb, ne-eqb}
+use lib.Dec.{eqb}
+use borrow.Author.Tests.{eq-eqb, eqb-true}
 use Rattle.words.specs.Reader.{Words}
 use Rattle.grammar.specs.Grammar.{Grammar}
 use Rattle.grammar.specs.Limits.{mostTypes}
+use Rattle.grammar.specs.Kinds.{children}
+use Rattle.tables.specs.Tables.{InRows}
 use Rattle.tree.specs.Limits.{mostNodes}
 use Rattle.tree.specs.Tree.{Trees, size, typeOf}
-use Rattle.tree.specs.Sequences.{elementOf, spine, sequenceOf, elements, EachTree}
+use Rattle.tree.specs.Sequences.{elementOf, sequenceOf, elements, EachTree}
 use Rattle.tree.proofs.Trees.{trees-even, tree-type}
-use Rattle.tree.proofs.Sequences.{each-append, sequence-size, sequence-trees, elements-made}
+use Rattle.tree.proofs.Sequences.{each-append, sequence-size, sequence-trees, elements-typed, elements-made}
 use Rattle.meaning.specs.Limits.{mostLive}
 use Rattle.meaning.specs.Edits.{joined}
+use Rattle.meaning.proofs.Edits.{joined-taken}
 use Rattle.marks.specs.Marked.{typeIn, marked, Stands, UnderWay}
 use Rattle.marks.proofs.Same.{stands-root}
 use Rattle.rewrite.specs.Arena.{NodesAt}
 use Rattle.rewrite.specs.declared.arena.Placed.{Placed}
 use Rattle.rewrite.proofs.Standing.{stretch-below, stands-whole}
-use Rattle.sequences.specs.Listed.{Listed, before, Loosened, Made, Makes, Seals, Finishes, Below, JoinsSequence, JoinsElement, Joins}
-use Rattle.sequences.proofs.Listing.{before-append, before-more, before-none, listed-nodes, listed-root}
-use Rattle.sequences.proofs.Growing.{pushed-below, grown-element, grown-last, grown-sequence}
+use Rattle.sequences.specs.Listed.{Listed, Loosened, Made, Makes, Seals, Finishes, Below, JoinsSequence, Joins, Extracts}
+use Rattle.sequences.proofs.Listing.{before-append, listed-nodes, listed-types}
+use Rattle.sequences.proofs.Growing.{pushed-below, grown-last, grown-sequence}
+use Rattle.sequences.proofs.Loosening.{loosened-all}
 use Rattle.sequences.proofs.Sealing.{limits-many, made-stopped}
 
 -- over what stood before, too
@@ -65,14 +71,6 @@ below-words {g} {w} {base} {start} {m} {u} w₁ b same =
 -- JOINED
 
 module _ (heads rows w : Words) (base n start m under besides : ℕ) (some : 1 ≤ n) (room : base + 4096 ≤ length w) (held : besides ≤ mostLive) where
-  -- the last node's number
-  last-is : {g : Grammar} {t : ℕ} {es : List Words} → Listed g w base n t es → n - 1 ≡ before es
-  last-is x = omega (arith, listed-nodes x)
-
-  -- all but the last node are under way
-  loosened-all : {g : Grammar} {t : ℕ} {es : List Words} (w₁ : Words) → Loosened w w₁ base (n - 1) → Listed g w base n t es → UnderWay g (take (2 * (n - 1)) (drop base w₁)) (spine t es)
-  loosened-all {g} {t} {es} w₁ l x = l .loosened g n t es [] (rw append-nil x) (last-is x)
-
   joined-nodes : {g : Grammar} {t : ℕ} (es fs : List Words) → Listed g w base n t es → EachTree g (elementOf g t) fs → size (sequenceOf t (es ++ fs)) ≡ n - 1 + size (sequenceOf t fs)
   joined-nodes {g} {t} es fs x each =
       omega (arith, listed-nodes x, sequence-size g (elementOf g t) t (es ++ fs) (each-append g (elementOf g t) es fs (x .each) each), sequence-size g (elementOf g t) t fs each, before-append es fs)
@@ -93,79 +91,69 @@ module _ (heads rows w : Words) (base n start m under besides : ℕ) (some : 1 �
         let fits : base + 2 * (n - 1) ≤ length w₁ = omega (arith, l .long, x .few) in
         let ez : z ≡ marked g (sequenceOf t fs) = below-words w₁ b (l .below) in
         let tree = sequence-trees g t (x .is) fs each in
-        let way = grown-sequence w₁ w₂ y base (n - 1) t es fits (loosened-all w₁ l x) fs z tree ez e (n - 1 + m) (ap (λ k. n - 1 + k) (b .nodes)) in
+        let way = grown-sequence w₁ w₂ y base (n - 1) t es fits (loosened-all l x) fs z tree ez e (n - 1 + m) (ap (λ k. n - 1 + k) (b .nodes)) in
         let nodes : size (sequenceOf t (es ++ fs)) ≡ n - 1 + m = omega (arith, joined-nodes es fs x each, b .nodes) in
         let all = sequence-trees g t (x .is) (es ++ fs) (each-append g (elementOf g t) es fs (x .each) each) in
         made-from (pushed-below w₁ w₂ z y base (2 * (n - 1)) fits e ∙ l .below) (s .meant g t under (sequenceOf t (es ++ fs)) tb all nodes h way);
   }
 
-  -- ONE ELEMENT
-
-  module _ (t : ℕ) where
-    element-before : {g : Grammar} (es : List Words) (u : Words) → Listed g w base n t es → m ≡ size u → n + m ≡ before (es ++ u ∷ [])
-    element-before es u x em = omega (arith, listed-nodes x, before-append es (u ∷ []), before-more u [], before-none)
-
-    element-nodes : {g : Grammar} (es : List Words) (u : Words) → Listed g w base n t es → Trees g (elementOf g t ∷ []) u → m ≡ size u → size (sequenceOf t (es ++ u ∷ [])) ≡ suc (n + m)
-    element-nodes {g} es u x tree em =
-        omega (arith, element-before es u x em, sequence-size g (elementOf g t) t (es ++ u ∷ []) (each-append g (elementOf g t) es (u ∷ []) (x .each) (tree, tt)))
-
-    pub element-many : mostNodes < under + (n + m) + 1 → (r : Placed) → r ≡ record { stop = 42; nodes = 0 } → JoinsElement heads rows w w t base n start m under besides r
-    element-many h r e = stopped-many w besides _ r held e (λ q g es u tb x tree b. made-many q refl (omega (arith, element-nodes es u x tree (b .nodes))))
-
-    pub joined-element : under + (n + m) + 1 ≤ mostNodes → (w₁ w₂ w₃ : Words) (r : Placed) → Loosened w w₁ base (n - 1)
-        → length w₂ ≡ length w₁ → w₂ ≡ take (base + 2 * (n - 1)) w₁ ++ (t ∷ 0 ∷ (take (2 * m) (drop start w₁) ++ drop (base + 2 * (n - 1) + 2 + 2 * m) w₁))
-        → Finishes heads rows w₂ w₃ t base (n + m) besides r → JoinsElement heads rows w w₃ t base n start m under besides r
-    joined-element h w₁ w₂ w₃ r l long e s = record {
-      long = s .long ∙ long ∙ l .long;
-      few = s .few;
-      fits = s .fits;
-      meant = λ g es u tb x tree b.
-          let y = drop (base + 2 * (n - 1) + 2 + 2 * m) w₁ in
-          let z = take (2 * m) (drop start w₁) in
-          let fits : base + 2 * (n - 1) ≤ length w₁ = omega (arith, l .long, x .few) in
-          let ez : z ≡ marked g u = below-words w₁ b (l .below) in
-          let way = grown-element w₁ w₂ y base (n - 1) t es fits (loosened-all w₁ l x) u z tree ez e (n + m) (omega (arith, b .nodes)) in
-          let each = each-append g (elementOf g t) es (u ∷ []) (x .each) (tree, tt) in
-          made-from (pushed-below w₁ w₂ (t ∷ 0 ∷ z) y base (2 * (n - 1)) fits e ∙ l .below) (s .meant g under (es ++ u ∷ []) tb (x .is) each (element-before es u x (b .nodes)) (omega arith) way);
-    }
-
--- EITHER
+-- A TREE BELOW of the sequence's own type
 
 -- the type of a tree that stands below
-stands-type : {g : Grammar} {start : ℕ} {u : Words} (w : Words) (base : ℕ) → length g ≤ mostTypes → Stands g (take base w) start u → typeIn (getD w start 0) ≡ typeOf u
+pub stands-type : {g : Grammar} {start : ℕ} {u : Words} (w : Words) (base : ℕ) → length g ≤ mostTypes → Stands g (take base w) start u → typeIn (getD w start 0) ≡ typeOf u
 stands-type {g} {start} {u} w base few s =
     let x = stands-whole w base s in
     stands-root g w start u (getD w start 0) few x refl ∙ sym (tree-type u (x .tree .typed))
 
-module _ (heads rows w w′ : Words) (base n start m under besides : ℕ) (at : NodesAt w start base m) (r : Placed) (a b : ℕ) (ea : a ≡ typeIn (getD w base 0)) (eb : b ≡ typeIn (getD w start 0)) where
-  below-of : {g : Grammar} {u : Words} → length g ≤ mostTypes → Stands g (take base w) start u → Below g w base start m u
-  below-of {g} {u} few s = record { nodes = at .stands g u few s; stands = s }
+-- by the type that it tells
+stands-typed : {g : Grammar} {arena : Words} {start : ℕ} (u : Words) → Stands g arena start u → Trees g (typeOf u ∷ []) u
+stands-typed {g} u s = subst (λ t. Trees g (t ∷ []) u) (sym (tree-type u (s .tree .typed))) (s .tree .typed)
 
-  pub joins-sequence : b ≡ a → JoinsSequence heads rows w w′ base n start m under besides r → Joins heads rows w w′ base n start under besides r
+-- it is a sequence, by its elements
+pub record Alike (g : Grammar) (w : Words) (base start m t : ℕ) (u : Words) : Type 0 where
+  pub made : sequenceOf t (elements g u) ≡ u
+  pub each : EachTree g (elementOf g t) (elements g u)
+  pub below : Below g w base start m (sequenceOf t (elements g u))
+
+pub alike : {g : Grammar} {w : Words} {base n start m t : ℕ} {es : List Words} (u : Words) → NodesAt w start base m → Listed g w base n t es → Stands g (take base w) start u → typeOf u ≡ t → Alike g w base start m t u
+alike {g} {w} {base} {n} {start} {m} {t} u at x s own =
+    let tree : Trees g (t ∷ []) u = subst (λ k. Trees g (k ∷ []) u) own (stands-typed u s) in
+    let made : sequenceOf t (elements g u) ≡ u = elements-made g t (x .is) u tree in
+    let below : Below g w base start m u = record { nodes = at .stands g u (x .types) s; stands = s } in
+    record { made = made; each = elements-typed g t (x .is) u tree; below = rw made below }
+
+-- what is joined to a sequence of itself is one
+own-type : (g : Grammar) (t : ℕ) (u : Words) → elementOf g t ≡ t → EachTree g (elementOf g t) (joined g t u) → typeOf u ≡ t
+unfolding joined
+own-type g t u same each = go (eqb (typeOf u) t) refl
+  where
+    go : (b : Bool) → eqb (typeOf u) t ≡ b → typeOf u ≡ t
+    go true q = eqb-true (typeOf u) t q
+    go false q = let one : EachTree g (elementOf g t) (u ∷ []) = rw q at each in tree-type u (one .0) ∙ same
+
+-- EITHER: join appends what extract does, unless the sequence is of itself
+
+module _ (heads rows w w′ : Words) (base n start under besides : ℕ) (r : Placed) (t e : ℕ) (et : t ≡ typeIn (getD w base 0)) (ee : InRows rows (λ g. e ≡ getD (children g t 0) 0 0)) where
+  pub joins-itself : e ≡ t → (m : ℕ) → NodesAt w start base m → JoinsSequence heads rows w w′ base n start m under besides r → Joins heads rows w w′ base n start under besides r
   unfolding joined
-  joins-sequence same j = record {
+  joins-itself itself m at j = record {
     long = j .long;
     few = j .few;
     fits = j .fits;
-    meant = λ g t es u tb x s each.
-        let ty : typeOf u ≡ t = sym (stands-type w base (x .types) s) ∙ sym eb ∙ same ∙ ea ∙ listed-root x in
-        let pass = eq-eqb (typeOf u) t ty in
-        let tree : Trees g (t ∷ []) u = subst (λ k. Trees g (k ∷ []) u) (sym (tree-type u (s .tree .typed)) ∙ ty) (s .tree .typed) in
-        let made : sequenceOf t (elements g u) ≡ u = elements-made g t (x .is) u tree in
-        let each′ : EachTree g (elementOf g t) (elements g u) = rw pass at each in
-        rw pass (j .meant g t es (elements g u) tb x each′ (rw made (below-of (x .types) s)));
+    meant = λ g k es u tb x s each.
+        let is = listed-types heads rows t e et ee tb x in
+        let own = own-type g k u (sym (is .1) ∙ itself ∙ is .0) each in
+        let y = alike u at x s own in
+        rw (eq-eqb (typeOf u) k own) (j .meant g k es (elements g u) tb x (y .each) (y .below));
   }
 
-  pub joins-element : (b ≡ a → ⊥) → JoinsElement heads rows w w′ a base n start m under besides r → Joins heads rows w w′ base n start under besides r
-  unfolding joined
-  joins-element other j = record {
+  pub joins-else : (e ≡ t → ⊥) → Extracts heads rows w w′ base n start under besides r → Joins heads rows w w′ base n start under besides r
+  joins-else other j = record {
     long = j .long;
     few = j .few;
     fits = j .fits;
-    meant = λ g t es u tb x s each.
-        let at-root : a ≡ t = ea ∙ listed-root x in
-        let fail = ne-eqb (typeOf u) t (λ q. other (eb ∙ stands-type w base (x .types) s ∙ q ∙ sym at-root)) in
-        let each′ : EachTree g (elementOf g t) (u ∷ []) = rw fail at each in
-        rw fail (subst (λ k. Made g w w′ base under besides k (sequenceOf k (es ++ u ∷ [])) r) at-root
-        (j .meant g es u tb (subst (λ k. Listed g w base n k es) (sym at-root) x) (subst (λ k. Trees g (elementOf g k ∷ []) u) (sym at-root) (each′ .0)) (below-of (x .types) s)));
+    meant = λ g k es u tb x s each.
+        let is = listed-types heads rows t e et ee tb x in
+        let same = joined-taken g k u (x .is) (λ q. other (is .1 ∙ sym q ∙ sym (is .0))) (stands-typed u s) each in
+        subst (λ us. Made g w w′ base under besides k (sequenceOf k (es ++ us)) r) (sym same) (j .meant g k es u tb x s);
   }

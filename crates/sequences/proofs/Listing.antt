@@ -9,7 +9,8 @@ use lib.Seq.{drop-drop, drop-at, take-at, take-take, getD-take, getD-drop}
 use Rattle.words.specs.Reader.{Words}
 use Rattle.grammar.specs.Grammar.{Grammar}
 use Rattle.grammar.specs.Limits.{mostTypes}
-use Rattle.grammar.specs.Kinds.{isSequence}
+use Rattle.grammar.specs.Kinds.{children, isSequence}
+use Rattle.tables.specs.Tables.{Tables, InRows}
 use Rattle.tree.specs.Tree.{Trees, size, firstTree, typeOf}
 use Rattle.tree.specs.Sequences.{elementOf, spine, sequenceOf, elements, EachTree, sizes}
 use Rattle.tree.proofs.Trees.{trees-append, trees-even, tree-type, first-append}
@@ -107,6 +108,11 @@ module _ {g : Grammar} {w : Words} {p n t : ℕ} where
       let word : getD w p 0 ≡ getD (marked g ws) 0 0 = ap (λ q. getD w q 0) (sym z) ∙ listed-word x 0 (omega (arith, listed-nodes x)) in
       let small : size (firstTree g ws) < 4096 = omega (arith, first-size g ws 1, x .nodes, x .few) in
       child-of g t [] ws (getD w p 0) (x .types) small (sequence-trees g t (x .is) es (x .each)) word .root
+
+  -- its type and its element's, as they are looked up
+  pub listed-types : {es : List Words} (heads rows : Words) (a e : ℕ) → a ≡ typeIn (getD w p 0) → InRows rows (λ g. e ≡ getD (children g a 0) 0 0) → Tables g heads rows → Listed g w p n t es → (a ≡ t) × (e ≡ elementOf g t)
+  unfolding elementOf
+  listed-types heads rows a e ea ee tb x = let root = ea ∙ listed-root x in (root, ee g (tb .rows-of) ∙ ap (λ l. getD (children g l 0) 0 0) root)
 
   -- its last node has the value 1
   pub listed-last : Listed g w p n t [] → getD w (p + 1) 0 ≡ 1

@@ -12,7 +12,7 @@ use Rattle.tree.specs.Tree.{size}
 use Rattle.tree.specs.Sequences.{spine}
 use Rattle.marks.specs.Marked.{typeIn, sizeIn, UnderWay, nothing}
 use Rattle.sequences.specs.Listed.{Listed, before, Loosened}
-use Rattle.sequences.proofs.Listing.{before-append, before-more, before-none, listed-as, listed-root, listed-value, listed-size, listed-element, listed-more}
+use Rattle.sequences.proofs.Listing.{before-append, before-more, before-none, listed-as, listed-nodes, listed-root, listed-value, listed-size, listed-element, listed-more}
 use Rattle.sequences.proofs.Growing.{grown-element}
 
 -- a sequence behind a word that changes
@@ -100,3 +100,11 @@ module _ (w₀ w : Words) (base k i : ℕ) (x : Loosening w₀ w base k i) where
               under = grown-element w (set w q v) (drop (q + 2 + 2 * size f) w) base i t done (omega (arith, x .long)) u f (take (2 * size f) (drop (q + 2) w)) (r .each .0) (listed-element f (more ++ fs) r)
                   (anew ∙ ap (λ a. take q w ++ a ∷ 0 ∷ (take (2 * size f) (drop (q + 2) w) ++ drop (q + 2 + 2 * size f) w)) tv) (i + 1 + m) (omega arith);
             }
+
+-- ALL BUT THE LAST NODE are under way
+module _ {g : Grammar} {w w′ : Words} {base n t : ℕ} {es : List Words} (l : Loosened w w′ base (n - 1)) (x : Listed g w base n t es) where
+  pub last-is : n - 1 ≡ before es
+  last-is = omega (arith, listed-nodes x)
+
+  pub loosened-all : UnderWay g (take (2 * (n - 1)) (drop base w′)) (spine t es)
+  loosened-all = l .loosened g n t es [] (rw append-nil x) last-is

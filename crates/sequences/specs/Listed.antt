@@ -16,7 +16,7 @@ use Rattle.tree.specs.Sequences.{elementOf, spine, sequenceOf, EachTree, sizes,
 use Rattle.rules.specs.Rules.{Edit, editing, applied}
 use Rattle.meaning.specs.Limits.{mostLive}
 use Rattle.meaning.specs.declared.State.{State}
-use Rattle.meaning.specs.Computation.{stop, stuck}
+use Rattle.meaning.specs.Computation.{stuck}
 use Rattle.meaning.specs.Operations.{withValue}
 use Rattle.meaning.specs.Edits.{selected, joined, edit}
 use Rattle.marks.specs.Marked.{marked, Stands, UnderWay}
@@ -84,17 +84,24 @@ pub record Below (g : Grammar) (w : Words) (base start m : ℕ) (u : Words) : Ty
   pub nodes : m ≡ size u
   pub stands : Stands g (take base w) start u
 
--- join with the sequence of m nodes at `start`
+-- the trees of type e in the tree of m nodes at `start` are behind the k nodes under way at base: r nodes, unless that is more than `most`
+pub record Collects (w w′ : Words) (e t base k start m most r : ℕ) : Type 0 where
+  pub long : length w′ ≡ length w
+  pub below : take base w′ ≡ take base w
+  pub collected : (g : Grammar) (es : List Words) (u : Words) → length g ≤ mostTypes → Below g w base start m u → k ≡ before es → UnderWay g (take (2 * k) (drop base w)) (spine t es)
+      → (r ≤ most → (r ≡ before (es ++ taken g e u)) × UnderWay g (take (2 * r) (drop base w′)) (spine t (es ++ taken g e u))) × (most < r → most < before (es ++ taken g e u))
+
+-- the sequence of m nodes at `start` is joined
 abbrev pub JoinsSequence : Words → Words → Words → Words → ℕ → ℕ → ℕ → ℕ → ℕ → ℕ → Placed → Type 0
 JoinsSequence heads rows w w′ base n start m under besides r = Makes w w′ besides r ((g : Grammar) (t : ℕ) (es fs : List Words) → Tables g heads rows → Listed g w base n t es
     → EachTree g (elementOf g t) fs → Below g w base start m (sequenceOf t fs) → Made g w w′ base under besides t (sequenceOf t (es ++ fs)) r)
 
--- .. with the element of m nodes
-abbrev pub JoinsElement : Words → Words → Words → Words → ℕ → ℕ → ℕ → ℕ → ℕ → ℕ → ℕ → Placed → Type 0
-JoinsElement heads rows w w′ t base n start m under besides r = Makes w w′ besides r ((g : Grammar) (es : List Words) (u : Words) → Tables g heads rows → Listed g w base n t es
-    → Trees g (elementOf g t ∷ []) u → Below g w base start m u → Made g w w′ base under besides t (sequenceOf t (es ++ u ∷ [])) r)
+-- extract from the tree at `start`
+abbrev pub Extracts : Words → Words → Words → Words → ℕ → ℕ → ℕ → ℕ → ℕ → Placed → Type 0
+Extracts heads rows w w′ base n start under besides r = Makes w w′ besides r ((g : Grammar) (t : ℕ) (es : List Words) (u : Words) → Tables g heads rows → Listed g w base n t es
+    → Stands g (take base w) start u → Made g w w′ base under besides t (sequenceOf t (es ++ taken g (elementOf g t) u)) r)
 
--- .. with the tree at `start`
+-- join with the tree at `start`
 abbrev pub Joins : Words → Words → Words → Words → ℕ → ℕ → ℕ → ℕ → ℕ → Placed → Type 0
 Joins heads rows w w′ base n start under besides r = Makes w w′ besides r ((g : Grammar) (t : ℕ) (es : List Words) (u : Words) → Tables g heads rows → Listed g w base n t es
     → Stands g (take base w) start u → EachTree g (elementOf g t) (joined g t u) → Made g w w′ base under besides t (sequenceOf t (es ++ joined g t u)) r)
@@ -106,27 +113,15 @@ pub record FrontCut (w w′ : Words) (base n k r : ℕ) : Type 0 where
   pub below : take base w′ ≡ take base w
   pub front-cut : (g : Grammar) (t : ℕ) (es : List Words) → Listed g w base n t es → Listed g w′ base r t (drop k es)
 
--- select from a to b
+-- select from a to b, of what is within the nesting
 abbrev pub Selects : Words → Words → Words → Words → ℕ → ℕ → ℕ → ℕ → ℕ → ℕ → Placed → Type 0
-Selects heads rows w w′ base n a b under besides r = Makes w w′ besides r ((g : Grammar) (t : ℕ) (es : List Words) → Tables g heads rows → Listed g w base n t es
+Selects heads rows w w′ base n a b under besides r = Makes w w′ besides r ((g : Grammar) (t : ℕ) (es : List Words) → Tables g heads rows → nesting g (sequenceOf t es) ≤ mostNesting → Listed g w base n t es
     → Made g w w′ base under besides t (sequenceOf t (selected a b es)) r)
 
 -- the length of the sequence at `start`, as the value of the number at base
 abbrev pub Counts : Words → Words → ℕ → ℕ → ℕ → ℕ → Placed → Type 0
 Counts w w′ base start under besides r = Makes w w′ besides r ((g : Grammar) (n t : ℕ) (scope u : Words) → length g ≤ mostTypes → Standing g w base n t scope → isNumber g t ≡ true
     → Stands g (take base w) start u → isSequence g (typeOf u) ≡ true → Made g w w′ base under besides t (withValue scope (100 * length (elements g u))) r)
-
--- the trees of type e in the tree of m nodes at `start` are behind the k nodes under way at base: r nodes, unless that is more than `most`
-pub record Collects (w w′ : Words) (e t base k start m most r : ℕ) : Type 0 where
-  pub long : length w′ ≡ length w
-  pub below : take base w′ ≡ take base w
-  pub collected : (g : Grammar) (es : List Words) (u : Words) → length g ≤ mostTypes → Below g w base start m u → k ≡ before es → UnderWay g (take (2 * k) (drop base w)) (spine t es)
-      → (r ≤ most → (r ≡ before (es ++ taken g e u)) × UnderWay g (take (2 * r) (drop base w′)) (spine t (es ++ taken g e u))) × (most < r → most < before (es ++ taken g e u))
-
--- extract from the tree at `start`
-abbrev pub Extracts : Words → Words → Words → Words → ℕ → ℕ → ℕ → ℕ → ℕ → Placed → Type 0
-Extracts heads rows w w′ base n start under besides r = Makes w w′ besides r ((g : Grammar) (t : ℕ) (es : List Words) (u : Words) → Tables g heads rows → Listed g w base n t es
-    → Stands g (take base w) start u → Made g w w′ base under besides t (sequenceOf t (es ++ taken g (elementOf g t) u)) r)
 
 -- THE STEP
 

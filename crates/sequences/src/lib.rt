@@ -17,7 +17,7 @@ ghost use mathlib.Core.Path.{_≡_};
 ghost use mathlib.Core.List.{_∷_, _++_};
 ghost use Prim.Native.Nat.{_+_, _-_, _*_, _<_, _≤_, _^_};
 ghost use lib.ListN.{length, take, drop};
-ghost use Rattle.sequences.specs.Listed.{Walks, Loosened, Seals, Finishes, JoinsSequence, JoinsElement, Joins, FrontCut, Selects, Counts, Collects, Extracts, Edits};
+ghost use Rattle.sequences.specs.Listed.{Walks, Loosened, Seals, Finishes, Collects, JoinsSequence, Extracts, Joins, FrontCut, Selects, Counts, Edits};
 
 // A rest of a sequence: the number of its first node in the sequence, and how many elements are before it.
 pub struct Walked {
@@ -119,140 +119,6 @@ fn finish(
     seal(heads, rows, w, base, k + 1, besides)
 }
 
-// Joins the sequence of m nodes at `start`, of the same type: it takes the place of the last node.
-fn join_sequence(
-    heads: &[u32; HEADS],
-    rows: &[u8; ROWS],
-    w: &mut [u32],
-    base: usize,
-    n: usize,
-    start: usize,
-    m: usize,
-    under: usize,
-    besides: usize,
-) -> Placed
-    requires { ⌜ (1 ≤ n) × (n ≤ 2048) × (m ≤ 2048) × (0 < m → start + 2 * m ≤ base) × (under ≤ 2048) × (besides ≤ 6144) × (base + 4096 ≤ length (now w)) ⌝ }
-    ensures { λ r. ⌜ JoinsSequence (now (heads .entry)) (now (rows .entry)) (now (w .entry)) (now (w .exit)) base n start m under besides r ⌝ }
-{
-    let last = n - 1;
-    let nodes = last + m;
-    if MOST_NODES < under + nodes {
-        return stopped(42);
-    }
-    loosen(w, base, last);
-    arena::push_tree(w, start, m, base + 2 * last);
-    seal(heads, rows, w, base, nodes, besides)
-}
-
-// Joins the tree of m nodes at `start`, one element.
-fn join_element(
-    heads: &[u32; HEADS],
-    rows: &[u8; ROWS],
-    w: &mut [u32],
-    t: u32,
-    base: usize,
-    n: usize,
-    start: usize,
-    m: usize,
-    under: usize,
-    besides: usize,
-) -> Placed
-    requires { ⌜ (1 ≤ n) × (n ≤ 2048) × (m ≤ 2048) × (0 < m → start + 2 * m ≤ base) × (under ≤ 2048) × (besides ≤ 6144) × (base + 4096 ≤ length (now w)) ⌝ }
-    ensures { λ r. ⌜ JoinsElement (now (heads .entry)) (now (rows .entry)) (now (w .entry)) (now (w .exit)) t base n start m under besides r ⌝ }
-{
-    let last = n - 1;
-    let nodes = n + m;
-    if MOST_NODES < under + nodes + 1 {
-        return stopped(42);
-    }
-    loosen(w, base, last);
-    extend(w, base + 2 * last, t, start, m);
-    finish(heads, rows, w, t, base, nodes, besides)
-}
-
-// Joins the tree at `start`: a sequence of the same type, or else one element.
-fn join(
-    heads: &[u32; HEADS],
-    rows: &[u8; ROWS],
-    w: &mut [u32],
-    base: usize,
-    n: usize,
-    start: usize,
-    under: usize,
-    besides: usize,
-) -> Placed
-    requires { ⌜ (1 ≤ n) × (n ≤ 2048) × (start < 2 ^ 32) × (under ≤ 2048) × (besides ≤ 6144) × (base + 4096 ≤ length (now w)) ⌝ }
-    ensures { λ r. ⌜ Joins (now (heads .entry)) (now (rows .entry)) (now (w .entry)) (now (w .exit)) base n start under besides r ⌝ }
-{
-    let t = marks::type_in(words::word(w, base));
-    let m = arena::nodes_at(w, start, base);
-    if marks::type_in(words::word(w, start)) == t {
-        return join_sequence(heads, rows, w, base, n, start, m, under, besides);
-    }
-    join_element(heads, rows, w, t, base, n, start, m, under, besides)
-}
-
-// Cuts the first k elements off the sequence of n nodes at base; how many nodes are left.
-fn cut_front(w: &mut [u32], base: usize, n: usize, k: usize) -> usize
-    requires { ⌜ (n ≤ 2048) × (base < 2 ^ 32) × (base + 2 * n ≤ length (now w)) ⌝ }
-    ensures { λ r. ⌜ FrontCut (now (w .entry)) (now (w .exit)) base n k r ⌝ }
-{
-    let r = walk(w, base, n, k);
-    let left = n - r.node;
-    words::move_down(w, base + 2 * r.node, base, 2 * left);
-    left
-}
-
-// The first number less the second, or 0.
-fn less(a: usize, b: usize) -> usize
-    ensures { λ r. ⌜ r ≡ a - b ⌝ }
-{
-    if a < b { 0 } else { a - b }
-}
-
-// Selects the elements from a to b, counted from 1.
-fn select(
-    heads: &[u32; HEADS],
-    rows: &[u8; ROWS],
-    w: &mut [u32],
-    base: usize,
-    n: usize,
-    a: usize,
-    b: usize,
-    under: usize,
-    besides: usize,
-) -> Placed
-    requires { ⌜ (n ≤ 2048) × (base < 2 ^ 32) × (under ≤ 2048) × (besides ≤ 6144) × (base + 4096 ≤ length (now w)) ⌝ }
-    ensures { λ r. ⌜ Selects (now (heads .entry)) (now (rows .entry)) (now (w .entry)) (now (w .exit)) base n a b under besides r ⌝ }
-{
-    let skip = less(a, 1);
-    let t = marks::type_in(words::word(w, base));
-    let m = cut_front(w, base, n, skip);
-    let r = walk(w, base, m, less(b, skip));
-    if MOST_NODES < under + r.node + 1 {
-        return stopped(42);
-    }
-    loosen(w, base, r.node);
-    finish(heads, rows, w, t, base, r.node, besides)
-}
-
-// The number of elements of the sequence at `start`, in hundredths, as the value of the number at base.
-fn count(w: &mut [u32], base: usize, start: usize, under: usize, besides: usize) -> Placed
-    requires { ⌜ (start < 2 ^ 32) × (under ≤ 2048) × (besides ≤ 6144) × (base + 2 ≤ length (now w)) ⌝ }
-    ensures { λ r. ⌜ Counts (now (w .entry)) (now (w .exit)) base start under besides r ⌝ }
-{
-    let m = arena::nodes_at(w, start, base);
-    let r = walk(w, start, m, m);
-    if MOST_NODES < under + 1 {
-        return stopped(42);
-    }
-    if MOST_LIVE < besides + 1 {
-        return stopped(44);
-    }
-    w[base + 1] = (100 * r.passed) as u32;
-    Placed { stop: 0, nodes: 1 }
-}
-
 // Appends the trees of type e in the tree of m nodes at `start` to the sequence of type t, whose first k nodes are under way at base: how many are under way then, or
 // more than `most` as soon as there would be.
 fn collect(
@@ -294,7 +160,32 @@ fn collect(
     nodes
 }
 
-// Appends the trees of the element's type in the tree at `start`.
+// Joins the sequence of m nodes at `start`, of the same type: it takes the place of the last node.
+fn join_sequence(
+    heads: &[u32; HEADS],
+    rows: &[u8; ROWS],
+    w: &mut [u32],
+    base: usize,
+    n: usize,
+    start: usize,
+    m: usize,
+    under: usize,
+    besides: usize,
+) -> Placed
+    requires { ⌜ (1 ≤ n) × (n ≤ 2048) × (m ≤ 2048) × (0 < m → start + 2 * m ≤ base) × (under ≤ 2048) × (besides ≤ 6144) × (base + 4096 ≤ length (now w)) ⌝ }
+    ensures { λ r. ⌜ JoinsSequence (now (heads .entry)) (now (rows .entry)) (now (w .entry)) (now (w .exit)) base n start m under besides r ⌝ }
+{
+    let last = n - 1;
+    let nodes = last + m;
+    if MOST_NODES < under + nodes {
+        return stopped(42);
+    }
+    loosen(w, base, last);
+    arena::push_tree(w, start, m, base + 2 * last);
+    seal(heads, rows, w, base, nodes, besides)
+}
+
+// Appends the trees of the element's type in the tree at `start`. Those in a sequence of the same type are its elements, unless it is of itself.
 fn extract(
     heads: &[u32; HEADS],
     rows: &[u8; ROWS],
@@ -311,6 +202,11 @@ fn extract(
     let t = marks::type_in(words::word(w, base));
     let e = tables::child(rows, t, 0, 0);
     let m = arena::nodes_at(w, start, base);
+    if t != e {
+        if marks::type_in(words::word(w, start)) == t {
+            return join_sequence(heads, rows, w, base, n, start, m, under, besides);
+        }
+    }
     if MOST_NODES < under + n {
         return stopped(42);
     }
@@ -321,6 +217,98 @@ fn extract(
         return stopped(42);
     }
     finish(heads, rows, w, t, base, k, besides)
+}
+
+// Joins the tree at `start`: a sequence of the same type, or else one element. Only where a sequence is of itself, that is not to append the trees of the
+// element's type.
+fn join(
+    heads: &[u32; HEADS],
+    rows: &[u8; ROWS],
+    w: &mut [u32],
+    base: usize,
+    n: usize,
+    start: usize,
+    under: usize,
+    besides: usize,
+) -> Placed
+    requires { ⌜ (1 ≤ n) × (n ≤ 2048) × (start < 2 ^ 32) × (under ≤ 2048) × (besides ≤ 6144) × (base + 4096 ≤ length (now w)) ⌝ }
+    ensures { λ r. ⌜ Joins (now (heads .entry)) (now (rows .entry)) (now (w .entry)) (now (w .exit)) base n start under besides r ⌝ }
+{
+    let t = marks::type_in(words::word(w, base));
+    if tables::child(rows, t, 0, 0) == t {
+        let m = arena::nodes_at(w, start, base);
+        return join_sequence(heads, rows, w, base, n, start, m, under, besides);
+    }
+    extract(heads, rows, w, base, n, start, under, besides)
+}
+
+// Cuts the first k elements off the sequence of n nodes at base; how many nodes are left.
+fn cut_front(w: &mut [u32], base: usize, n: usize, k: usize) -> usize
+    requires { ⌜ (n ≤ 2048) × (base < 2 ^ 32) × (base + 2 * n ≤ length (now w)) ⌝ }
+    ensures { λ r. ⌜ FrontCut (now (w .entry)) (now (w .exit)) base n k r ⌝ }
+{
+    let r = walk(w, base, n, k);
+    let left = n - r.node;
+    words::move_down(w, base + 2 * r.node, base, 2 * left);
+    left
+}
+
+// The first number less the second, or 0.
+fn less(a: usize, b: usize) -> usize
+    ensures { λ r. ⌜ r ≡ a - b ⌝ }
+{
+    if a < b { 0 } else { a - b }
+}
+
+// Selects the elements from a to b, counted from 1.
+fn select(
+    heads: &[u32; HEADS],
+    rows: &[u8; ROWS],
+    w: &mut [u32],
+    base: usize,
+    n: usize,
+    a: usize,
+    b: usize,
+    under: usize,
+    besides: usize,
+) -> Placed
+    requires { ⌜ (n ≤ 2048) × (base < 2 ^ 32) × (under ≤ 2048) × (besides + n ≤ 6144) × (base + 4096 ≤ length (now w)) ⌝ }
+    ensures { λ r. ⌜ Selects (now (heads .entry)) (now (rows .entry)) (now (w .entry)) (now (w .exit)) base n a b under besides r ⌝ }
+{
+    let skip = less(a, 1);
+    let t = marks::type_in(words::word(w, base));
+    let m = cut_front(w, base, n, skip);
+    let r = walk(w, base, m, less(b, skip));
+    let kept = r.node + 1;
+    if MOST_NODES < under + kept {
+        return stopped(42);
+    }
+    // Where nothing is cut off at the end, what is left stands marked.
+    if kept == m {
+        return Placed {
+            stop: 0,
+            nodes: kept,
+        };
+    }
+    loosen(w, base, r.node);
+    finish(heads, rows, w, t, base, r.node, besides)
+}
+
+// The number of elements of the sequence at `start`, in hundredths, as the value of the number at base.
+fn count(w: &mut [u32], base: usize, start: usize, under: usize, besides: usize) -> Placed
+    requires { ⌜ (start < 2 ^ 32) × (under ≤ 2048) × (besides ≤ 6144) × (base + 2 ≤ length (now w)) ⌝ }
+    ensures { λ r. ⌜ Counts (now (w .entry)) (now (w .exit)) base start under besides r ⌝ }
+{
+    let m = arena::nodes_at(w, start, base);
+    let r = walk(w, start, m, m);
+    if MOST_NODES < under + 1 {
+        return stopped(42);
+    }
+    if MOST_LIVE < besides + 1 {
+        return stopped(44);
+    }
+    w[base + 1] = (100 * r.passed) as u32;
+    Placed { stop: 0, nodes: 1 }
 }
 
 // What the operation makes of the tree of n nodes at base, with the trees at `first` and `second`, below, as arguments: it takes the tree's place, or is stopped by 42,

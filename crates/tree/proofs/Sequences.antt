@@ -2,17 +2,17 @@
 -- tree. Assumes nothing.
 use Prim.Native.Nat.{ℕ, zero, suc, _+_, _*_, _≤_, _<_, max}
 use mathlib.Core.Path.{_≡_, refl, sym, ap, ap₂, _∙_, subst}
-use mathlib.Core.List.{List, [], _∷_, _++_, append-assoc}
+use mathlib.Core.List.{List, [], _∷_, _++_, append-assoc, append-nil}
 use mathlib.Core.Bool.{Bool, true, false}
 use native.Mathlib.Omega.{arith}
-use lib.ListN.{length, getD, take, drop, length-append}
+use lib.ListN.{length, getD, take, drop, length-append, take-append-drop}
 use lib.Dec.{eqb}
 use borrow.Author.Tests.{eq-eqb, eqb-true, ne-eqb, leb-true}
 use Rattle.words.specs.Reader.{Words, pick}
 use Rattle.grammar.specs.Grammar.{Kind, token, opt, sequence, forms, Grammar}
 use Rattle.grammar.specs.Kinds.{kindOf, allows, allowed, childrenOf, children, isSequenceKind, isSequence}
 use Rattle.tree.specs.Tree as T
-use Rattle.tree.specs.Tree.{Trees, size, levelsOf, levels, nestingFrom, after, firstTree}
+use Rattle.tree.specs.Tree.{Trees, size, levelsOf, levels, nestingFrom, nesting, after, firstTree}
 use Rattle.tree.specs.Sequences.{elementOf, spine, sequenceOf, elementsIn, elements, EachTree, sizes, deepest, takenFrom}
 use Rattle.tree.proofs.Trees.{tells, none-left, child-trees, trees-append, trees-even, split, first-after, first-append, after-append, size-append, nesting-append, tree-some}
 
@@ -116,6 +116,9 @@ unfolding deepest
 deepest-append g k [] fs = omega (arith, deepest-least g k fs)
 deepest-append g k (e ∷ es) fs = omega (arith, deepest-append g k es fs)
 
+deepest-drop : (g : Grammar) (k n : ℕ) (es : List Words) → deepest g k (drop n es) ≤ deepest g k es
+deepest-drop g k n es = omega (arith, deepest-append g k (take n es) (drop n es), ap (deepest g k) (take-append-drop n es))
+
 module _ (g : Grammar) (t : ℕ) (is : isSequence g t ≡ true) where
   kind-of : SequenceKind (kindOf g t) t
   unfolding isSequence
@@ -207,6 +210,11 @@ module _ (g : Grammar) (t : ℕ) (is : isSequence g t ≡ true) where
       let a : nestingFrom g (t ∷ 0 ∷ (e ++ s)) (k ∷ []) ≡ deepest g k (e ∷ es) = omega (arith, m, n, sequence-nesting k es (x .1), deepest-least g k es) in
       ap (λ ws. nestingFrom g ws (k ∷ [])) (sequence-more t e es) ∙ a
 
+  -- a rest nests no deeper
+  pub rest-nesting : (n : ℕ) (es : List Words) → EachTree g (elementOf g t) es → nesting g (sequenceOf t (drop n es)) ≤ nesting g (sequenceOf t es)
+  unfolding nesting
+  rest-nesting n es x = omega (arith, sequence-nesting 1 es x, sequence-nesting 1 (drop n es) (each-drop g (elementOf g t) n es x), deepest-drop g 1 n es)
+
 -- TREES TAKEN
 
 module _ (g : Grammar) (e : ℕ) where
@@ -235,6 +243,11 @@ module _ (g : Grammar) (e : ℕ) where
       let f = first-append (T.node {ts = []} {ws = us} fine r) ws in
       rw (eq-eqb e e refl) (ap₂ (λ a b. a ∷ b) f (ap (λ n. takenFrom g e n (us ++ ws)) (sym l) ∙ p))
 
+  -- .. itself alone, where there is no more
+  pub taken-whole : {u : Words} → Trees g (e ∷ []) u → takenFrom g e 0 u ≡ u ∷ []
+  unfolding takenFrom
+  taken-whole {u} r = ap (takenFrom g e 0) (sym (append-nil u)) ∙ taken-this r []
+
   taken-within : (n : ℕ) (ts : List ℕ) (ws : Words) → size ws ≤ n → Trees g ts ws → EachTree g e (takenFrom g e 0 ws)
   unfolding takenFrom size
   taken-within zero ts [] h r = tt
@@ -261,3 +274,11 @@ module _ (g : Grammar) (e : ℕ) where
   -- what is taken are trees of the type
   pub taken-typed : (ts : List ℕ) (ws : Words) → Trees g ts ws → EachTree g e (takenFrom g e 0 ws)
   taken-typed ts ws r = taken-within (size ws) ts ws (omega arith) r
+
+-- the trees of its element's type in a sequence are its elements, unless it is of itself
+pub taken-elements : (g : Grammar) (t : ℕ) → (t ≡ elementOf g t → ⊥) → (es : List Words) → EachTree g (elementOf g t) es → takenFrom g (elementOf g t) 0 (sequenceOf t es) ≡ es
+unfolding takenFrom
+taken-elements g t other [] x = ap (takenFrom g (elementOf g t) 0) (sequence-none t) ∙ taken-other g (elementOf g t) t 1 [] other
+taken-elements g t other (u ∷ es) x =
+    ap (takenFrom g (elementOf g t) 0) (sequence-more t u es) ∙ taken-other g (elementOf g t) t 0 (u ++ sequenceOf t es) other ∙ taken-this g (elementOf g t) (x .0) (sequenceOf t es)
+    ∙ ap (λ l. u ∷ l) (taken-elements g t other es (x .1))

@@ -27,6 +27,11 @@ const QUOTIENT: &[u32] = &[
     1, 9, 1, 1, 5, 1, 0, 64, 2, 1, 0, 64, 2, 64, 1, 6, 1, 0, 66, 0, 1, 0, 1002, 1, 65, 1, 65, 2,
 ];
 
+/// The page that explains the bench, and the paper's grammar with a list for the
+/// repeat.
+const PAGE: &str = include_str!("../../../docs/bench.md");
+const LIST_GRAMMAR: &[u32] = &[3, 8, 1, 1, 1, 16, 2, 1, 2];
+
 const EXAMPLE: &str =
     "3 9 3 8 1 1 1 4 2 1 2 10 1 9 2 2 1 2 200 1 2 4200 12 0 0 1 0 2 200 1 0 2 500 1 1";
 const DONE: &str = "done 3 1 12\n0 0 1 0 2 4200 1 0 2 500 1 1\n";
@@ -95,6 +100,42 @@ fn the_papers_example_and_its_budgets() {
         run(7, GRAMMAR, &same, TREE),
         "stopped 40 7 7 12\n0 0 1 0 2 200 1 0 2 500 1 1\n"
     );
+}
+
+/// A row of the page's table of examples on sequences: the rules, and what the
+/// bench prints.
+fn example_on_sequences(row: &str) -> (Vec<u32>, String) {
+    let cells: Vec<&str> = row.split('|').collect();
+    let words = cells[1].trim().trim_matches('`').split_whitespace();
+    let rules = words.map(|word| word.parse().expect("a word")).collect();
+    let (first, amounts) = cells[3].split_once(": ").expect("a line, and amounts");
+    let amounts = amounts
+        .split(',')
+        .map(|amount| amount.trim().replace('.', ""));
+    let hundredths: Vec<u32> = amounts
+        .map(|amount| amount.parse().expect("an amount"))
+        .collect();
+    let tree = list(&hundredths)
+        .iter()
+        .map(u32::to_string)
+        .collect::<Vec<_>>();
+    let first = first.trim().trim_matches('`');
+    (rules, format!("{first}\n{}\n", tree.join(" ")))
+}
+
+#[test]
+fn the_pages_examples_on_sequences() {
+    let rows = PAGE.lines().filter(|line| line.starts_with("| `1 "));
+    let examples: Vec<_> = rows.map(example_on_sequences).collect();
+    for operation in 1_010..=1_015 {
+        let applied = examples.iter().any(|(rules, _)| rules.contains(&operation));
+        assert!(applied, "the page has no example of {operation}");
+    }
+    for (rules, printed) in &examples {
+        for grammar in [GRAMMAR, LIST_GRAMMAR] {
+            assert_eq!(run(1, grammar, rules, TREE), *printed, "{rules:?}");
+        }
+    }
 }
 
 #[test]

@@ -335,87 +335,101 @@ fn operating() -> Worst {
     )
 }
 
-/// The elements of a sequence cut three times where it begins, and then off.
-const CUTS: [[u32; 4]; 4] = [
-    [1_013, 1, 65, 0],
-    [1_013, 1, 65, 0],
-    [1_013, 1, 65, 0],
-    [1_012, 1, 65, 0],
-];
-
 fn selecting() -> Worst {
     let sequence = [elements(980, &[2, 0]), vec![1, 1]].concat();
-    let edited = cut_nodes(&sequence);
-    editing(
-        "352 selections in one attempt",
-        (980, sequence),
-        CUTS,
-        edited,
-    )
+    cutting("352 selections in one attempt", sequence)
 }
 
 /// The same with elements of 0 to 8 numbers, in no order.
 fn selecting_irregularly() -> Worst {
     let sequence = counted_elements(&mut Random::new(0), 1_961);
-    let edited = cut_nodes(&sequence);
-    editing("the same, irregular", (0, sequence), CUTS, edited)
+    cutting("the same, irregular", sequence)
 }
 
-/// The nodes of the three cuts that leave all and of the one that leaves none.
-fn cut_nodes(sequence: &[u32]) -> usize {
-    let nodes = sequence.len() / 2;
-    3 * (2 * nodes + 1) + nodes + 2
+/// A sequence whose last element is cut off three times, and then all of them.
+fn cutting(name: &str, sequence: Vec<u32>) -> Worst {
+    // One node of its own stands before each element, and one at its end.
+    let nodes = 0..sequence.len() / 2;
+    let own: Vec<usize> = nodes.filter(|node| sequence[2 * node] == 1).collect();
+    let count = own.len() - 1;
+    let [all, once, twice, thrice] = [0, 1, 2, 3].map(|cuts| own[count - cuts] + 1);
+    // Each but the last result is the next scope; the last is one node, as each
+    // argument is.
+    let edited = all + 2 * (once + twice + thrice) + 1 + 4;
+    let mut fields = vec![number(0)];
+    fields.extend([1, 2, 3].map(|cuts| number(count - cuts)));
+    fields.push((1, sequence));
+    editing(name, &fields, 4, [1, 2, 3, 0].map(head), edited)
 }
 
 /// A sequence joined with itself and cut to what it was, and once more, then cut
 /// off.
 fn joining() -> Worst {
-    doubling("176 joins in one attempt", 1_010)
-}
-
-/// The same with the elements in the sequence, which are all taken, for the
-/// sequence.
-fn extracting() -> Worst {
-    doubling("176 extractions in one attempt", 1_015)
-}
-
-fn doubling(name: &str, operation: u32) -> Worst {
     let sequence = [elements(500, &[2, 0]), vec![1, 1]].concat();
     let nodes = sequence.len() / 2;
     let twice = 2 * nodes - 1;
     let edited = 2 * (2 * nodes + twice) + twice + 1 + nodes + twice + 2;
-    let double = [operation, 1, 65, 2];
-    let chain = [double, [1_012, 1, 65, 1], double, [1_012, 1, 65, 0]];
-    editing(name, (500, sequence), chain, edited)
+    let double = [1_010, 1, 65, 2];
+    let fields = [number(0), number(500), (1, sequence)];
+    let chain = [double, head(1), double, head(0)];
+    editing("176 joins in one attempt", &fields, 2, chain, edited)
 }
 
-/// Eight constructs of 11 chains of four operations on a sequence. It is the last
-/// field of the slip; before it stand two numbers, 0.00 and how many elements it
-/// has.
+/// The elements of a sequence that another holds taken out twice, then cut to
+/// half, and off.
+fn extracting() -> Worst {
+    let sequence = [elements(500, &[2, 0]), vec![1, 1]].concat();
+    let nodes = sequence.len() / 2;
+    let (holder, twice) = (nodes + 2, 2 * nodes - 1);
+    let edited = (1 + holder + nodes) + (nodes + holder + twice) + (twice + 1 + nodes) + nodes + 2;
+    let take = [1_015, 1, 65, 3];
+    let held = [vec![4, 0], sequence, vec![4, 1]].concat();
+    let fields = [number(0), number(500), (1, vec![1, 1]), (4, held)];
+    let chain = [take, take, head(1), head(0)];
+    editing("176 extractions in one attempt", &fields, 2, chain, edited)
+}
+
+/// A field that is a number token of so many whole ones.
+fn number(whole: usize) -> (u32, Vec<u32>) {
+    (3, vec![3, 100 * whole as u32])
+}
+
+/// The first elements, as many as a variable says.
+fn head(variable: u32) -> [u32; 4] {
+    [1_012, 1, 65, variable]
+}
+
+/// Eight constructs of 11 chains of four operations on a field of the slip.
 fn editing(
     name: &str,
-    (count, sequence): (u32, Vec<u32>),
+    fields: &[(u32, Vec<u32>)],
+    scope: usize,
     operations: [[u32; 4]; 4],
     edited: usize,
 ) -> Worst {
-    let nodes = sequence.len() / 2;
-    let types = &counted_grammar()[5..];
-    let grammar = [&[5, 8, 1, 3, 3, 3, 1], types, &[4, 1]].concat();
-    let chain = [vec![4, 0, 66, 2, 4, 0], operations.concat()].concat();
+    let count = fields.len() as u32;
+    let types = fields.iter().map(|(ty, _)| *ty);
+    let root = [vec![5, 8, 1, count], types.clone().collect()].concat();
+    let grammar = [&root, &counted_grammar()[5..], &[4, 1]].concat();
+    let chain = [vec![4, 0, 66, scope as u32, 4, 0], operations.concat()].concat();
     let part = [vec![4, 4, 122], chain.repeat(11), vec![4, 1]].concat();
-    let head = vec![1, 13, 0, 2, 4, 0, 0, 64, 3, 64, 3, 64, 1, 8];
-    let replacement = vec![4, 0, 0, 65, 0, 65, 1, 65, 2];
-    let rules = [head, part.repeat(8), replacement].concat();
-    let slip = [vec![0, 0, 3, 0, 3, 100 * count], sequence].concat();
+    let bound = types.flat_map(|ty| [64, ty]).collect();
+    let pattern = [vec![1, 13, 0, 2, count + 1, 0, 0], bound].concat();
+    let put_back = (0..count).flat_map(|variable| [65, variable]).collect();
+    let replacement = [vec![count + 1, 0, 0], put_back].concat();
+    let rules = [pattern, vec![8], part.repeat(8), replacement].concat();
+    let words = fields.iter().flat_map(|(_, words)| words.clone());
+    let slip: Vec<u32> = [0, 0].into_iter().chain(words).collect();
+    let nodes = slip.len() / 2;
     let round = Done {
         attempts: 1,
         passed: 1,
         parts: 8,
-        pairs: 4,
-        filled: 8 * 122 + 4,
-        built: 8 * (11 * nodes + 23) + nodes + 3,
+        pairs: fields.len() + 1,
+        filled: 8 * 122 + fields.len() + 1,
+        built: 8 * (11 * fields[scope].1.len() / 2 + 23) + nodes,
         edited: 8 * 11 * edited,
-        behind: nodes + 3,
+        behind: nodes,
         ..Done::default()
     };
     Worst::new(name, (grammar, rules, slip), round)

@@ -248,6 +248,12 @@ fn joining(random: &mut Random, before: usize, joins: usize, held: usize) -> Rul
     if cut {
         chain.extend([(random.pick(&[HEAD, TAIL]), 1), (VARIABLE, number)]);
     }
+    on_a_sequence(before, parts, chain)
+}
+
+/// A rule on the whole tree of such a grammar that writes the numbers anew, and a
+/// chain for the sequence.
+fn on_a_sequence(before: usize, parts: Vec<PartText>, chain: Vec<Pair>) -> RuleText {
     let written = vec![(2, 700); before];
     RuleText {
         pattern: [
@@ -282,6 +288,24 @@ fn nodes_at_an_operation(random: &mut Random) -> Input {
     let most = (limits::NODES - 2 - before) / 2 / (joins + 1);
     let count = most + random.below(3) - 1;
     let rule = joining(random, before, joins, 0);
+    let grammar = before_a_sequence(before, random.pick(&[4, 16]));
+    input(&grammar, &[rule], elements(before, count), 5)
+}
+
+/// The numbers of a tree taken out of it behind its sequence: about as many as the
+/// tree under way has room for (42).
+fn nodes_at_an_extraction(random: &mut Random) -> Input {
+    let before = random.below(4);
+    let numbers = before as u32;
+    // The elements come twice, with those numbers, behind the root and what is
+    // before them.
+    let most = (limits::NODES - 2 - 3 * before) / 4;
+    let count = most + random.below(3) - 1;
+    let variables = (0..=numbers).map(|variable| (VARIABLE, variable));
+    let whole: Vec<Pair> = [(0, 0)].into_iter().chain(variables).collect();
+    let taken = [(EXTRACT, 1), (VARIABLE, numbers + 1)];
+    let chain = [vec![(CHAIN, numbers), (1, 0)], taken.to_vec()].concat();
+    let rule = on_a_sequence(before, vec![construct(0, &whole)], chain);
     let grammar = before_a_sequence(before, random.pick(&[4, 16]));
     input(&grammar, &[rule], elements(before, count), 5)
 }
@@ -396,11 +420,12 @@ fn nodes_at_a_cut(random: &mut Random) -> Input {
 /// Operations on sequences near the limits that a result is held to (42 to 44).
 pub fn sequences_near_limit(seed: u64) -> Input {
     let random = &mut Random::new(seed);
-    match random.below(5) {
+    match random.below(6) {
         0 => nodes_at_an_operation(random),
-        1 => live_nodes_at_an_operation(random),
-        2 => nesting_at_an_operation(random),
-        3 => nesting_at_a_join(random),
+        1 => nodes_at_an_extraction(random),
+        2 => live_nodes_at_an_operation(random),
+        3 => nesting_at_an_operation(random),
+        4 => nesting_at_a_join(random),
         _ => nodes_at_a_cut(random),
     }
 }

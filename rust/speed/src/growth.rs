@@ -138,7 +138,7 @@ fn all_series() -> [Series; 8] {
         },
         Series {
             name: "elements of select_heavy",
-            inputs: ELEMENTS.map(|elements| (elements, first_elements(SELECT_HEAVY, elements))),
+            inputs: ELEMENTS.map(|elements| (elements, select_heavy(elements))),
         },
         Series {
             name: "elements of extract_heavy",
@@ -215,20 +215,35 @@ fn amounts(tree: &[u32]) -> Vec<usize> {
         .collect()
 }
 
-/// Each round takes half of the elements and joins them with themselves. How
-/// many that are is the one number of the rules that is not of the rounds.
+/// Each round takes half of the elements and joins them with themselves.
 fn join_heavy(elements: u32) -> Input {
     let mut input = first_elements(JOIN_HEAVY, elements);
-    let half = input.rules.iter_mut().find(|word| **word == 40_000);
-    *half.expect("400.00, half of 800") = 100 * (elements / 2);
+    set_position(&mut input, 400, elements / 2);
     input
 }
 
-/// A workload whose tree has a number, which counts the rounds, and so many
-/// elements of the sequence behind it.
+/// Each round cuts off the first and the last element, the first, the last
+/// eighth, and all but one.
+fn select_heavy(elements: u32) -> Input {
+    let mut input = first_elements(SELECT_HEAVY, elements);
+    set_position(&mut input, 799, elements - 1);
+    set_position(&mut input, 700, elements - elements / 8);
+    input
+}
+
+/// Sets a number that the rules have once.
+fn set_position(input: &mut Input, from: u32, to: u32) {
+    let mut words = input.rules.iter_mut();
+    let word = words.find(|word| **word == 100 * from);
+    *word.expect("a position") = 100 * to;
+}
+
+/// A workload on a sequence of numbers, at the end of its tree, with so many of
+/// its elements.
 fn first_elements(text: &[u8], elements: u32) -> Input {
     let mut input = workload(text);
-    input.tree.truncate(4 + 4 * elements as usize);
+    let cut = 4 * (ELEMENTS[2] - elements) as usize;
+    input.tree.truncate(input.tree.len() - 2 - cut);
     input.tree.extend([1, 1]);
     input
 }
@@ -313,7 +328,8 @@ mod tests {
             let rounds = ELEMENTS.map(|elements| (elements, None, 101, 100));
             assert_eq!(outcomes(series), rounds, "{}", series.name);
             for (elements, input) in &series.inputs {
-                assert_eq!(input.tree.len(), 2 * (2 * *elements as usize + 3));
+                let own = input.tree.chunks_exact(2).filter(|node| *node == [1, 0]);
+                assert_eq!(own.count(), *elements as usize, "{}", series.name);
                 let Outcome::Ended { words, .. } = reference_outcome(input) else {
                     panic!("{} is refused", series.name);
                 };

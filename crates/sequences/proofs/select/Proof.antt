@@ -1,5 +1,5 @@
 -- `sequences::select` meets its contract. Assumes nothing.
-use Rattle.sequences.proofs.Cutting.{selected-many, selected-there}
+use Rattle.sequences.proofs.Cutting.{selected-many, selected-whole, selected-there}
 use Rattle.marks.specs.Marked.{typeIn}
 use mathlib.Core.Path.{ap, _∙_}
 use borrow.Author.Needs.{needs}
@@ -26,11 +26,11 @@ less-requires-2 c κs = search needs
 walk-requires : tie.Need-walk-requires
 walk-requires c κs = search needs
 
+add-kept : tie.Need-add-kept
+add-kept c = search needs
+
 add-if1 : tie.Need-add-if1
 add-if1 c = search needs
-
-add-if1-2 : tie.Need-add-if1-2
-add-if1-2 c = search needs
 
 stopped-requires : tie.Need-stopped-requires
 stopped-requires c κs = search needs
@@ -39,7 +39,15 @@ same-length : tie.Need-same-length
 same-length c = search needs
 
 returns : tie.Need-returns
-returns c = selected-many (c .before .before .before .before .before .before .before .before .before .before .before .before .before .before .before .args .heads .now) (c .before .before .before .before .before .before .before .before .before .before .before .before .before .before .before .args .rows .now) (c .before .before .before .before .before .before .before .before .before .before .before .before .before .before .before .args .w .now) _ (c .before .before .before .before .before .before .before .before .before .before .before .before .before .before .before .args .base) (c .before .before .before .before .before .before .before .before .before .before .before .before .before .before .before .args .n) (c .before .before .before .before .before .before .before .before .before .before .before .before .before .before .before .args .a) (c .before .before .before .before .before .before .before .before .before .before .before .before .before .before .before .args .b) (c .before .before .before .before .before .before .before .before .before .before .before .before .before .before .before .args .under) (c .before .before .before .before .before .before .before .before .before .before .before .before .before .before .before .args .besides) (c .before .before .before .before .before .before .before .before .before .before .before .before .before .less .result) (c .before .before .before .before .before .before .before .before .cut-front .result) (c .before .before .before .before .before .before .before .before .before .before .type-in .result) (c .before .before .before .before .less2 .result) (c .before .before .before .before .before .before .before .before .before .before .before .before .before .before .before .pre .3) (c .before .before .before .before .before .before .before .before .before .before .type-in .ensures ∙ ap typeIn (c .before .before .before .before .before .before .before .before .before .before .before .word .ensures)) (c .before .before .before .before .before .before .before .before .before .before .before .before .before .less .ensures) (c .before .before .before .before .before .before .before .before .cut-front .ensures) (c .before .before .before .before .less2 .ensures) (c .before .before .before .walk .result) (c .before .before .before .walk .ensures) (c .before .if1 .taken) _ (c .stopped .ensures)
+returns c = let a = c .before .before .before .before .before .before .before .before .before .before .before .before .before .before .before .args in
+    selected-many (a .heads .now) (a .rows .now) (a .w .now) _ (a .base) (a .n) (a .a) (a .b) (a .under) (a .besides) (c .before .before .before .before .before .before .before .before .before .before .before .before .before .less .result) (c .before .before .before .before .before .before .before .before .cut-front .result) (c .before .before .before .before .before .before .before .before .before .before .type-in .result) (c .before .before .before .before .less2 .result) (c .before .before .before .before .before .before .before .before .before .before .before .before .before .before .before .pre .3) (c .before .before .before .before .before .before .before .before .before .before .type-in .ensures ∙ ap typeIn (c .before .before .before .before .before .before .before .before .before .before .before .word .ensures)) (c .before .before .before .before .before .before .before .before .before .before .before .before .before .less .ensures) (c .before .before .before .before .before .before .before .before .cut-front .ensures) (c .before .before .before .before .less2 .ensures) (c .before .before .before .walk .result) (c .before .before .before .walk .ensures) (c .before .if1 .taken) _ (c .stopped .ensures)
+
+same-length-2 : tie.Need-same-length-2
+same-length-2 c = search needs
+
+returns-2 : tie.Need-returns-2
+returns-2 c = let a = c .before .before .before .before .before .before .before .before .before .before .before .before .before .before .before .args in
+    selected-whole (a .heads .now) (a .rows .now) (a .w .now) _ (a .base) (a .n) (a .a) (a .b) (a .under) (a .besides) (c .before .before .before .before .before .before .before .before .before .before .before .before .before .less .result) (c .before .before .before .before .before .before .before .before .cut-front .result) (c .before .before .before .before .before .before .before .before .before .before .type-in .result) (c .before .before .before .before .less2 .result) (c .before .before .before .before .before .before .before .before .before .before .before .before .before .before .before .pre .3) (c .before .before .before .before .before .before .before .before .before .before .type-in .ensures ∙ ap typeIn (c .before .before .before .before .before .before .before .before .before .before .before .word .ensures)) (c .before .before .before .before .before .before .before .before .before .before .before .before .before .less .ensures) (c .before .before .before .before .before .before .before .before .cut-front .ensures) (c .before .before .before .before .less2 .ensures) (c .before .before .before .walk .result) (c .before .before .before .walk .ensures) (c .before .if1 .left) (c .if2 .taken)
 
 loosen-requires : tie.Need-loosen-requires
 loosen-requires c κs = search needs
@@ -47,11 +55,12 @@ loosen-requires c κs = search needs
 finish-requires : tie.Need-finish-requires
 finish-requires c κs = search needs
 
-same-length-2 : tie.Need-same-length-2
-same-length-2 c = search needs
+same-length-3 : tie.Need-same-length-3
+same-length-3 c = search needs
 
-returns-2 : tie.Need-returns-2
-returns-2 c = selected-there (c .before .before .before .before .before .before .before .before .before .before .before .before .before .before .before .before .before .before .before .before .before .before .args .heads .now) (c .before .before .before .before .before .before .before .before .before .before .before .before .before .before .before .before .before .before .before .before .before .before .args .rows .now) (c .before .before .before .before .before .before .before .before .before .before .before .before .before .before .before .before .before .before .before .before .before .before .args .w .now) _ (c .before .before .before .before .before .before .before .before .before .before .before .before .before .before .before .before .before .before .before .before .before .before .args .base) (c .before .before .before .before .before .before .before .before .before .before .before .before .before .before .before .before .before .before .before .before .before .before .args .n) (c .before .before .before .before .before .before .before .before .before .before .before .before .before .before .before .before .before .before .before .before .before .before .args .a) (c .before .before .before .before .before .before .before .before .before .before .before .before .before .before .before .before .before .before .before .before .before .before .args .b) (c .before .before .before .before .before .before .before .before .before .before .before .before .before .before .before .before .before .before .before .before .before .before .args .under) (c .before .before .before .before .before .before .before .before .before .before .before .before .before .before .before .before .before .before .before .before .before .before .args .besides) (c .before .before .before .before .before .before .before .before .before .before .before .before .before .before .before .before .before .before .before .before .less .result) (c .before .before .before .before .before .before .before .before .before .before .before .before .before .before .before .cut-front .result) (c .before .before .before .before .before .before .before .before .before .before .before .before .before .before .before .before .before .type-in .result) (c .before .before .before .before .before .before .before .before .before .before .before .less2 .result) (c .before .before .before .before .before .before .before .before .before .before .before .before .before .before .before .before .before .before .before .before .before .before .pre .3) (c .before .before .before .before .before .before .before .before .before .before .before .before .before .before .before .before .before .type-in .ensures ∙ ap typeIn (c .before .before .before .before .before .before .before .before .before .before .before .before .before .before .before .before .before .before .word .ensures)) (c .before .before .before .before .before .before .before .before .before .before .before .before .before .before .before .before .before .before .before .before .less .ensures) (c .before .before .before .before .before .before .before .before .before .before .before .before .before .before .before .cut-front .ensures) (c .before .before .before .before .before .before .before .before .before .before .before .less2 .ensures) (c .before .before .before .before .before .before .before .before .before .before .walk .result) (c .before .before .before .before .before .before .before .before .before .before .walk .ensures) (c .before .before .before .before .before .before .before .before .if1 .left) _ _ _ (c .before .before .before .before .before .before .loosen .ensures) (c .before .before .finish .ensures)
+returns-3 : tie.Need-returns-3
+returns-3 c = let a = c .before .before .before .before .before .before .before .before .before .before .before .before .before .before .before .before .before .before .before .before .before .before .before .args in
+    selected-there (a .heads .now) (a .rows .now) (a .w .now) _ (a .base) (a .n) (a .a) (a .b) (a .under) (a .besides) (c .before .before .before .before .before .before .before .before .before .before .before .before .before .before .before .before .before .before .before .before .before .less .result) (c .before .before .before .before .before .before .before .before .before .before .before .before .before .before .before .before .cut-front .result) (c .before .before .before .before .before .before .before .before .before .before .before .before .before .before .before .before .before .before .type-in .result) (c .before .before .before .before .before .before .before .before .before .before .before .before .less2 .result) (c .before .before .before .before .before .before .before .before .before .before .before .before .before .before .before .before .before .before .before .before .before .before .before .pre .3) (c .before .before .before .before .before .before .before .before .before .before .before .before .before .before .before .before .before .before .type-in .ensures ∙ ap typeIn (c .before .before .before .before .before .before .before .before .before .before .before .before .before .before .before .before .before .before .before .word .ensures)) (c .before .before .before .before .before .before .before .before .before .before .before .before .before .before .before .before .before .before .before .before .before .less .ensures) (c .before .before .before .before .before .before .before .before .before .before .before .before .before .before .before .before .cut-front .ensures) (c .before .before .before .before .before .before .before .before .before .before .before .before .less2 .ensures) (c .before .before .before .before .before .before .before .before .before .before .before .walk .result) (c .before .before .before .before .before .before .before .before .before .before .before .walk .ensures) (c .before .before .before .before .before .before .before .before .before .if1 .left) _ _ _ (c .before .before .before .before .before .before .loosen .ensures) (c .before .before .finish .ensures)
 
 pub select-spec : {M : Type 1} → statement M
 select-spec =
@@ -63,12 +72,14 @@ select-spec =
     cut-front-requires
     less-requires-2
     walk-requires
+    add-kept
     add-if1
-    add-if1-2
     stopped-requires
     same-length
     returns
+    same-length-2
+    returns-2
     loosen-requires
     finish-requires
-    same-length-2
-    returns-2)
+    same-length-3
+    returns-3)
