@@ -149,10 +149,6 @@ module _ (g : Grammar) (scope : Words) where
       made (s .is) (elements g scope ++ taken g (elementOf g (typeOf scope)) (x .0))
       (each-append g (elementOf g (typeOf scope)) (elements g scope) (taken g (elementOf g (typeOf scope)) (x .0)) (elements-typed g (typeOf scope) (s .is) scope (s .tree .typed)) k) w (x .2)
 
-  -- EVERY TREE SO MADE IS WITHIN THE TYPING THAT SLIPS ARE HELD TO
-  pub edits-typed : (o : Edit) (us : List Words) (w : Words) → editFits g o scope us ≡ true → edited g o scope us ≡ some w → size w ≤ mostNodes → nesting g w ≤ mostNesting → Tree g (typeOf scope) w
-  edits-typed o us w h e few flat = record { typed = edited-typed o us w h e; nodes = few; nested = flat }
-
 -- WHAT THE TYPING SAYS of an operation's scope and arguments is what its step asks of them
 
 sequence-true : {g : Grammar} {t : ℕ} (ws : Words) → isSequence g t ≡ true → Tree g t ws → isSequenceTree g ws ≡ true

@@ -11,3 +11,4 @@ pub mod Related
 pub mod Numbered
 pub mod Rounding
 pub mod RoundNeverStops
+pub mod EditsTyped

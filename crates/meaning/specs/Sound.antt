@@ -1,17 +1,19 @@
--- THE SOUNDNESS OF A RUN, stated: proofs/Sound.antt proves it; and that round never stops: proofs/RoundNeverStops.antt proves that. Assumes nothing: these are definitions.
+-- THE SOUNDNESS OF A RUN, stated: proofs/Sound.antt proves it; that round never stops: proofs/RoundNeverStops.antt proves that; and what operations on sequences
+-- make: proofs/EditsTyped.antt. Assumes nothing: these are definitions.
 use Prim.Native.Nat.{ℕ, _≤_}
 use mathlib.Core.Path.{_≡_}
-use mathlib.Core.List.{[]}
+use mathlib.Core.List.{List, []}
 use mathlib.Core.Bool.{Bool, true, false}
 use Rattle.words.specs.Reader.{Words}
 use Rattle.grammar.specs.Grammar.{Grammar}
 use Rattle.grammar.specs.Kinds.{isNumber}
-use Rattle.tree.specs.Tree.{Tree}
-use Rattle.rules.specs.Rules.{round, operation, Rules}
+use Rattle.tree.specs.Tree.{Tree, typeOf}
+use Rattle.rules.specs.Rules.{Edit, round, operation, editing, Rules}
 use Rattle.judgement.specs.WellTyped.{WellTyped}
 use Rattle.meaning.specs.declared.State.{State}
 use Rattle.meaning.specs.Computation.{ok}
 use Rattle.meaning.specs.Operations.{rounded, valueOf, withValue}
+use Rattle.meaning.specs.Edits.{editFits}
 use Rattle.meaning.specs.Meaning.{Ending, done, stopped, cannotGoOn, Called, Calls, apply, run}
 
 -- "the end or a stop 40 to 45", never stuck
@@ -26,7 +28,8 @@ WellEnded cannotGoOn = ⊥
 --   "every rule .. applied is there": `apply`, `succeeds`; in a replacement it has one: `callWith`
 --   .. "and fits as under Typing": arguments fit parameters in number and type, the scope is a tree, for a root-only rule one of the target type: `begin`
 --   a call that is stopped by 41 is not applied, so nothing is tested of it but that its rule and its arguments are there: `calls`
---   "every .. operation applied is there and fits": `apply`, `succeeds`, `compute`, `compare`; its scope and arguments are number tokens: `isNumberToken`
+--   "every .. operation applied is there and fits": `apply`, `succeeds`, `compute`, `compare`; its scope and arguments are number tokens: `isNumberToken`;
+--   of one on sequences they are as it wants them, and what it makes is a tree of the scope's type: `edit`
 --   a tree of the target type is put where one of that type stood, and the scope stays a tree of its type, within the limits: `replace`
 --   "and a next step, the end or a stop 40 to 45 follows": `WellEnded`; the bound on the rounds never runs out: `rounds`
 pub record Sound (g : Grammar) (t n : ℕ) (strict plain : Called) : Type 0 where
@@ -45,3 +48,9 @@ Soundness = (g : Grammar) (rules : Rules) → WellTyped g rules → (tree : Word
 abbrev pub RoundNeverStops : Type 0
 RoundNeverStops = (strict : Bool) (g : Grammar) (rules : Rules) (deeper : Calls) (t : ℕ) → isNumber g t ≡ true → (scope : Words) → Tree g t scope → (besides under : ℕ) (left : State)
     → apply strict g rules deeper (operation round) [] scope besides under left ≡ ok (withValue scope (rounded (valueOf scope))) left
+
+-- T-04: "Every tree so made is within the typing that slips are held to". What an operation on sequences makes of a scope and arguments that fit, strict or plain, is a tree of the
+-- scope's type, within the limits
+abbrev pub EditsTyped : Type 0
+EditsTyped = (strict : Bool) (g : Grammar) (rules : Rules) (deeper : Calls) (o : Edit) (args : List Words) (scope : Words) → editFits g o scope args ≡ true → (besides under : ℕ) (left next : State) (made : Words)
+    → apply strict g rules deeper (editing o) args scope besides under left ≡ ok made next → Tree g (typeOf scope) made
