@@ -84,7 +84,7 @@ joined-taken g t u is other r each = go (eqb (typeOf u) t) refl
     go : (b : Bool) → eqb (typeOf u) t ≡ b → joined g t u ≡ taken g (elementOf g t) u
     go true q =
         let tree : Trees g (t ∷ []) u = subst (λ k. Trees g (k ∷ []) u) (eqb-true (typeOf u) t q) r in
-        rw q (sym (taken-elements g t other (elements g u) (elements-typed g t is u tree)) ∙ ap (taken g (elementOf g t)) (elements-made g t is u tree))
+        rw q (sym (taken-elements g t is other u tree))
     go false q =
         let one : EachTree g (elementOf g t) (u ∷ []) = rw q at each in
         rw q (sym (taken-whole g (elementOf g t) (one .0)))

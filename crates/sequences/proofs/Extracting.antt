@@ -1,6 +1,6 @@
 -- The trees of the element's type in a tree below, appended to a sequence. Assumes nothing.
 use Prim.Native.Nat.{ℕ, suc, _+_, _-_, _*_, _≤_, _<_}
-use mathlib.Core.Path.{_≡_, refl, sym, ap, _∙_, subst}
+use mathlib.Core.Path.{_≡_, refl, sym, _∙_, subst}
 use mathlib.Core.List.{List, [], _∷_, _++_}
 use native.Mathlib.Omega.{arith}
 use lib.ListN.{getD, take, drop}
@@ -32,7 +32,7 @@ module _ (heads rows w : Words) (base n start under besides m t e : ℕ) (some :
     meant = λ g k es u tb x s.
         let is = listed-types heads rows t e et ee tb x in
         let y = alike u at x s (sym (stands-type w base (x .types) s) ∙ sym eb ∙ same ∙ is .0) in
-        let all : taken g (elementOf g k) u ≡ elements g u = ap (taken g (elementOf g k)) (sym (y .made)) ∙ taken-elements g k (λ q. other (is .0 ∙ q ∙ sym (is .1))) (elements g u) (y .each) in
+        let all : taken g (elementOf g k) u ≡ elements g u = taken-elements g k (x .is) (λ q. other (is .0 ∙ q ∙ sym (is .1))) u (y .tree) in
         subst (λ us. Made g w w′ base under besides k (sequenceOf k (es ++ us)) r) (sym all) (j .meant g k es (elements g u) tb x (y .each) (y .below));
   }
 

@@ -111,7 +111,7 @@ stands-typed {g} u s = subst (λ t. Trees g (t ∷ []) u) (sym (tree-type u (s .
 
 -- it is a sequence, by its elements
 pub record Alike (g : Grammar) (w : Words) (base start m t : ℕ) (u : Words) : Type 0 where
-  pub made : sequenceOf t (elements g u) ≡ u
+  pub tree : Trees g (t ∷ []) u
   pub each : EachTree g (elementOf g t) (elements g u)
   pub below : Below g w base start m (sequenceOf t (elements g u))
 
@@ -120,7 +120,7 @@ alike {g} {w} {base} {n} {start} {m} {t} u at x s own =
     let tree : Trees g (t ∷ []) u = subst (λ k. Trees g (k ∷ []) u) own (stands-typed u s) in
     let made : sequenceOf t (elements g u) ≡ u = elements-made g t (x .is) u tree in
     let below : Below g w base start m u = record { nodes = at .stands g u (x .types) s; stands = s } in
-    record { made = made; each = elements-typed g t (x .is) u tree; below = rw made below }
+    record { tree = tree; each = elements-typed g t (x .is) u tree; below = rw made below }
 
 -- what is joined to a sequence of itself is one
 own-type : (g : Grammar) (t : ℕ) (u : Words) → elementOf g t ≡ t → EachTree g (elementOf g t) (joined g t u) → typeOf u ≡ t

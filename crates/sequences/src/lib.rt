@@ -219,8 +219,8 @@ fn extract(
     finish(heads, rows, w, t, base, k, besides)
 }
 
-// Joins the tree at `start`: a sequence of the same type, or else one element. Only where a sequence is of itself, that is not to append the trees of the
-// element's type.
+// Joins the tree at `start`: a sequence of the same type, or else one element. What comes behind the scope is then what extract takes, unless the sequence is
+// of itself.
 fn join(
     heads: &[u32; HEADS],
     rows: &[u8; ROWS],

@@ -276,9 +276,12 @@ module _ (g : Grammar) (e : ℕ) where
   taken-typed ts ws r = taken-within (size ws) ts ws (omega arith) r
 
 -- the trees of its element's type in a sequence are its elements, unless it is of itself
-pub taken-elements : (g : Grammar) (t : ℕ) → (t ≡ elementOf g t → ⊥) → (es : List Words) → EachTree g (elementOf g t) es → takenFrom g (elementOf g t) 0 (sequenceOf t es) ≡ es
+taken-listed : (g : Grammar) (t : ℕ) → (t ≡ elementOf g t → ⊥) → (es : List Words) → EachTree g (elementOf g t) es → takenFrom g (elementOf g t) 0 (sequenceOf t es) ≡ es
 unfolding takenFrom
-taken-elements g t other [] x = ap (takenFrom g (elementOf g t) 0) (sequence-none t) ∙ taken-other g (elementOf g t) t 1 [] other
-taken-elements g t other (u ∷ es) x =
+taken-listed g t other [] x = ap (takenFrom g (elementOf g t) 0) (sequence-none t) ∙ taken-other g (elementOf g t) t 1 [] other
+taken-listed g t other (u ∷ es) x =
     ap (takenFrom g (elementOf g t) 0) (sequence-more t u es) ∙ taken-other g (elementOf g t) t 0 (u ++ sequenceOf t es) other ∙ taken-this g (elementOf g t) (x .0) (sequenceOf t es)
-    ∙ ap (λ l. u ∷ l) (taken-elements g t other es (x .1))
+    ∙ ap (λ l. u ∷ l) (taken-listed g t other es (x .1))
+
+pub taken-elements : (g : Grammar) (t : ℕ) → isSequence g t ≡ true → (t ≡ elementOf g t → ⊥) → (ws : Words) → Trees g (t ∷ []) ws → takenFrom g (elementOf g t) 0 ws ≡ elements g ws
+taken-elements g t is other ws r = ap (takenFrom g (elementOf g t) 0) (sym (elements-made g t is ws r)) ∙ taken-listed g t other (elements g ws) (elements-typed g t is ws r)
