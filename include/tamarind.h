@@ -37,13 +37,14 @@ extern "C" {
  * request that a caller can see sets its own number. 1 is T-01: operation 1,004
  * rounds an exact half to the even whole number. 2 is T-02: a number may be as
  * great as 4,000,000,000 hundredths. 4 is T-04: the list, and operations on
- * sequences.
+ * sequences. 5 is T-05: in a pattern a variable whose tree holds an empty name
+ * or string matches nothing.
  *
  * tamarind_edition() is the archive's. A program asks tamarind_is_this_edition()
  * once when it starts, and makes no other call if the answer is 0: header and
  * archive do not belong together. An archive that is older than editions does
  * not link. */
-#define TAMARIND_EDITION 4
+#define TAMARIND_EDITION 5
 
 uint32_t tamarind_edition(void);
 

@@ -8,7 +8,7 @@ use native.Mathlib.Omega.{arith}
 use lib.ListN.{length, getD, take, drop, getElem?, length-take, length-drop}
 use Rattle.words.specs.Reader.{Words, Read, value, refused}
 use Rattle.grammar.specs.Grammar.{Grammar}
-use Rattle.grammar.specs.Limits.{mostTypes}
+use Rattle.tables.specs.Tables.{Heads}
 use Rattle.tree.proofs.Rest.{tree-rest}
 use Rattle.rules.specs.Rules as Rules
 use Rattle.rules.specs.Rules.{shapes, pieces, conditionOf}
@@ -68,37 +68,37 @@ unfolding M.part
 apart deep book true s x p g rules b left sure = variable-sure (b .env) (getD book x 0) left (λ t. matchFirst true g s (shapes (pairsAt book p)) t b) sure
 apart deep book false s x p g rules b left sure = variable-sure (b .env) (getD book x 0) left (λ t. match true g (shapes (pairsAt book p)) t b) sure
 
-module _ (book w : Words) (d : Deconstruct) (next : ℕ) (frame : Open) (left : State) (room : Room w frame) (start n : ℕ) (es : start ≡ startAt (frame .vars) (getD book (d .variable) 0))
+module _ (heads book w : Words) (d : Deconstruct) (next : ℕ) (frame : Open) (left : State) (room : Room w frame) (start n : ℕ) (es : start ≡ startAt (frame .vars) (getD book (d .variable) 0))
     (nodes : NodesAt w start (frame .top) n) where
   -- the variable's tree, where it stands
-  there : (g : Grammar) (b : Bindings) → length g ≤ mostTypes → Held g w frame b → (t : Words) → getElem? (b .env) (getD book (d .variable) 0) ≡ some t → Stands g (take (frame .top) w) start t
-  there g b few held t e = rw es (variable-stands g (take (frame .top) w) (frame .vars) (b .env) (getD book (d .variable) 0) t (room .sound) (held .stands) e)
+  there : (g : Grammar) (b : Bindings) → Held g w frame b → (t : Words) → getElem? (b .env) (getD book (d .variable) 0) ≡ some t → Stands g (take (frame .top) w) start t
+  there g b held t e = rw es (variable-stands g (take (frame .top) w) (frame .vars) (b .env) (getD book (d .variable) 0) t (room .sound) (held .stands) e)
 
-  pub deconstruct-none : n ≡ 0 → Deconstructs book w d next frame left (record { verdict = Differs; frame = frame; left = left; next = next })
+  pub deconstruct-none : n ≡ 0 → Deconstructs heads book w d next frame left (record { verdict = Differs; frame = frame; left = left; next = next })
   deconstruct-none zero-nodes = record {
     next-is = refl;
     takes = λ deep. record {
       grown = grown-same room;
       less = omega arith;
       long = refl;
-      meant = λ g rules b few held sure.
+      meant = λ g rules b tables held sure.
           let a = apart deep book (d .searches) (d .searched) (d .variable) (d .pattern) g rules b left sure in
-          let s = there g b few held (a .0) (a .1) in
-          let k = nodes .stands g (a .0) few s in
+          let s = there g b held (a .0) (a .1) in
+          let k = nodes .stands g (a .0) (tables .types) s in
           let j = some-nodes (a .0) (s .tree) in
           absurd (omega arith);
     };
   }
 
   module _ (arena part : Words) (ea : arena ≡ take (frame .top) w) (ep : part ≡ take (2 * n) (drop start arena)) where
-    stage : (g : Grammar) (b : Bindings) → length g ≤ mostTypes → Held g w frame b → (t : Words) (s : Stands g (take (frame .top) w) start t) → Stage g arena part start (frame .vars) (frame .live) t (s .type ∷ []) b
-    stage g b few held t s =
-        let k = nodes .stands g t few s in
+    stage : (g : Grammar) (b : Bindings) → Heads g heads → Held g w frame b → (t : Words) (s : Stands g (take (frame .top) w) start t) → Stage heads g arena part start (frame .vars) (frame .live) t (s .type ∷ []) b
+    stage g b tables held t s =
+        let k = nodes .stands g t (tables .types) s in
         let l : length t ≡ 2 * n = omega (arith, tree-length (s .tree)) in
         let m : part ≡ marked g t = ep ∙ ap (λ x. take (2 * n) (drop start x)) ea ∙ ap (λ k. take k (drop start (take (frame .top) w))) (sym l) ∙ s .words in
         let q : length part ≡ length t = ap length m ∙ marked-length g t in
         record {
-          types = few;
+          tables = tables;
           place = ep ∙ ap (λ k. take k (drop start arena)) (sym l ∙ sym q);
           inside = omega (arith, q, s .inside, ap length ea);
           marks = m;
@@ -107,18 +107,18 @@ module _ (book w : Words) (d : Deconstruct) (next : ℕ) (frame : Open) (left : 
           counted = held .counted;
         }
 
-    pub deconstruct-matched : (ps : Words) → ps ≡ pairsAt book (d .pattern) → (b : Bool) → d .searches ≡ b → (m : Match) → Answers arena part start (frame .vars) (frame .live) (against b (d .searched) ps) m
-        → Deconstructs book w d next frame left (record { verdict = m .verdict; frame = record { vars = m .vars; live = m .live; top = frame .top }; left = left; next = next })
+    pub deconstruct-matched : (ps : Words) → ps ≡ pairsAt book (d .pattern) → (b : Bool) → d .searches ≡ b → (m : Match) → Answers heads arena part start (frame .vars) (frame .live) (against b (d .searched) ps) m
+        → Deconstructs heads book w d next frame left (record { verdict = m .verdict; frame = record { vars = m .vars; live = m .live; top = frame .top }; left = left; next = next })
     deconstruct-matched ps eps b eb m given = let answers = rw (eps, ← eb) at given in record {
       next-is = refl;
       takes = λ deep. record {
         grown = grown-matched w frame room (m .vars) (m .live) (answers .sound) (answers .kept) (answers .fits) (answers .grows);
         less = omega arith;
         long = refl;
-        meant = λ g rules b few held sure.
+        meant = λ g rules b tables held sure.
             let a = apart deep book (d .searches) (d .searched) (d .variable) (d .pattern) g rules b left sure in
-            let s = there g b few held (a .0) (a .1) in
-            let x = answers .meant g (a .0) (s .type ∷ []) b left (stage g b few held (a .0) s) (sure-as (a .2) sure) in
+            let s = there g b held (a .0) (a .1) in
+            let x = answers .meant g (a .0) (s .type ∷ []) b left (stage g b tables held (a .0) s) (sure-as (a .2) sure) in
             (refl, rw (a .2) (means-taken g w (frame .top) (b .besides) (m .verdict) (m .vars) (m .live) left (against (d .searches) (d .searched) (pairsAt book (d .pattern)) g (a .0) b left) (rw ea at x)));
       };
     }
@@ -194,10 +194,10 @@ module _ (given : Given) (w : Words) (at : ℕ) (frame : Open) (deep : ℕ) (lef
             (give g rules with, λ b. ap (λ x. partRead deep (given .book) x g rules b left) y ∙ ap (λ x. partOn deep x g rules b left) (same q here (sym (ap (λ x. x .part) (is (given .types) q next y)))))) t
         go (refused m o) y = record { grown = t .grown; less = t .less; long = t .long; meant = λ g rules b with held sure. absurd (sure (ap (λ x. partRead deep (given .book) x g rules b left) y)) }
 
-    pub step-deconstruct : (d : Deconstruct) → f .part ≡ Part.Deconstruct d → Deconstructs (given .book) w d (f .next) frame left r → w′ ≡ w → Steps given w w′ at frame deep left r
+    pub step-deconstruct : (d : Deconstruct) → f .part ≡ Part.Deconstruct d → Deconstructs (given .heads) (given .book) w d (f .next) frame left r → w′ ≡ w → Steps given w w′ at frame deep left r
     step-deconstruct d k x ew =
-        step-by (λ g rules. length g ≤ mostTypes) (deconstructIn (given .book) (d .searches) (d .searched) (d .variable) (d .pattern)) (x .next-is)
-        (λ g rules with. with .tables .heads-of .types) (λ q h e. deconstruct-is (given .book) q d h (e ∙ k)) (rw ew (x .takes deep))
+        step-by (λ g rules. Heads g (given .heads)) (deconstructIn (given .book) (d .searches) (d .searched) (d .variable) (d .pattern)) (x .next-is)
+        (λ g rules with. with .tables .heads-of) (λ q h e. deconstruct-is (given .book) q d h (e ∙ k)) (rw ew (x .takes deep))
 
     pub step-construct : (c : Construct) → f .part ≡ Part.Construct c → Constructs given w w′ (c .replacement) (f .next) frame deep left r
         → Steps given w w′ at frame deep left r

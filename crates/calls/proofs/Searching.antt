@@ -435,7 +435,7 @@ module _ (given : Given) (w₀ : Words) (plan : Plan) (base n : ℕ) (frame : Op
                   (attempt-spent (k .g) (k .rules) deep (k .rule) (node k .t ∷ node k .v ∷ node k .below) (k .b) fuel z)
 
           module _ (costs : fuel .attempts ≡ 0 → ⊥) (m : Match) (arena part pairs : Words) (ea : arena ≡ take (frame .top) w) (ep : part ≡ take (2 * (n - i)) (drop (base + 2 * i) arena)) (es : pairs ≡ pairsAt (given .book) (plan .pattern))
-              (answers : Answers arena part (base + 2 * i) (frame .vars) (frame .live) (λ g ws b. match true g (shapes pairs) ws b) m) where
+              (answers : Answers (given .heads) arena part (base + 2 * i) (frame .vars) (frame .live) (λ g ws b. match true g (shapes pairs) ws b) m) where
             spends : fuel .attempts ≡ suc (fuel .attempts - 1)
             spends = pred (fuel .attempts) costs
               where
@@ -448,13 +448,13 @@ module _ (given : Given) (w₀ : Words) (plan : Plan) (base n : ℕ) (frame : Op
                 (next k (node k .below) (2 * i))
             matching k = tries k ∙ ap (λ x. thenOf x (next k (node k .below) (2 * i))) (attempt-first (k .g) (k .rules) deep (k .rule) (node k .t ∷ node k .v ∷ node k .below) (k .b) fuel (spent fuel) spends)
 
-            stage : (k : Case) → Stage (k .g) arena part (base + 2 * i) (frame .vars) (frame .live) (go .run k .rest) (go .run k .scope .due) (k .b)
+            stage : (k : Case) → Stage (given .heads) (k .g) arena part (base + 2 * i) (frame .vars) (frame .live) (go .run k .rest) (go .run k .scope .due) (k .b)
             stage k =
                 let a = go .run k in
                 let e : part ≡ here i = ep ∙ ap (λ x. take (2 * (n - i)) (drop (base + 2 * i) x)) (ea ∙ a .kept) in
                 let l : length part ≡ 2 * (n - i) = ap length e ∙ here-length k i (go .within) in
                 record {
-                  types = few k;
+                  tables = k .setting .tables .heads-of;
                   place = ep ∙ ap (λ x. take x (drop (base + 2 * i) arena)) (sym l);
                   inside = omega (arith, l, inside, ends k, ap length ea, length-take (frame .top) w, go .long, room .low, room .few, room .long);
                   marks = e ∙ a .scope .marks;
@@ -621,7 +621,7 @@ module _ (given : Given) (w₀ : Words) (plan : Plan) (base n : ℕ) (frame : Op
       passed-clash k now at-k l this clashes =
           let z : i + suc k ≡ i + k + 1 = omega arith in
           let y : suc (now .attempts) - 1 ≡ now .attempts = omega arith in
-          let c = clashes .clash (take (frame .top) w) (base + 2 * (i + k)) (frame .vars) (room .sound) in
+          let c = clashes .clash (given .heads) (take (frame .top) w) (base + 2 * (i + k)) (frame .vars) (room .sound) in
           let s : Searching w (spent (unspent now)) (i + k + 1) =
           searching-differs w (unspent now) (i + k) at-k l this (λ e. omega arith) (c .0) (take (frame .top) w) (span w (base + 2 * (i + k)) (base + 2 * n)) pairs refl (stretch (i + k) (omega (arith, tried-few (plan .strategy) n))) es (c .2 true) (c .1) in
           rw (z, ← y) s

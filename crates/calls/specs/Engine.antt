@@ -9,7 +9,7 @@ use lib.ListN.{length, getD, take, drop, getElem?}
 use Rattle.words.specs.Reader.{Words, Read, value, refused}
 use Rattle.grammar.specs.Grammar.{Grammar}
 use Rattle.grammar.specs.Limits.{mostTypes}
-use Rattle.tables.specs.Tables.{Tables}
+use Rattle.tables.specs.Tables.{Heads, Tables}
 use Rattle.tree.specs.Limits.{mostNodes}
 use Rattle.tree.specs.Tree.{size}
 use Rattle.rules.specs.Limits.{mostRules}
@@ -199,9 +199,9 @@ deconstructIn book true s x p = Rules.search s (getD book x 0) (shapes (pairsAt 
 deconstructIn book false s x p = Rules.deconstruct (getD book x 0) (shapes (pairsAt book p))
 
 -- what a part that takes a variable apart comes to
-pub record Deconstructs (book w : Words) (d : Deconstruct) (next : ℕ) (frame : Open) (left : State) (r : Taking) : Type 0 where
+pub record Deconstructs (heads book w : Words) (d : Deconstruct) (next : ℕ) (frame : Open) (left : State) (r : Taking) : Type 0 where
   pub next-is : r .next ≡ next
-  pub takes : (deep : ℕ) → Takes w w frame left r (λ g rules. length g ≤ mostTypes) (partOn deep (deconstructIn book (d .searches) (d .searched) (d .variable) (d .pattern)))
+  pub takes : (deep : ℕ) → Takes w w frame left r (λ g rules. Heads g heads) (partOn deep (deconstructIn book (d .searches) (d .searched) (d .variable) (d .pattern)))
 
 module _ (given : Given) (w w′ : Words) where
   abbrev pub With : Grammar → Rules.Rules → Type 0

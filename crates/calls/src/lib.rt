@@ -154,6 +154,7 @@ fn match_taken(m: Matched, top: usize, left: State, next: usize) -> Taken
 
 // A part that takes a variable apart.
 fn deconstruct(
+    heads: &[u32; HEADS],
     book: &[u32],
     w: &[u32],
     d: Deconstruct,
@@ -163,7 +164,7 @@ fn deconstruct(
     left: State,
 ) -> Taken
     requires { ⌜ Room (now w) (openOf (now places) frame) ⌝ }
-    ensures { λ r. ⌜ Deconstructs (now (book .entry)) (now (w .entry)) d next (openOf (now (places .entry)) frame) left (takingIn (now (places .exit)) r) ⌝ }
+    ensures { λ r. ⌜ Deconstructs (now (heads .entry)) (now (book .entry)) (now (w .entry)) d next (openOf (now (places .entry)) frame) left (takingIn (now (places .exit)) r) ⌝ }
 {
     let pairs = rules::pairs_of(book, d.pattern);
     let bound = frame.bound;
@@ -186,10 +187,20 @@ fn deconstruct(
             places,
             bound,
             live,
+            heads,
         );
         return match_taken(m, top, left, next);
     }
-    let m = rewrite::match_pattern(pairs, arena, &arena[start..end], start, places, bound, live);
+    let m = rewrite::match_pattern(
+        pairs,
+        arena,
+        &arena[start..end],
+        start,
+        places,
+        bound,
+        live,
+        heads,
+    );
     match_taken(m, top, left, next)
 }
 
@@ -324,7 +335,7 @@ fn step(
     let part = f.part;
     let next = f.next;
     match part {
-        Part::Deconstruct(d) => deconstruct(book, w, d, next, places, frame, left),
+        Part::Deconstruct(d) => deconstruct(heads, book, w, d, next, places, frame, left),
         Part::Construct(c) => construct(
             heads,
             rows,
@@ -422,6 +433,7 @@ fn seek(
             places,
             frame.bound,
             frame.live,
+            heads,
         );
         let verdict = m.verdict;
         match verdict {

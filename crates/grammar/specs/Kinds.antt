@@ -1,7 +1,7 @@
 -- What a type's kind says of a node: the values it may have, and the types of its children. Assumes nothing: these are definitions.
 use Prim.Native.Nat.{ℕ}
 use mathlib.Core.List.{List, [], _∷_}
-use mathlib.Core.Bool.{Bool, true, false}
+use mathlib.Core.Bool.{Bool, true, false, not}
 use lib.ListN.{length, getD}
 use lib.Dec.{ltb, leb, eqb}
 use Rattle.words.specs.Reader.{pick}
@@ -57,3 +57,14 @@ isNumberKind (forms fs) = false
 -- is the type a number token?
 unfoldable pub isNumber : Grammar → ℕ → Bool
 isNumber g t = isNumberKind (kindOf g t)
+
+-- is the kind a name or a string, the tokens that are no numbers?
+unfoldable pub isTextKind : Kind → Bool
+isTextKind (token c) = not (eqb c 2)
+isTextKind (opt e) = false
+isTextKind (sequence style e) = false
+isTextKind (forms fs) = false
+
+-- is the type a name or a string?
+unfoldable pub isText : Grammar → ℕ → Bool
+isText g t = isTextKind (kindOf g t)

@@ -2,6 +2,7 @@ pub mod Marks
 pub mod Marking
 pub mod Spans
 pub mod Same
+pub mod Blanks
 pub mod Laying
 pub mod Above
 pub mod Swapping

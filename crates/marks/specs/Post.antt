@@ -10,6 +10,7 @@ use Rattle.grammar.specs.Kinds.{allowed, children}
 use Rattle.tables.specs.Tables.{Heads, Tables}
 use Rattle.tree.specs.Limits.{mostNodes}
 use Rattle.tree.specs.Tree.{Trees, size, nesting, nodeNesting, firstTree, put}
+use Rattle.tree.specs.Blanks.{holdsBlank}
 use Rattle.words.specs.Views.{equalWords}
 use Rattle.grammar.specs.Limits.{mostTypes}
 use Rattle.marks.specs.Marked.{typeIn, markOf, marked, unmarked, Stands, UnderWay}
@@ -89,6 +90,10 @@ pub record Resized (w w′ : Words) (base place was will : ℕ) : Type 0 where
 abbrev pub SameTree : Words → ℕ → Words → Bool → Type 0
 SameTree arena start part r = (g : Grammar) (u ws : Words) (t : ℕ) (ts : List ℕ) → length g ≤ mostTypes → Stands g arena start u → part ≡ marked g ws → Trees g (t ∷ ts) ws → size ws ≤ mostNodes
     → r ≡ equalWords u (firstTree g ws)
+
+-- r says whether the first tree of the part holds a blank
+abbrev pub HoldsBlank : Words → Words → Bool → Type 0
+HoldsBlank heads part r = (g : Grammar) (ws : Words) (t : ℕ) (ts : List ℕ) → Heads g heads → part ≡ marked g ws → Trees g (t ∷ ts) ws → size ws ≤ mostNodes → r ≡ holdsBlank g (firstTree g ws)
 
 -- a scope stands from base to end, with a node at the place; above it, from `from` on, stands a tree of n words that gives a tree when put in the node's place
 pub record Ready (g : Grammar) (w : Words) (base place end from n t : ℕ) (scope ws : Words) : Type 0 where

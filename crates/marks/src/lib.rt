@@ -7,7 +7,7 @@ ghost use Rattle.words.specs.Reader.{pick, and};
 ghost use lib.Dec.{eqb};
 ghost use lib.ListN.{length};
 ghost use Rattle.marks.specs.Marked.{mark, typeIn, sizeIn, nestingIn};
-ghost use Rattle.marks.specs.Post.{MarkMade, NodeMarked, TreeMarked, AboveMarked, Resized, InPlace, NestingOf, Written, SameTree};
+ghost use Rattle.marks.specs.Post.{MarkMade, NodeMarked, TreeMarked, AboveMarked, Resized, InPlace, NestingOf, Written, SameTree, HoldsBlank};
 
 // The type of a marked node.
 pub fn type_in(w: u32) -> u32
@@ -257,4 +257,26 @@ pub fn same_tree(arena: &[u32], start: usize, part: &[u32]) -> bool
         return false;
     }
     words::same(&arena[start..end], &part[..m])
+}
+
+// Does the tree that the part begins with hold a blank, a name or string of value 0?
+pub fn holds_blank(heads: &[u32; HEADS], part: &[u32]) -> bool
+    ensures { λ r. ⌜ HoldsBlank (now (heads .entry)) (now (part .entry)) r ⌝ }
+{
+    let end = 2 * size_in(words::word(part, 0));
+    if part.len() < end {
+        return false;
+    }
+    let mut i: usize = 0;
+    while i < end {
+        if tables::is_text(heads, type_in(part[i])) {
+            if part[i + 1] == 0 {
+                return true;
+            }
+            i = i + 2;
+        } else {
+            i = i + 2;
+        }
+    }
+    false
 }

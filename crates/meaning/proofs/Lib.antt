@@ -1,4 +1,5 @@
--- The soundness of the meaning, from words too, the claim about a list of runs, what rounding is, and that round never stops.
+-- The soundness of the meaning, from words too, the claim about a list of runs, what rounding is, that round never stops, what operations on sequences make, and what a variable in a
+-- pattern matches.
 pub mod Safe
 pub mod Matching
 pub mod Numbers
@@ -12,3 +13,4 @@ pub mod Numbered
 pub mod Rounding
 pub mod RoundNeverStops
 pub mod EditsTyped
+pub mod SameExactly

@@ -139,7 +139,7 @@ match-safe (aSame h p) few ts [] b r env n = absurd (tells (r .typed))
 match-safe (aSame h p) few ts (w ∷ []) b r env n = absurd (tells (r .typed))
 match-safe {g} (aSame {x = y} h p) few ts (w ∷ x ∷ ws) b r env n =
     andThen (variable-safe env y h n) λ u l _ tree.
-    choose-safe (sameTree u (firstTree g (w ∷ x ∷ ws)))
+    choose-safe (sameTree g u (firstTree g (w ∷ x ∷ ws)))
     (λ l _ e. match-safe p few ts (after g (w ∷ x ∷ ws) 1) b (onward r .rest) env l)
     (λ l _ e. returns tt)
 

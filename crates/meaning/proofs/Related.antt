@@ -206,7 +206,7 @@ module _ (R : State → State → Type 0) (Free Kept : ℕ → State → Type 0)
         (λ l m r. goes r)
     match-related (same x ∷ ps) (t ∷ v ∷ ws) b r =
         andThen (variable-related (b .env) x r) λ tree l m r.
-        chooses (sameTree tree (firstTree g (t ∷ v ∷ ws))) r (λ l m r. match-related ps (after g (t ∷ v ∷ ws) 1) b r) (λ l m r. goes r)
+        chooses (sameTree g tree (firstTree g (t ∷ v ∷ ws))) r (λ l m r. match-related ps (after g (t ∷ v ∷ ws) 1) b r) (λ l m r. goes r)
 
     matchFirst-related : (u : ℕ) (ps : List Shape) (ws : Words) (b : Bindings) {n m : State} → R n m → Rel (matchFirst strict g u ps ws b n) (matchFirst strict g u ps ws b m)
     unfolding matchFirst

@@ -13,6 +13,7 @@ use Rattle.words.specs.Views as Views
 use Rattle.grammar.specs.Grammar as Grammar
 use Rattle.grammar.specs.Kinds as Kinds
 use Rattle.tree.specs.Tree as Tree
+use Rattle.tree.specs.Blanks as Blanks
 use Rattle.tree.specs.Sequences as Sequences
 use Rattle.tree.specs.Dues as Dues
 use Rattle.tree.specs.Reading as Reading
@@ -61,6 +62,28 @@ levels = 1 ∷ 8 ∷ 2 ∷ 1 ∷ 0 ∷ 0 ∷ []
 times : ℕ → Words → Words
 times zero ws = []
 times (suc k) ws = ws ++ times k ws
+
+-- T-05: slips of two fields of type 1, the payer and the payee, or of one; the kinds of type 1 and of those after it follow
+fields : ℕ → Words → Words
+fields n kinds = n ∷ 8 ∷ 2 ∷ 2 ∷ 1 ∷ 1 ∷ 1 ∷ 1 ∷ kinds
+
+names : Words
+names = fields 2 (1 ∷ 1 ∷ [])
+
+-- "transfers marked to own account": if the payee is the payer, one field is left
+ownAccount : Words
+ownAccount = 1 ∷ 8 ∷ 0 ∷ 3 ∷ 0 ∷ 0 ∷ 64 ∷ 1 ∷ 65 ∷ 0 ∷ 2 ∷ 0 ∷ 1 ∷ 65 ∷ 0 ∷ []
+
+both : Words → Words
+both field = 0 ∷ 0 ∷ (field ++ field)
+
+-- payer and payee are the same, and are found to be
+alike : ℕ → Words → Words → Case
+alike n kinds field = case 1 (fields n kinds) ownAccount (both field) (ended done 1 1 (0 ∷ 1 ∷ field))
+
+-- .. and hold a blank
+blank : ℕ → Words → Words → Case
+blank n kinds field = case 1 (fields n kinds) ownAccount (both field) (ended done 1 0 (both field))
 
 table : List Case
 table =
@@ -317,6 +340,51 @@ table =
     ∷ case 1 numbers (1 ∷ 8 ∷ 0 ∷ 4 ∷ 0 ∷ 0 ∷ 1 ∷ 0 ∷ 64 ∷ 2 ∷ 64 ∷ 1 ∷ 9 ∷ 0 ∷ 0 ∷ 1 ∷ 0 ∷ 66 ∷ 0 ∷ 2 ∷ 0 ∷ 1014 ∷ 1 ∷ 65 ∷ 1 ∷ 1000 ∷ 1 ∷ 65 ∷ 0 ∷ 65 ∷ 1 ∷ []) twoAndFive (ended done 1 1 (list (300 ∷ 500 ∷ [])))
     -- the numbers in the whole tree, appended
     ∷ case 1 lists (1 ∷ 12 ∷ 0 ∷ 1 ∷ 64 ∷ 0 ∷ 1 ∷ 1 ∷ 0 ∷ 2 ∷ 0 ∷ 0 ∷ 64 ∷ 1 ∷ 5 ∷ 0 ∷ 0 ∷ 66 ∷ 1 ∷ 1 ∷ 0 ∷ 1015 ∷ 1 ∷ 65 ∷ 0 ∷ []) twoAndFive (ended done 1 1 (list (200 ∷ 500 ∷ 200 ∷ 500 ∷ [])))
+    -- T-05
+    -- two names alike; "payer and payee were both left empty"; one of them
+    ∷ alike 2 (1 ∷ 1 ∷ []) (1 ∷ 5 ∷ [])
+    ∷ blank 2 (1 ∷ 1 ∷ []) (1 ∷ 0 ∷ [])
+    ∷ case 1 names ownAccount (0 ∷ 0 ∷ 1 ∷ 5 ∷ 1 ∷ 0 ∷ []) (ended done 1 0 (0 ∷ 0 ∷ 1 ∷ 5 ∷ 1 ∷ 0 ∷ []))
+    -- strings; a number 0 is not blank
+    ∷ alike 2 (1 ∷ 3 ∷ []) (1 ∷ 65535 ∷ [])
+    ∷ blank 2 (1 ∷ 3 ∷ []) (1 ∷ 0 ∷ [])
+    ∷ alike 2 (1 ∷ 2 ∷ []) (1 ∷ 0 ∷ [])
+    -- an absent opt, an empty repeat or list and a form without elements are not blank
+    ∷ alike 3 (2 ∷ 2 ∷ 1 ∷ 1 ∷ []) (1 ∷ 1 ∷ [])
+    ∷ alike 3 (4 ∷ 2 ∷ 1 ∷ 1 ∷ []) (1 ∷ 1 ∷ [])
+    ∷ alike 3 (16 ∷ 2 ∷ 1 ∷ 1 ∷ []) (1 ∷ 1 ∷ [])
+    ∷ alike 2 (8 ∷ 1 ∷ 0 ∷ []) (1 ∷ 0 ∷ [])
+    -- a blank in an opt, in a sequence, in its last element
+    ∷ alike 3 (2 ∷ 2 ∷ 1 ∷ 1 ∷ []) (1 ∷ 0 ∷ 2 ∷ 5 ∷ [])
+    ∷ blank 3 (2 ∷ 2 ∷ 1 ∷ 1 ∷ []) (1 ∷ 0 ∷ 2 ∷ 0 ∷ [])
+    ∷ alike 3 (4 ∷ 2 ∷ 1 ∷ 1 ∷ []) (1 ∷ 0 ∷ 2 ∷ 5 ∷ 1 ∷ 0 ∷ 2 ∷ 6 ∷ 1 ∷ 1 ∷ [])
+    ∷ blank 3 (4 ∷ 2 ∷ 1 ∷ 1 ∷ []) (1 ∷ 0 ∷ 2 ∷ 0 ∷ 1 ∷ 0 ∷ 2 ∷ 6 ∷ 1 ∷ 1 ∷ [])
+    ∷ blank 3 (16 ∷ 2 ∷ 1 ∷ 3 ∷ []) (1 ∷ 0 ∷ 2 ∷ 5 ∷ 1 ∷ 0 ∷ 2 ∷ 0 ∷ 1 ∷ 1 ∷ [])
+    -- in a form, beside a number 0; at any depth
+    ∷ alike 4 (8 ∷ 1 ∷ 2 ∷ 2 ∷ 3 ∷ 1 ∷ 1 ∷ 1 ∷ 2 ∷ []) (1 ∷ 0 ∷ 2 ∷ 5 ∷ 3 ∷ 0 ∷ [])
+    ∷ blank 4 (8 ∷ 1 ∷ 2 ∷ 2 ∷ 3 ∷ 1 ∷ 1 ∷ 1 ∷ 2 ∷ []) (1 ∷ 0 ∷ 2 ∷ 0 ∷ 3 ∷ 5 ∷ [])
+    ∷ alike 6 (2 ∷ 2 ∷ 16 ∷ 3 ∷ 8 ∷ 1 ∷ 2 ∷ 5 ∷ 4 ∷ 1 ∷ 3 ∷ 1 ∷ 2 ∷ []) (1 ∷ 0 ∷ 2 ∷ 0 ∷ 3 ∷ 0 ∷ 5 ∷ 0 ∷ 4 ∷ 7 ∷ 2 ∷ 1 ∷ [])
+    ∷ blank 6 (2 ∷ 2 ∷ 16 ∷ 3 ∷ 8 ∷ 1 ∷ 2 ∷ 5 ∷ 4 ∷ 1 ∷ 3 ∷ 1 ∷ 2 ∷ []) (1 ∷ 0 ∷ 2 ∷ 0 ∷ 3 ∷ 0 ∷ 5 ∷ 0 ∷ 4 ∷ 0 ∷ 2 ∷ 1 ∷ [])
+    -- "A written-out token of value 0 still matches an empty token"; a new variable is bound to one, and copied
+    ∷ case 1 names (1 ∷ 8 ∷ 0 ∷ 3 ∷ 0 ∷ 0 ∷ 1 ∷ 0 ∷ 1 ∷ 0 ∷ 2 ∷ 0 ∷ 1 ∷ 1 ∷ 7 ∷ []) (0 ∷ 0 ∷ 1 ∷ 0 ∷ 1 ∷ 0 ∷ []) (ended done 1 1 (0 ∷ 1 ∷ 1 ∷ 7 ∷ []))
+    ∷ case 1 names (1 ∷ 8 ∷ 0 ∷ 3 ∷ 0 ∷ 0 ∷ 64 ∷ 1 ∷ 64 ∷ 1 ∷ 2 ∷ 0 ∷ 1 ∷ 65 ∷ 1 ∷ []) (0 ∷ 0 ∷ 1 ∷ 5 ∷ 1 ∷ 0 ∷ []) (ended done 1 1 (0 ∷ 1 ∷ 1 ∷ 0 ∷ []))
+    -- "itself included": the payer taken apart by the payer
+    ∷ case 1 names (1 ∷ 12 ∷ 0 ∷ 3 ∷ 0 ∷ 0 ∷ 64 ∷ 1 ∷ 64 ∷ 1 ∷ 1 ∷ 1 ∷ 0 ∷ 1 ∷ 65 ∷ 0 ∷ 2 ∷ 0 ∷ 1 ∷ 65 ∷ 0 ∷ []) (0 ∷ 0 ∷ 1 ∷ 5 ∷ 1 ∷ 0 ∷ []) (ended done 1 1 (0 ∷ 1 ∷ 1 ∷ 5 ∷ []))
+    ∷ case 1 names (1 ∷ 12 ∷ 0 ∷ 3 ∷ 0 ∷ 0 ∷ 64 ∷ 1 ∷ 64 ∷ 1 ∷ 1 ∷ 1 ∷ 0 ∷ 1 ∷ 65 ∷ 0 ∷ 2 ∷ 0 ∷ 1 ∷ 65 ∷ 0 ∷ []) (0 ∷ 0 ∷ 1 ∷ 0 ∷ 1 ∷ 5 ∷ []) (ended done 1 0 (0 ∷ 0 ∷ 1 ∷ 0 ∷ 1 ∷ 5 ∷ []))
+    -- .. by the payee
+    ∷ case 1 names (1 ∷ 12 ∷ 0 ∷ 3 ∷ 0 ∷ 0 ∷ 64 ∷ 1 ∷ 64 ∷ 1 ∷ 1 ∷ 1 ∷ 0 ∷ 1 ∷ 65 ∷ 1 ∷ 2 ∷ 0 ∷ 1 ∷ 65 ∷ 0 ∷ []) (0 ∷ 0 ∷ 1 ∷ 5 ∷ 1 ∷ 5 ∷ []) (ended done 1 1 (0 ∷ 1 ∷ 1 ∷ 5 ∷ []))
+    ∷ case 1 names (1 ∷ 12 ∷ 0 ∷ 3 ∷ 0 ∷ 0 ∷ 64 ∷ 1 ∷ 64 ∷ 1 ∷ 1 ∷ 1 ∷ 0 ∷ 1 ∷ 65 ∷ 1 ∷ 2 ∷ 0 ∷ 1 ∷ 65 ∷ 0 ∷ []) (0 ∷ 0 ∷ 1 ∷ 0 ∷ 1 ∷ 0 ∷ []) (ended done 1 0 (0 ∷ 0 ∷ 1 ∷ 0 ∷ 1 ∷ 0 ∷ []))
+    -- a searching part for two neighbours alike: the blank pair fails, and the next node is tried
+    ∷ case 1 (fields 3 (4 ∷ 2 ∷ 1 ∷ 1 ∷ [])) (1 ∷ 12 ∷ 0 ∷ 3 ∷ 0 ∷ 0 ∷ 64 ∷ 1 ∷ 64 ∷ 1 ∷ 1 ∷ 3 ∷ 1 ∷ 0 ∷ 5 ∷ 1 ∷ 0 ∷ 64 ∷ 2 ∷ 1 ∷ 0 ∷ 65 ∷ 2 ∷ 64 ∷ 1 ∷ 4 ∷ 0 ∷ 1 ∷ 1 ∷ 0 ∷ 65 ∷ 2 ∷ 1 ∷ 1 ∷ []) (0 ∷ 0 ∷ 1 ∷ 0 ∷ 2 ∷ 0 ∷ 1 ∷ 0 ∷ 2 ∷ 0 ∷ 1 ∷ 0 ∷ 2 ∷ 5 ∷ 1 ∷ 0 ∷ 2 ∷ 5 ∷ 1 ∷ 1 ∷ 1 ∷ 1 ∷ []) (ended done 1 1 (0 ∷ 1 ∷ 1 ∷ 0 ∷ 2 ∷ 5 ∷ 1 ∷ 1 ∷ []))
+    ∷ case 1 (fields 3 (4 ∷ 2 ∷ 1 ∷ 1 ∷ [])) (1 ∷ 12 ∷ 0 ∷ 3 ∷ 0 ∷ 0 ∷ 64 ∷ 1 ∷ 64 ∷ 1 ∷ 1 ∷ 3 ∷ 1 ∷ 0 ∷ 5 ∷ 1 ∷ 0 ∷ 64 ∷ 2 ∷ 1 ∷ 0 ∷ 65 ∷ 2 ∷ 64 ∷ 1 ∷ 4 ∷ 0 ∷ 1 ∷ 1 ∷ 0 ∷ 65 ∷ 2 ∷ 1 ∷ 1 ∷ []) (0 ∷ 0 ∷ 1 ∷ 0 ∷ 2 ∷ 5 ∷ 1 ∷ 0 ∷ 2 ∷ 0 ∷ 1 ∷ 0 ∷ 2 ∷ 0 ∷ 1 ∷ 1 ∷ 1 ∷ 1 ∷ []) (ended done 1 0 (0 ∷ 0 ∷ 1 ∷ 0 ∷ 2 ∷ 5 ∷ 1 ∷ 0 ∷ 2 ∷ 0 ∷ 1 ∷ 0 ∷ 2 ∷ 0 ∷ 1 ∷ 1 ∷ 1 ∷ 1 ∷ []))
+    -- a parameter: the payer becomes 9 if it is the payee
+    ∷ case 2 names (2 ∷ 8 ∷ 0 ∷ 3 ∷ 0 ∷ 0 ∷ 64 ∷ 1 ∷ 64 ∷ 1 ∷ 6 ∷ 0 ∷ 0 ∷ 66 ∷ 0 ∷ 1 ∷ 0 ∷ 1 ∷ 1 ∷ 65 ∷ 1 ∷ 65 ∷ 1 ∷ 10 ∷ 1 ∷ 1 ∷ 1 ∷ 1 ∷ 65 ∷ 0 ∷ 1 ∷ 1 ∷ 9 ∷ []) (0 ∷ 0 ∷ 1 ∷ 5 ∷ 1 ∷ 5 ∷ []) (ended done 2 1 (0 ∷ 0 ∷ 1 ∷ 9 ∷ 1 ∷ 5 ∷ []))
+    ∷ case 2 names (2 ∷ 8 ∷ 0 ∷ 3 ∷ 0 ∷ 0 ∷ 64 ∷ 1 ∷ 64 ∷ 1 ∷ 6 ∷ 0 ∷ 0 ∷ 66 ∷ 0 ∷ 1 ∷ 0 ∷ 1 ∷ 1 ∷ 65 ∷ 1 ∷ 65 ∷ 1 ∷ 10 ∷ 1 ∷ 1 ∷ 1 ∷ 1 ∷ 65 ∷ 0 ∷ 1 ∷ 1 ∷ 9 ∷ []) (0 ∷ 0 ∷ 1 ∷ 0 ∷ 1 ∷ 0 ∷ []) (ended done 2 1 (0 ∷ 0 ∷ 1 ∷ 0 ∷ 1 ∷ 0 ∷ []))
+    -- a variable that is built
+    ∷ case 1 names (1 ∷ 12 ∷ 0 ∷ 3 ∷ 0 ∷ 0 ∷ 64 ∷ 1 ∷ 64 ∷ 1 ∷ 2 ∷ 4 ∷ 1 ∷ 1 ∷ 1 ∷ 5 ∷ 1 ∷ 0 ∷ 1 ∷ 65 ∷ 2 ∷ 2 ∷ 0 ∷ 1 ∷ 65 ∷ 1 ∷ []) (0 ∷ 0 ∷ 1 ∷ 5 ∷ 1 ∷ 6 ∷ []) (ended done 1 1 (0 ∷ 1 ∷ 1 ∷ 6 ∷ []))
+    ∷ case 1 names (1 ∷ 12 ∷ 0 ∷ 3 ∷ 0 ∷ 0 ∷ 64 ∷ 1 ∷ 64 ∷ 1 ∷ 2 ∷ 4 ∷ 1 ∷ 1 ∷ 1 ∷ 0 ∷ 1 ∷ 0 ∷ 1 ∷ 65 ∷ 2 ∷ 2 ∷ 0 ∷ 1 ∷ 65 ∷ 1 ∷ []) (0 ∷ 0 ∷ 1 ∷ 0 ∷ 1 ∷ 6 ∷ []) (ended done 1 0 (0 ∷ 0 ∷ 1 ∷ 0 ∷ 1 ∷ 6 ∷ []))
+    -- a search: the attempt at two blanks costs what a failed one does
+    ∷ case 9 (4 ∷ 8 ∷ 1 ∷ 1 ∷ 1 ∷ 4 ∷ 2 ∷ 8 ∷ 2 ∷ 2 ∷ 3 ∷ 3 ∷ 1 ∷ 3 ∷ 1 ∷ 1 ∷ []) (1 ∷ 9 ∷ 2 ∷ 2 ∷ 3 ∷ 2 ∷ 0 ∷ 64 ∷ 3 ∷ 65 ∷ 0 ∷ 2 ∷ 2 ∷ 1 ∷ 65 ∷ 0 ∷ []) (0 ∷ 0 ∷ 1 ∷ 0 ∷ 2 ∷ 0 ∷ 3 ∷ 0 ∷ 3 ∷ 0 ∷ 1 ∷ 0 ∷ 2 ∷ 0 ∷ 3 ∷ 5 ∷ 3 ∷ 5 ∷ 1 ∷ 1 ∷ []) (ended done 4 1 (0 ∷ 0 ∷ 1 ∷ 0 ∷ 2 ∷ 0 ∷ 3 ∷ 0 ∷ 3 ∷ 0 ∷ 1 ∷ 0 ∷ 2 ∷ 1 ∷ 3 ∷ 5 ∷ 1 ∷ 1 ∷ []))
     -- 1 to 5, in this order
     ∷ over 4095 16383 0 [] [] [] (refused 1 0)
     ∷ over 4096 16383 0 [] [] [] (refused 2 0)
@@ -328,5 +396,5 @@ table =
     ∷ []
 
 right : found table ≡ given table
-unfolding given found Reader.word Reader.wordIn Reader.many Reader.end Views.equalWords Grammar.typesOf Grammar.field Grammar.element Grammar.form Grammar.kind Grammar.grammar Grammar.allKnown Grammar.anyFormKnown Grammar.finishes Grammar.round Grammar.rounds Grammar.finite Grammar.finiteRecords Grammar.readGrammar Grammar.grammarFits Kinds.kindOf Kinds.allows Kinds.allowed Kinds.childrenOf Kinds.children Kinds.isSequenceKind Kinds.isSequence Kinds.isNumberKind Kinds.isNumber Tree.size Tree.levelsOf Tree.levels Tree.nestingFrom Tree.nesting Tree.areTrees Tree.isTree Tree.first Tree.after Tree.typeOf Tree.put Sequences.elementOf Sequences.spine Sequences.sequenceOf Sequences.elementsIn Sequences.elements Sequences.takenFrom Dues.pairs Dues.whole Reading.duesOf Reading.meetsNode Reading.readTreeOf Rules.operations Rules.applied Rules.shapes Rules.arguments Rules.applications Rules.pairsIn Rules.argumentsWritten Rules.applicationsWritten Rules.chainWritten Rules.unreadable Rules.chainOf Rules.conditionOf Rules.piecesAfter Rules.pieces Layout.strategyOf Layout.stretch Layout.field Layout.pairs Layout.variableAt Layout.deconstructFields Layout.conditionFields Layout.partOf Layout.reach Layout.replacement Layout.mainFits Layout.mainBits Layout.typeField Layout.searchFields Layout.constructFields Layout.partAt Layout.part Layout.parameters Layout.headFields Layout.head Layout.parts Layout.rule Layout.layout Layout.readLayout Layout.rulesFit Wanted.wants Typing.mayStand Typing.isSome Typing.appliesRule Typing.appliesOperation Typing.fitsScope Typing.operatesOn Typing.usable Typing.wantedByEdit Typing.wantedByOperation Typing.wantedBy Typing.newVariable Typing.variable Typing.chain Typing.node Typing.meets Typing.typed Typing.variableThere Typing.partTyped Typing.partsTyped Typing.ruleTyped Typing.mainTarget Typing.rulesTyped Typing.readRules Computation.thenOf Computation.spendOf Computation.spend Computation.stopUnless Computation.surely Computation.check Computation.present Computation.choose Computation.whether Computation.nodesWithin Computation.nestingWithin Computation.liveWithin Rounding.halfEven Operations.rounded Operations.truncated Operations.inRange Operations.divisor Operations.withOne Operations.withNone Operations.compute Operations.compare Operations.valueOf Operations.valuesOf Operations.withValue Operations.isNumberToken Operations.areNumberTokens Edits.position Edits.selected Edits.joined Edits.withOne Edits.withTwo Edits.edited Edits.isSequenceTree Edits.each Edits.editFits Edits.edit Meaning.total Meaning.variable Meaning.variables Meaning.sameTree Meaning.bind Meaning.match Meaning.matchFirst Meaning.areTreesOf Meaning.fits Meaning.begin Meaning.resultAs Meaning.resultOf Meaning.opened Meaning.afterRound Meaning.apply Meaning.applyChain Meaning.fill Meaning.finish Meaning.succeeds Meaning.anySucceeds Meaning.part Meaning.parts Meaning.attempt Meaning.seek Meaning.replace Meaning.turn Meaning.rounds Meaning.callWith Meaning.call Meaning.callMatches Meaning.calls Meaning.runFrom Meaning.run Outcome.callFits Outcome.decode Outcome.endedAs Outcome.outcomeOf Outcome.outcome numbers toFortyTwo twoAndFive elements list lists sequences levels times table
+unfolding given found Reader.word Reader.wordIn Reader.many Reader.end Views.equalWords Grammar.typesOf Grammar.field Grammar.element Grammar.form Grammar.kind Grammar.grammar Grammar.allKnown Grammar.anyFormKnown Grammar.finishes Grammar.round Grammar.rounds Grammar.finite Grammar.finiteRecords Grammar.readGrammar Grammar.grammarFits Kinds.kindOf Kinds.allows Kinds.allowed Kinds.childrenOf Kinds.children Kinds.isSequenceKind Kinds.isSequence Kinds.isNumberKind Kinds.isNumber Kinds.isTextKind Kinds.isText Tree.size Tree.levelsOf Tree.levels Tree.nestingFrom Tree.nesting Tree.areTrees Tree.isTree Tree.first Tree.after Tree.typeOf Tree.put Blanks.isBlank Blanks.holdsBlank Sequences.elementOf Sequences.spine Sequences.sequenceOf Sequences.elementsIn Sequences.elements Sequences.takenFrom Dues.pairs Dues.whole Reading.duesOf Reading.meetsNode Reading.readTreeOf Rules.operations Rules.applied Rules.shapes Rules.arguments Rules.applications Rules.pairsIn Rules.argumentsWritten Rules.applicationsWritten Rules.chainWritten Rules.unreadable Rules.chainOf Rules.conditionOf Rules.piecesAfter Rules.pieces Layout.strategyOf Layout.stretch Layout.field Layout.pairs Layout.variableAt Layout.deconstructFields Layout.conditionFields Layout.partOf Layout.reach Layout.replacement Layout.mainFits Layout.mainBits Layout.typeField Layout.searchFields Layout.constructFields Layout.partAt Layout.part Layout.parameters Layout.headFields Layout.head Layout.parts Layout.rule Layout.layout Layout.readLayout Layout.rulesFit Wanted.wants Typing.mayStand Typing.isSome Typing.appliesRule Typing.appliesOperation Typing.fitsScope Typing.operatesOn Typing.usable Typing.wantedByEdit Typing.wantedByOperation Typing.wantedBy Typing.newVariable Typing.variable Typing.chain Typing.node Typing.meets Typing.typed Typing.variableThere Typing.partTyped Typing.partsTyped Typing.ruleTyped Typing.mainTarget Typing.rulesTyped Typing.readRules Computation.thenOf Computation.spendOf Computation.spend Computation.stopUnless Computation.surely Computation.check Computation.present Computation.choose Computation.whether Computation.nodesWithin Computation.nestingWithin Computation.liveWithin Rounding.halfEven Operations.rounded Operations.truncated Operations.inRange Operations.divisor Operations.withOne Operations.withNone Operations.compute Operations.compare Operations.valueOf Operations.valuesOf Operations.withValue Operations.isNumberToken Operations.areNumberTokens Edits.position Edits.selected Edits.joined Edits.withOne Edits.withTwo Edits.edited Edits.isSequenceTree Edits.each Edits.editFits Edits.edit Meaning.total Meaning.variable Meaning.variables Meaning.sameTree Meaning.bind Meaning.match Meaning.matchFirst Meaning.areTreesOf Meaning.fits Meaning.begin Meaning.resultAs Meaning.resultOf Meaning.opened Meaning.afterRound Meaning.apply Meaning.applyChain Meaning.fill Meaning.finish Meaning.succeeds Meaning.anySucceeds Meaning.part Meaning.parts Meaning.attempt Meaning.seek Meaning.replace Meaning.turn Meaning.rounds Meaning.callWith Meaning.call Meaning.callMatches Meaning.calls Meaning.runFrom Meaning.run Outcome.callFits Outcome.decode Outcome.endedAs Outcome.outcomeOf Outcome.outcome numbers toFortyTwo twoAndFive elements list lists sequences levels times fields names ownAccount both alike blank table
 right = refl

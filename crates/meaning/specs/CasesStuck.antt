@@ -14,6 +14,7 @@ use Rattle.meaning.specs.Meaning.{Ending, done, stopped, cannotGoOn, run
 use Rattle.words.specs.Views as Views
 use Rattle.grammar.specs.Kinds as Kinds
 use Rattle.tree.specs.Tree as Tree
+use Rattle.tree.specs.Blanks as Blanks
 use Rattle.tree.specs.Sequences as Sequences
 use Rattle.meaning.specs.Computation as Computation
 use Rattle.meaning.specs.Rounding as Rounding
@@ -94,5 +95,5 @@ found [] = []
 found (case r s p ∷ more) = run true numbers r tree 9 .ending ∷ run false numbers r tree 9 .ending ∷ found more
 
 right : found table ≡ given table
-unfolding Views.equalWords Kinds.kindOf Kinds.allows Kinds.allowed Kinds.childrenOf Kinds.children Kinds.isSequenceKind Kinds.isSequence Kinds.isNumberKind Kinds.isNumber Tree.size Tree.levelsOf Tree.levels Tree.nestingFrom Tree.nesting Tree.areTrees Tree.isTree Tree.first Tree.after Tree.typeOf Tree.put Sequences.elementOf Sequences.spine Sequences.sequenceOf Sequences.elementsIn Sequences.elements Sequences.takenFrom Computation.thenOf Computation.spendOf Computation.spend Computation.stopUnless Computation.surely Computation.check Computation.present Computation.choose Computation.whether Computation.nodesWithin Computation.nestingWithin Computation.liveWithin Rounding.halfEven Operations.rounded Operations.truncated Operations.inRange Operations.divisor Operations.withOne Operations.withNone Operations.compute Operations.compare Operations.valueOf Operations.valuesOf Operations.withValue Operations.isNumberToken Operations.areNumberTokens Edits.position Edits.selected Edits.joined Edits.withOne Edits.withTwo Edits.edited Edits.isSequenceTree Edits.each Edits.editFits Edits.edit Meaning.total Meaning.variable Meaning.variables Meaning.sameTree Meaning.bind Meaning.match Meaning.matchFirst Meaning.areTreesOf Meaning.fits Meaning.begin Meaning.resultAs Meaning.resultOf Meaning.opened Meaning.afterRound Meaning.apply Meaning.applyChain Meaning.fill Meaning.finish Meaning.succeeds Meaning.anySucceeds Meaning.part Meaning.parts Meaning.attempt Meaning.seek Meaning.replace Meaning.turn Meaning.rounds Meaning.callWith Meaning.call Meaning.callMatches Meaning.calls Meaning.runFrom Meaning.run numbers tree main other apply table given found
+unfolding Views.equalWords Kinds.kindOf Kinds.allows Kinds.allowed Kinds.childrenOf Kinds.children Kinds.isSequenceKind Kinds.isSequence Kinds.isNumberKind Kinds.isNumber Kinds.isTextKind Kinds.isText Tree.size Tree.levelsOf Tree.levels Tree.nestingFrom Tree.nesting Tree.areTrees Tree.isTree Tree.first Tree.after Tree.typeOf Tree.put Blanks.isBlank Blanks.holdsBlank Sequences.elementOf Sequences.spine Sequences.sequenceOf Sequences.elementsIn Sequences.elements Sequences.takenFrom Computation.thenOf Computation.spendOf Computation.spend Computation.stopUnless Computation.surely Computation.check Computation.present Computation.choose Computation.whether Computation.nodesWithin Computation.nestingWithin Computation.liveWithin Rounding.halfEven Operations.rounded Operations.truncated Operations.inRange Operations.divisor Operations.withOne Operations.withNone Operations.compute Operations.compare Operations.valueOf Operations.valuesOf Operations.withValue Operations.isNumberToken Operations.areNumberTokens Edits.position Edits.selected Edits.joined Edits.withOne Edits.withTwo Edits.edited Edits.isSequenceTree Edits.each Edits.editFits Edits.edit Meaning.total Meaning.variable Meaning.variables Meaning.sameTree Meaning.bind Meaning.match Meaning.matchFirst Meaning.areTreesOf Meaning.fits Meaning.begin Meaning.resultAs Meaning.resultOf Meaning.opened Meaning.afterRound Meaning.apply Meaning.applyChain Meaning.fill Meaning.finish Meaning.succeeds Meaning.anySucceeds Meaning.part Meaning.parts Meaning.attempt Meaning.seek Meaning.replace Meaning.turn Meaning.rounds Meaning.callWith Meaning.call Meaning.callMatches Meaning.calls Meaning.runFrom Meaning.run numbers tree main other apply table given found
 right = refl

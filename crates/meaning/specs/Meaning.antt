@@ -10,6 +10,7 @@ use Rattle.words.specs.Reader.{Words, pick, and, or}
 use Rattle.words.specs.Views.{equalWords}
 use Rattle.grammar.specs.Grammar.{Grammar}
 use Rattle.tree.specs.Tree.{size, areTrees, isTree, after, firstTree, typeOf, put}
+use Rattle.tree.specs.Blanks.{holdsBlank}
 use Rattle.rules.specs.Limits.{mostVariables}
 use Rattle.rules.specs.Rules.{Applied, rule, operation, editing, nothing, Shape, node, new, same, Application, Piece, write, copy, chain, Part, deconstruct, search, construct, condition, Strategy, rootOnly, firstMatch, exhaustive, searches, Rule, Rules}
 use Rattle.meaning.specs.Limits.{mostCalls}
@@ -50,9 +51,9 @@ variables env (x ∷ xs) = do
   ts ← variables env xs
   return (t ∷ ts)
 
--- "matching only the same tree"
-unfoldable pub sameTree : Words → Words → Bool
-sameTree t u = equalWords t u
+-- "matching only the same tree"; T-05: "a tree holding a name or string of value 0 matches nothing, itself included"
+unfoldable pub sameTree : Grammar → Words → Words → Bool
+sameTree g t u = and (equalWords t u) (not (holdsBlank g u))
 
 module _ (strict : Bool) (g : Grammar) where
   -- the next variable, of the type t, becomes the tree; "at most 16 a rule"
@@ -77,7 +78,7 @@ module _ (strict : Bool) (g : Grammar) where
   -- "or (65, variable), in a pattern matching only the same tree"
   match (same x ∷ ps) (t ∷ v ∷ ws) b = do
     tree ← variable (b .env) x
-    provided (sameTree tree (firstTree g (t ∷ v ∷ ws))) (match ps (after g (t ∷ v ∷ ws) 1) b)
+    provided (sameTree g tree (firstTree g (t ∷ v ∷ ws))) (match ps (after g (t ∷ v ∷ ws) 1) b)
 
   -- "the first node of that type, parent first and left to right, that matches is taken"; bindings go "in a searching part when a node fails"
   unfoldable pub matchFirst : ℕ → List Shape → Words → Bindings → Comp (Option Bindings)

@@ -25,62 +25,62 @@ use Rattle.rewrite.proofs.Matcher.{Going, going-start, going-type, goin
 -- A PATTERN THAT MUST DIFFER
 
 -- the matcher differs with these variables
-abbrev Differing : Words → Words → Words → ℕ → Vars → ℕ → Type 0
-Differing pairs arena part at vars live = (m : Match) × (m .verdict ≡ Differs) × MatchAnswers pairs arena part at vars live m
+abbrev Differing : Words → Words → Words → Words → ℕ → Vars → ℕ → Type 0
+Differing heads pairs arena part at vars live = (m : Match) × (m .verdict ≡ Differs) × MatchAnswers heads pairs arena part at vars live m
 
 -- the matcher's loop would be here with some variables, unless it has differed before
 pub record Clashing (pairs part : Words) (live total i p : ℕ) : Type 0 where
   pub read : i ≤ length pairs
   pub near : p ≤ 8192 * i
   pub fits : total ≤ 6144
-  so-far : (arena : Words) (at : ℕ) (vars : Vars) → Sound vars → ((env : Vars) × Going pairs arena part at vars live env total i p) ⊎ Differing pairs arena part at vars live
+  so-far : (heads arena : Words) (at : ℕ) (vars : Vars) → Sound vars → ((env : Vars) × Going heads pairs arena part at vars live env total i p) ⊎ Differing heads pairs arena part at vars live
 
 pub clashing-start : (pairs part : Words) (live : ℕ) → live ≤ 6144 → Clashing pairs part live live 0 0
-clashing-start pairs part live h = record { read = omega arith; near = omega arith; fits = h; so-far = λ arena at vars s. inl (vars, going-start pairs arena part at vars live s h) }
+clashing-start pairs part live h = record { read = omega arith; near = omega arith; fits = h; so-far = λ heads arena at vars s. inl (vars, going-start heads pairs arena part at vars live s h) }
 
 module _ (pairs part : Words) (live total i p : ℕ) (cl : Clashing pairs part live total i p) (two : 2 ≤ length pairs - i) (more : p + 2 ≤ length part) (w : ℕ) (ew : w ≡ getD part p 0) where
   -- a difference at this pair, wherever the matcher's loop is
-  differ : ((arena : Words) (at : ℕ) (vars env : Vars) → Going pairs arena part at vars live env total i p → MatchAnswers pairs arena part at vars live (record { verdict = Differs; vars = env; live = total })) → Clashes pairs part live
-  differ f = record { clash = λ arena at vars s. ⊎-elim (λ x. (record { verdict = Differs; vars = x .0; live = total }, refl, f arena at vars (x .0) (x .1))) (λ d. d) (cl .so-far arena at vars s) }
+  differ : ((heads arena : Words) (at : ℕ) (vars env : Vars) → Going heads pairs arena part at vars live env total i p → MatchAnswers heads pairs arena part at vars live (record { verdict = Differs; vars = env; live = total })) → Clashes pairs part live
+  differ f = record { clash = λ heads arena at vars s. ⊎-elim (λ x. (record { verdict = Differs; vars = x .0; live = total }, refl, f heads arena at vars (x .0) (x .1))) (λ d. d) (cl .so-far heads arena at vars s) }
 
   -- one pair on
   on : (total′ p′ : ℕ) → total′ ≤ 6144 → p′ ≤ p + 8192
-      → ((arena : Words) (at : ℕ) (vars env : Vars) → Going pairs arena part at vars live env total i p → ((env′ : Vars) × Going pairs arena part at vars live env′ total′ (i + 2) p′) ⊎ Differing pairs arena part at vars live)
+      → ((heads arena : Words) (at : ℕ) (vars env : Vars) → Going heads pairs arena part at vars live env total i p → ((env′ : Vars) × Going heads pairs arena part at vars live env′ total′ (i + 2) p′) ⊎ Differing heads pairs arena part at vars live)
       → Clashing pairs part live total′ (i + 2) p′
   on total′ p′ h k f = record {
     read = omega (arith, cl .read);
     near = omega (arith, cl .near);
     fits = h;
-    so-far = λ arena at vars s. ⊎-elim (λ x. f arena at vars (x .0) (x .1)) inr (cl .so-far arena at vars s);
+    so-far = λ heads arena at vars s. ⊎-elim (λ x. f heads arena at vars (x .0) (x .1)) inr (cl .so-far heads arena at vars s);
   }
 
   module _ (not-new : getD pairs i 0 ≡ 64 → ⊥) (not-same : getD pairs i 0 ≡ 65 → ⊥) where
     pub clashing-type : (typeIn w ≡ getD pairs i 0 → ⊥) → Clashes pairs part live
-    clashing-type h = differ (λ arena at vars env go. going-type pairs arena part at vars live env total i p go two more w ew not-new not-same h)
+    clashing-type h = differ (λ heads arena at vars env go. going-type heads pairs arena part at vars live env total i p go two more w ew not-new not-same h)
 
     pub clashing-value : (y : ℕ) → y ≡ getD part (p + 1) 0 → typeIn w ≡ getD pairs i 0 → (y ≡ getD pairs (i + 1) 0 → ⊥) → Clashes pairs part live
-    clashing-value y ey et h = differ (λ arena at vars env go. going-value pairs arena part at vars live env total i p go two more w ew not-new not-same y ey et h)
+    clashing-value y ey et h = differ (λ heads arena at vars env go. going-value heads pairs arena part at vars live env total i p go two more w ew not-new not-same y ey et h)
 
     pub clashing-node : (y : ℕ) → y ≡ getD part (p + 1) 0 → typeIn w ≡ getD pairs i 0 → y ≡ getD pairs (i + 1) 0 → Clashing pairs part live total (i + 2) (p + 2)
     clashing-node y ey et ev = on total (p + 2) (cl .fits) (omega arith)
-        (λ arena at vars env go. inl (env, going-node pairs arena part at vars live env total i p go two more w ew not-new not-same y ey et ev))
+        (λ heads arena at vars env go. inl (env, going-node heads pairs arena part at vars live env total i p go two more w ew not-new not-same y ey et ev))
 
   module _ (is : getD pairs i 0 ≡ 64) where
     pub clashing-other : (typeIn w ≡ getD pairs (i + 1) 0 → ⊥) → Clashes pairs part live
-    clashing-other h = differ (λ arena at vars env go. new-other pairs arena part at vars live env total i p go two more w ew is (at + p) refl h)
+    clashing-other h = differ (λ heads arena at vars env go. new-other heads pairs arena part at vars live env total i p go two more w ew is (at + p) refl h)
 
     pub clashing-new : typeIn w ≡ getD pairs (i + 1) 0 → (n : ℕ) → n ≡ sizeIn w → n < 4096 → total + n ≤ 6144 → Clashing pairs part live (total + n) (i + 2) (p + 2 * n)
-    clashing-new t n en small h = on (total + n) (p + 2 * n) h (omega arith) (λ arena at vars env go. bind arena at vars env go (ltb (env .n) 16) refl)
+    clashing-new t n en small h = on (total + n) (p + 2 * n) h (omega arith) (λ heads arena at vars env go. bind heads arena at vars env go (ltb (env .n) 16) refl)
       where
-        bind : (arena : Words) (at : ℕ) (vars env : Vars) → Going pairs arena part at vars live env total i p → (b : Bool) → ltb (env .n) 16 ≡ b
-            → ((env′ : Vars) × Going pairs arena part at vars live env′ (total + n) (i + 2) (p + 2 * n)) ⊎ Differing pairs arena part at vars live
-        bind arena at vars env go true e =
-            inl (bound env (at + p), rw en (new-taken pairs arena part at vars live env total i p go two more w ew is (at + p) refl t (omega arith) (ltb-true (env .n) 16 e)))
-        bind arena at vars env go false e =
+        bind : (heads arena : Words) (at : ℕ) (vars env : Vars) → Going heads pairs arena part at vars live env total i p → (b : Bool) → ltb (env .n) 16 ≡ b
+            → ((env′ : Vars) × Going heads pairs arena part at vars live env′ (total + n) (i + 2) (p + 2 * n)) ⊎ Differing heads pairs arena part at vars live
+        bind heads arena at vars env go true e =
+            inl (bound env (at + p), rw en (new-taken heads pairs arena part at vars live env total i p go two more w ew is (at + p) refl t (omega arith) (ltb-true (env .n) 16 e)))
+        bind heads arena at vars env go false e =
             inr (
               record { verdict = Differs; vars = env; live = total },
               refl,
-              new-past pairs arena part at vars live env total i p go two more w ew is (at + p) refl t (omega arith) (ltb-false (env .n) 16 e),
+              new-past heads pairs arena part at vars live env total i p go two more w ew is (at + p) refl t (omega arith) (ltb-false (env .n) 16 e),
             )
 
 -- a pattern whose first pair is a node, at a part that begins with a node of its type

@@ -63,30 +63,30 @@ or-stop n left k = refl
 
 -- THE LOOP
 
-record Run (strict : Bool) (g : Grammar) (ty : ℕ) (pairs arena part : Words) (at : ℕ) (vars : Vars) (live p : ℕ) (ws : Words) (b : Bindings) (left : State) : Type 0 where
+record Run (heads : Words) (strict : Bool) (g : Grammar) (ty : ℕ) (pairs arena part : Words) (at : ℕ) (vars : Vars) (live p : ℕ) (ws : Words) (b : Bindings) (left : State) : Type 0 where
   inside : p ≤ length part
   rest : Words
   types : List ℕ
-  stage : Stage g arena (drop p part) (at + p) vars live rest types b
+  stage : Stage heads g arena (drop p part) (at + p) vars live rest types b
   same-run : matchFirst strict g ty (shapes pairs) ws b left ≡ matchFirst strict g ty (shapes pairs) rest b left
 
-pub record Finding (ty : ℕ) (pairs arena part : Words) (at : ℕ) (vars : Vars) (live p : ℕ) : Type 0 where
+pub record Finding (heads : Words) (ty : ℕ) (pairs arena part : Words) (at : ℕ) (vars : Vars) (live p : ℕ) : Type 0 where
   pub near : p ≤ length part
   pub sound : Sound vars
   pub fits : live ≤ 6144
-  run : (strict : Bool) (g : Grammar) (ws : Words) (ts : List ℕ) (b : Bindings) (left : State) → Stage g arena part at vars live ws ts b
-      → (matchFirst strict g ty (shapes pairs) ws b left ≡ stuck → ⊥) → Run strict g ty pairs arena part at vars live p ws b left
+  run : (strict : Bool) (g : Grammar) (ws : Words) (ts : List ℕ) (b : Bindings) (left : State) → Stage heads g arena part at vars live ws ts b
+      → (matchFirst strict g ty (shapes pairs) ws b left ≡ stuck → ⊥) → Run heads strict g ty pairs arena part at vars live p ws b left
 
-pub finding-start : (ty : ℕ) (pairs arena part : Words) (at : ℕ) (vars : Vars) (live : ℕ) → Sound vars → live ≤ 6144 → Finding ty pairs arena part at vars live 0
-finding-start ty pairs arena part at vars live s l = record {
+pub finding-start : (heads : Words) (ty : ℕ) (pairs arena part : Words) (at : ℕ) (vars : Vars) (live : ℕ) → Sound vars → live ≤ 6144 → Finding heads ty pairs arena part at vars live 0
+finding-start heads ty pairs arena part at vars live s l = record {
   near = omega arith;
   sound = s;
   fits = l;
   run = λ strict g ws ts b left st ns. let z : at + 0 ≡ at = omega arith in record { inside = omega arith; rest = ws; types = ts; stage = rw z st; same-run = refl };
 }
 
-module _ (ty : ℕ) (pairs arena part : Words) (at : ℕ) (vars : Vars) (live p : ℕ) (go : Finding ty pairs arena part at vars live p) where
-  pub finding-none : length part - p < 2 → (now : Vars) → Sound now → Kept vars now → (r : Match) → r ≡ record { verdict = Differs; vars = now; live = live } → FirstAnswers ty pairs arena part at vars live r
+module _ (heads : Words) (ty : ℕ) (pairs arena part : Words) (at : ℕ) (vars : Vars) (live p : ℕ) (go : Finding heads ty pairs arena part at vars live p) where
+  pub finding-none : length part - p < 2 → (now : Vars) → Sound now → Kept vars now → (r : Match) → r ≡ record { verdict = Differs; vars = now; live = live } → FirstAnswers heads ty pairs arena part at vars live r
   finding-none h now sn kn r er strict = rw er (record {
     sound = sn;
     kept = kn;
@@ -99,16 +99,16 @@ module _ (ty : ℕ) (pairs arena part : Words) (at : ℕ) (vars : Vars) (live p 
   })
 
   module _ (two : 2 ≤ length part - p) (w : ℕ) (ew : w ≡ getD part p 0) where
-    here : {strict : Bool} {g : Grammar} {ws : Words} {b : Bindings} {left : State} (r : Run strict g ty pairs arena part at vars live p ws b left) → Node g (drop p part) (r .rest) (r .types)
-    here r = node-of _ (drop p part) (r .rest) (r .types) (r .stage .types) (r .stage .rest) (r .stage .marks) (omega (arith, length-drop p part))
+    here : {strict : Bool} {g : Grammar} {ws : Words} {b : Bindings} {left : State} (r : Run heads strict g ty pairs arena part at vars live p ws b left) → Node g (drop p part) (r .rest) (r .types)
+    here r = node-of _ (drop p part) (r .rest) (r .types) (r .stage .tables .types) (r .stage .rest) (r .stage .marks) (omega (arith, length-drop p part))
 
-    type-is : {strict : Bool} {g : Grammar} {ws : Words} {b : Bindings} {left : State} (r : Run strict g ty pairs arena part at vars live p ws b left) → typeIn w ≡ here r .t
+    type-is : {strict : Bool} {g : Grammar} {ws : Words} {b : Bindings} {left : State} (r : Run heads strict g ty pairs arena part at vars live p ws b left) → typeIn w ≡ here r .t
     type-is r = ap typeIn (ew ∙ ap (λ n. getD part n 0) (sym (add-zero p)) ∙ sym (getD-drop p part 0 0)) ∙ here r .type-in
 
     -- one node on
-    on : {strict : Bool} {g : Grammar} {ws : Words} {b : Bindings} {left : State} (r : Run strict g ty pairs arena part at vars live p ws b left)
+    on : {strict : Bool} {g : Grammar} {ws : Words} {b : Bindings} {left : State} (r : Run heads strict g ty pairs arena part at vars live p ws b left)
         → matchFirst strict g ty (shapes pairs) (here r .t ∷ here r .v ∷ here r .below) b left ≡ matchFirst strict g ty (shapes pairs) (here r .below) b left
-        → Run strict g ty pairs arena part at vars live (p + 2) ws b left
+        → Run heads strict g ty pairs arena part at vars live (p + 2) ws b left
     on {strict} {g} {ws} {b} {left} r e =
         let n = here r in
         record {
@@ -120,7 +120,7 @@ module _ (ty : ℕ) (pairs arena part : Words) (at : ℕ) (vars : Vars) (live p 
           same-run = r .same-run ∙ ap (λ x. matchFirst strict g ty (shapes pairs) x b left) (n .is) ∙ e;
         }
 
-    pub finding-other : (typeIn w ≡ ty → ⊥) → Finding ty pairs arena part at vars live (p + 2)
+    pub finding-other : (typeIn w ≡ ty → ⊥) → Finding heads ty pairs arena part at vars live (p + 2)
     finding-other h = record {
       near = omega arith;
       sound = go .sound;
@@ -128,16 +128,16 @@ module _ (ty : ℕ) (pairs arena part : Words) (at : ℕ) (vars : Vars) (live p 
       run = λ strict g ws ts b left st ns. let r = go .run strict g ws ts b left st ns in on r (other-type strict g ty (shapes pairs) b left (here r .t) (here r .v) (here r .below) (λ e. h (type-is r ∙ e)));
     }
 
-    module _ (is : typeIn w ≡ ty) (m : Match) (x : Words) (ex : x ≡ drop p part) (matched : MatchAnswers pairs arena x (at + p) vars live m) where
+    module _ (is : typeIn w ≡ ty) (m : Match) (x : Words) (ex : x ≡ drop p part) (matched : MatchAnswers heads pairs arena x (at + p) vars live m) where
       -- the definition here: this node's match, or else the others'
-      at-this : {strict : Bool} {g : Grammar} {ws : Words} {b : Bindings} {left : State} (r : Run strict g ty pairs arena part at vars live p ws b left)
+      at-this : {strict : Bool} {g : Grammar} {ws : Words} {b : Bindings} {left : State} (r : Run heads strict g ty pairs arena part at vars live p ws b left)
           → matchFirst strict g ty (shapes pairs) ws b left ≡ orElse (match strict g (shapes pairs) (r .rest) b left) (matchFirst strict g ty (shapes pairs) (here r .below) b)
       at-this {strict} {g} {ws} {b} {left} r =
           let n = here r in
           r .same-run ∙ ap (λ y. matchFirst strict g ty (shapes pairs) y b left) (n .is) ∙ this-type strict g ty (shapes pairs) b left (n .t) (n .v) (n .below) (sym (type-is r) ∙ is)
           ∙ ap (λ y. orElse (match strict g (shapes pairs) y b left) (matchFirst strict g ty (shapes pairs) (n .below) b)) (sym (n .is))
 
-      this-match : {strict : Bool} {g : Grammar} {ws : Words} {b : Bindings} {left : State} (r : Run strict g ty pairs arena part at vars live p ws b left) → (matchFirst strict g ty (shapes pairs) ws b left ≡ stuck → ⊥)
+      this-match : {strict : Bool} {g : Grammar} {ws : Words} {b : Bindings} {left : State} (r : Run heads strict g ty pairs arena part at vars live p ws b left) → (matchFirst strict g ty (shapes pairs) ws b left ≡ stuck → ⊥)
           → Means g arena (b .besides) (m .verdict) (m .vars) (m .live) left (match strict g (shapes pairs) (r .rest) b left)
       this-match {strict} {g} {ws} {b} {left} r ns =
           matched strict .meant g (r .rest) (r .types) b left (rw ex (r .stage))
@@ -145,8 +145,8 @@ module _ (ty : ℕ) (pairs arena part : Words) (at : ℕ) (vars : Vars) (live p 
 
       -- a verdict that ends the search
       found : (v : Verdict) → m .verdict ≡ v
-          → ((strict : Bool) (g : Grammar) (ws : Words) (b : Bindings) (left : State) (r : Run strict g ty pairs arena part at vars live p ws b left) → Means g arena (b .besides) v (m .vars) (m .live) left (match strict g (shapes pairs) (r .rest) b left)
-          → Means g arena (b .besides) v (m .vars) (m .live) left (matchFirst strict g ty (shapes pairs) ws b left)) → FirstAnswers ty pairs arena part at vars live m
+          → ((strict : Bool) (g : Grammar) (ws : Words) (b : Bindings) (left : State) (r : Run heads strict g ty pairs arena part at vars live p ws b left) → Means g arena (b .besides) v (m .vars) (m .live) left (match strict g (shapes pairs) (r .rest) b left)
+          → Means g arena (b .besides) v (m .vars) (m .live) left (matchFirst strict g ty (shapes pairs) ws b left)) → FirstAnswers heads ty pairs arena part at vars live m
       found v e f strict = record {
         sound = matched strict .sound;
         kept = matched strict .kept;
@@ -157,15 +157,15 @@ module _ (ty : ℕ) (pairs arena part : Words) (at : ℕ) (vars : Vars) (live p 
             rw e (f strict g ws b left r (rw e at (this-match r ns)));
       }
 
-      pub finding-matches : m .verdict ≡ Matches → FirstAnswers ty pairs arena part at vars live m
+      pub finding-matches : m .verdict ≡ Matches → FirstAnswers heads ty pairs arena part at vars live m
       finding-matches e = found Matches e (λ strict g ws b left r q.
           (q .0, q .1, q .2, at-this r ∙ ap (λ y. orElse y (matchFirst strict g ty (shapes pairs) (here r .below) b)) (q .3) ∙ or-some (bindings (q .0) (b .besides)) left (matchFirst strict g ty (shapes pairs) (here r .below) b)))
 
-      pub finding-stops : {n : ℕ} → m .verdict ≡ Stops n → FirstAnswers ty pairs arena part at vars live m
+      pub finding-stops : {n : ℕ} → m .verdict ≡ Stops n → FirstAnswers heads ty pairs arena part at vars live m
       finding-stops {n} e = found (Stops n) e (λ strict g ws b left r q.
           at-this r ∙ ap (λ y. orElse y (matchFirst strict g ty (shapes pairs) (here r .below) b)) q ∙ or-stop n left (matchFirst strict g ty (shapes pairs) (here r .below) b))
 
-      pub finding-differs : m .verdict ≡ Differs → Finding ty pairs arena part at vars live (p + 2)
+      pub finding-differs : m .verdict ≡ Differs → Finding heads ty pairs arena part at vars live (p + 2)
       finding-differs e = record {
         near = omega arith;
         sound = go .sound;
@@ -173,8 +173,8 @@ module _ (ty : ℕ) (pairs arena part : Words) (at : ℕ) (vars : Vars) (live p 
         run = λ strict g ws ts b left st ns. stepped strict g ws b left ns (go .run strict g ws ts b left st ns);
       }
         where
-          stepped : (strict : Bool) (g : Grammar) (ws : Words) (b : Bindings) (left : State) → (matchFirst strict g ty (shapes pairs) ws b left ≡ stuck → ⊥) → Run strict g ty pairs arena part at vars live p ws b left
-              → Run strict g ty pairs arena part at vars live (p + 2) ws b left
+          stepped : (strict : Bool) (g : Grammar) (ws : Words) (b : Bindings) (left : State) → (matchFirst strict g ty (shapes pairs) ws b left ≡ stuck → ⊥) → Run heads strict g ty pairs arena part at vars live p ws b left
+              → Run heads strict g ty pairs arena part at vars live (p + 2) ws b left
           stepped strict g ws b left ns r =
               let n = here r in
               let q : match strict g (shapes pairs) (r .rest) b left ≡ ok none left = rw e at (this-match r ns) in

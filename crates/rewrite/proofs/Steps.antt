@@ -8,7 +8,6 @@ use native.Mathlib.Omega.{arith}
 use lib.ListN.{length, getElem?}
 use borrow.Author.Tests.{eq-eqb, ne-eqb, le-leb, lt-leb, lt-ltb, le-ltb}
 use Rattle.words.specs.Reader.{Words}
-use Rattle.words.specs.Views.{equalWords}
 use Rattle.grammar.specs.Grammar.{Grammar}
 use Rattle.tree.specs.Tree.{size, isTree, after, firstTree}
 use Rattle.rules.specs.Rules.{Shape, node, new, same, shapes}
@@ -87,10 +86,10 @@ module _ (strict : Bool) (g : Grammar) (ps : List Shape) (b : Bindings) (left : 
     unfolding match variable present thenOf
     same-unbound x e = rw e
 
-    pub same-other : (x : ℕ) (u : Words) → getElem? (b .env) x ≡ some u → equalWords u (firstTree g (t ∷ v ∷ ws)) ≡ false → match strict g (same x ∷ ps) (t ∷ v ∷ ws) b left ≡ ok none left
-    unfolding match variable present thenOf choose sameTree
+    pub same-other : (x : ℕ) (u : Words) → getElem? (b .env) x ≡ some u → sameTree g u (firstTree g (t ∷ v ∷ ws)) ≡ false → match strict g (same x ∷ ps) (t ∷ v ∷ ws) b left ≡ ok none left
+    unfolding match variable present thenOf choose
     same-other x u e h = rw (e, h)
 
-    pub same-there : (x : ℕ) (u : Words) → getElem? (b .env) x ≡ some u → equalWords u (firstTree g (t ∷ v ∷ ws)) ≡ true → match strict g (same x ∷ ps) (t ∷ v ∷ ws) b left ≡ match strict g ps (after g (t ∷ v ∷ ws) 1) b left
-    unfolding match variable present thenOf choose sameTree
+    pub same-there : (x : ℕ) (u : Words) → getElem? (b .env) x ≡ some u → sameTree g u (firstTree g (t ∷ v ∷ ws)) ≡ true → match strict g (same x ∷ ps) (t ∷ v ∷ ws) b left ≡ match strict g ps (after g (t ∷ v ∷ ws) 1) b left
+    unfolding match variable present thenOf choose
     same-there x u e h = rw (e, h)

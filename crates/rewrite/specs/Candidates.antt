@@ -16,7 +16,7 @@ use Rattle.rewrite.specs.declared.candidates.First.{First}
 
 -- the pattern differs from the tree that the part begins with, whatever the variables are
 pub record Clashes (pairs part : Words) (live : ℕ) : Type 0 where
-  pub clash : (arena : Words) (at : ℕ) (vars : Vars) → Sound vars → (m : Match) × (m .verdict ≡ Differs) × MatchAnswers pairs arena part at vars live m
+  pub clash : (heads arena : Words) (at : ℕ) (vars : Vars) → Sound vars → (m : Match) × (m .verdict ≡ Differs) × MatchAnswers heads pairs arena part at vars live m
 
 -- the pattern's first pair has the target's type, so that it is a node wherever there is a node of that type
 abbrev pub BeginsWithNode : Words → ℕ → Type 0

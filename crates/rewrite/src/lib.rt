@@ -5,11 +5,12 @@
 use rules::limits::MARK_NEW;
 use rules::limits::MARK_VARIABLE;
 use rules::limits::MOST_VARIABLES;
+use tables::HEADS;
 ghost use mathlib.Core.Path.{_≡_};
 ghost use Prim.Native.Nat.{_+_, _<_, _≤_, _^_};
 ghost use lib.ListN.{length};
 ghost use Rattle.rewrite.specs.Vars.{varsOf, startAt, Sound};
-ghost use Rattle.rewrite.specs.Matching.{NewTold, PairTold, failedBy, matchIn, MatchAnswers, FirstAnswers};
+ghost use Rattle.rewrite.specs.Matching.{NewTold, VariableTold, PairTold, failedBy, matchIn, MatchAnswers, FirstAnswers};
 ghost use Rattle.rewrite.specs.declared.Verdict as Verdict;
 
 pub mod arena;
@@ -91,9 +92,21 @@ fn new_words(w: u32, ty: u32, n: usize, live: usize) -> usize
     2 * size
 }
 
+// Does a variable whose tree stands at `start` match the tree that the part begins with? Most are found to differ: only an equal one is asked for blanks.
+fn matches_variable(heads: &[u32; HEADS], arena: &[u32], start: usize, part: &[u32]) -> bool
+    requires { ⌜ start < 2 ^ 32 ⌝ }
+    ensures { λ r. ⌜ VariableTold (now (heads .entry)) (now (arena .entry)) start (now (part .entry)) r ⌝ }
+{
+    if marks::same_tree(arena, start, part) {
+        return !marks::holds_blank(heads, part);
+    }
+    false
+}
+
 // How many words the pair (t, v) takes up at p of the part, with n variables bound, if the tree of the variable v stands at `start`; 0 if it differs, 1 if too many
 // nodes would be live.
 fn pair_words(
+    heads: &[u32; HEADS],
     t: u32,
     v: u32,
     arena: &[u32],
@@ -104,7 +117,7 @@ fn pair_words(
     live: usize,
 ) -> usize
     requires { ⌜ (start < 2 ^ 32) × (p < 2 ^ 32) × (live ≤ 6144) ⌝ }
-    ensures { λ r. ⌜ PairTold (now (arena .entry)) (now (part .entry)) t v start p n live r × (r < 8192) ⌝ }
+    ensures { λ r. ⌜ PairTold (now (heads .entry)) (now (arena .entry)) (now (part .entry)) t v start p n live r × (r < 8192) ⌝ }
 {
     if part.len() < p + 2 {
         return 0;
@@ -114,7 +127,7 @@ fn pair_words(
         return new_words(w, v, n, live);
     }
     if t == MARK_VARIABLE {
-        if marks::same_tree(arena, start, &part[p..]) {
+        if matches_variable(heads, arena, start, &part[p..]) {
             return 2 * marks::size_in(w);
         }
         return 0;
@@ -142,7 +155,8 @@ fn failed(passed: usize, bound: usize, live: usize) -> Matched
     }
 }
 
-// The pattern's pairs set against the tree that the part of the arena begins with, at `at`.
+// The pattern's pairs set against the tree that the part of the arena begins with, at `at`. The table stands last, since few patterns come to it: what stands first
+// is handed on in registers.
 pub fn match_pattern(
     pairs: &[u32],
     arena: &[u32],
@@ -151,9 +165,10 @@ pub fn match_pattern(
     places: &mut [u32; MOST_VARIABLES],
     bound: usize,
     held: usize,
+    heads: &[u32; HEADS],
 ) -> Matched
     requires { ⌜ (length (now pairs) ≤ 256) × (at < 2 ^ 20) × Sound (varsOf (now places) bound) × (held ≤ 6144) ⌝ }
-    ensures { λ r. ⌜ MatchAnswers (now (pairs .entry)) (now (arena .entry)) (now (part .entry)) at (varsOf (now (places .entry)) bound) held (matchIn (now (places .exit)) r) ⌝ }
+    ensures { λ r. ⌜ MatchAnswers (now (heads .entry)) (now (pairs .entry)) (now (arena .entry)) (now (part .entry)) at (varsOf (now (places .entry)) bound) held (matchIn (now (places .exit)) r) ⌝ }
 {
     let mut n = bound;
     let mut live = held;
@@ -163,7 +178,7 @@ pub fn match_pattern(
         let t = pairs[i];
         let v = pairs[i + 1];
         let start = start_in(places, n, v);
-        let passed = pair_words(t, v, arena, start, part, p, n, live);
+        let passed = pair_words(heads, t, v, arena, start, part, p, n, live);
         if passed < 2 {
             return failed(passed, n, live);
         }
@@ -191,14 +206,15 @@ pub fn match_first(
     places: &mut [u32; MOST_VARIABLES],
     bound: usize,
     live: usize,
+    heads: &[u32; HEADS],
 ) -> Matched
     requires { ⌜ (length (now pairs) ≤ 256) × (at + length (now part) < 2 ^ 20) × Sound (varsOf (now places) bound) × (live ≤ 6144) ⌝ }
-    ensures { λ r. ⌜ FirstAnswers ty (now (pairs .entry)) (now (arena .entry)) (now (part .entry)) at (varsOf (now (places .entry)) bound) live (matchIn (now (places .exit)) r) ⌝ }
+    ensures { λ r. ⌜ FirstAnswers (now (heads .entry)) ty (now (pairs .entry)) (now (arena .entry)) (now (part .entry)) at (varsOf (now (places .entry)) bound) live (matchIn (now (places .exit)) r) ⌝ }
 {
     let mut p: usize = 0;
     while 2 <= part.len() - p {
         if marks::type_in(part[p]) == ty {
-            let m = match_pattern(pairs, arena, &part[p..], at + p, places, bound, live);
+            let m = match_pattern(pairs, arena, &part[p..], at + p, places, bound, live, heads);
             let verdict = m.verdict;
             match verdict {
                 Verdict::Matches => {

@@ -2,7 +2,7 @@
 use Prim.Native.Nat.{ℕ, suc, _+_, _*_, _<_, _≤_}
 use mathlib.Core.Path.{_≡_, refl, sym, ap}
 use mathlib.Core.List.{List, [], _∷_}
-use mathlib.Core.Bool.{Bool, true, false}
+use mathlib.Core.Bool.{Bool, true, false, not}
 use native.Mathlib.Omega.{arith}
 use lib.ListN.{length, getD, List·getD-eq-default}
 use lib.Dec.{ltb, eqb}
@@ -10,7 +10,7 @@ use borrow.Author.Tests.{eq-eqb, ne-eqb}
 use Rattle.words.specs.Reader.{pick, or}
 use Rattle.grammar.specs.Limits.{greatestName, greatestNumber}
 use Rattle.grammar.specs.Grammar.{repeat, list, Kind, token, opt, sequence, forms, Grammar}
-use Rattle.grammar.specs.Kinds.{kindOf, allowed, childrenOf, children, isSequenceKind, isSequence, isNumberKind, isNumber}
+use Rattle.grammar.specs.Kinds.{kindOf, allowed, childrenOf, children, isSequenceKind, isSequence, isNumberKind, isNumber, isTextKind, isText}
 use Rattle.grammar.specs.Values.{valuesOf}
 use Rattle.grammar.proofs.Values.{values-allow}
 use Rattle.tables.specs.Tables.{mapOf, isToken, formsOf, Heads, Rows, rowAt, Counted}
@@ -83,6 +83,21 @@ values-number (forms fs) h = ne-eqb (length fs) (greatestNumber + 1) (λ e. omeg
 pub number-by : (g : Grammar) (t n : ℕ) → length (formsOf (kindOf g t)) ≤ 16 → n ≡ valuesOf (kindOf g t) → eqb n (greatestNumber + 1) ≡ isNumber g t
 unfolding isNumber
 number-by g t n h e = rw e (values-number (kindOf g t) h)
+
+values-text : (k : Kind) → length (formsOf k) ≤ 16 → eqb (valuesOf k) (greatestName + 1) ≡ isTextKind k
+unfolding valuesOf isTextKind formsOf
+values-text (token c) h = go (eqb c 2)
+  where
+    go : (b : Bool) → eqb (pick b (greatestNumber + 1) (greatestName + 1)) (greatestName + 1) ≡ not b
+    go true = refl
+    go false = refl
+values-text (opt e) h = refl
+values-text (sequence style e) h = refl
+values-text (forms fs) h = ne-eqb (length fs) (greatestName + 1) (λ e. omega arith)
+
+pub text-by : (g : Grammar) (t n : ℕ) → length (formsOf (kindOf g t)) ≤ 16 → n ≡ valuesOf (kindOf g t) → eqb n (greatestName + 1) ≡ isText g t
+unfolding isText
+text-by g t n h e = rw e (values-text (kindOf g t) h)
 
 -- ROWS
 

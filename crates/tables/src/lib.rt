@@ -15,7 +15,7 @@ ghost use lib.Dec.{ltb};
 ghost use Rattle.words.specs.Reader as Reader;
 ghost use Rattle.words.specs.Reader.{accepted, or};
 ghost use Rattle.grammar.specs.Grammar as Grammar;
-ghost use Rattle.grammar.specs.Kinds.{kindOf, allowed, children, isNumber, isSequence};
+ghost use Rattle.grammar.specs.Kinds.{kindOf, allowed, children, isNumber, isSequence, isText};
 ghost use Rattle.grammar.specs.Values.{valuesOf};
 ghost use Rattle.tables.specs.Tables.{Tables, InHeads, InRows, Counted, mapOf, isToken, readOf};
 ghost use Rattle.tables.specs.Filling.{typeCount, kindRead, ElementPut, FormPut, FormsPut, KindPut};
@@ -217,6 +217,14 @@ pub fn is_number(heads: &[u32; HEADS], t: u32) -> bool
 {
     let n = values(heads, t);
     n == NUMBERS
+}
+
+// Is the type a name or a string? No other type has as many values.
+pub fn is_text(heads: &[u32; HEADS], t: u32) -> bool
+    ensures { λ r. ⌜ InHeads (now (heads .entry)) (λ g. r ≡ isText g t) ⌝ }
+{
+    let n = values(heads, t);
+    n == NAMES
 }
 
 // How many children a node has.

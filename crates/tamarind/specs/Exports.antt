@@ -87,6 +87,6 @@ pub record Posts (ending filled : ℕ) (result tree : Words) (p : Posting) : Typ
 abbrev pub PostsOutput : Type 0
 PostsOutput = (ending filled : ℕ) (result tree : Words) → Posts ending filled result tree (posting ending filled (length result) (length tree))
 
--- THE EDITION of the exported functions: 0 is document 01, and a change request that a caller can see sets its own number: 1 is T-01, 2 is T-02, 4 is T-04
+-- THE EDITION of the exported functions: 0 is document 01, and a change request that a caller can see sets its own number: 1 is T-01, 2 is T-02, 4 is T-04, 5 is T-05
 abbrev pub edition : ℕ
-edition = 4
+edition = 5

@@ -417,8 +417,8 @@ pub extern "C" fn tamarind_run(
     export_run(r)
 }
 
-// 0 is document 01, and a change request that a caller can see sets its own number: 1 is T-01, 2 is T-02.
-const EDITION: u32 = 4;
+// The number of the last change request that a caller can see.
+const EDITION: u32 = 5;
 
 // The edition of these functions: a caller asks whether it was written for this one.
 #[no_mangle]

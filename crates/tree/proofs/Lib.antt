@@ -3,6 +3,7 @@ pub mod Trees
 pub mod Forest
 pub mod Places
 pub mod Rest
+pub mod Blanks
 pub mod Sequences
 pub mod Dues
 pub mod Accepted

@@ -1,6 +1,7 @@
 pub mod Limits
 pub mod Tree
 pub mod Rest
+pub mod Blanks
 pub mod Sequences
 pub mod Forest
 pub mod Dues

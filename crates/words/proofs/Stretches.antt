@@ -12,6 +12,7 @@ use lib.Dec.{eqb, ltb}
 use borrow.Author.Tests.{eq-eqb, ne-eqb, eqb-true, ltb-true, ltb-false}
 use Rattle.words.specs.Reader.{pick, and}
 use Rattle.words.specs.Views.{equalWords}
+use Rattle.words.proofs.Laws.{and-true}
 
 -- a part to the end
 pub part-rest : (i : ℕ) (ws : List ℕ) → take (length ws - i) (drop i ws) ≡ drop i ws
@@ -94,12 +95,30 @@ module _ (a b : List ℕ) (i : ℕ) (inv : equalWords a b ≡ equalWords (drop i
   pub equal-differs : i < length a → (getD a i 0 ≡ getD b i 0 → ⊥) → false ≡ equalWords a b
   equal-differs h d = sym (here h ∙ rw (ne-eqb (getD a i 0) (getD b i 0) d))
 
-  pub equal-more : i < length a → getD a i 0 ≡ getD b i 0 → equalWords a b ≡ equalWords (drop (i + 1) a) (drop (i + 1) b)
+  equal-more : i < length a → getD a i 0 ≡ getD b i 0 → equalWords a b ≡ equalWords (drop (i + 1) a) (drop (i + 1) b)
   equal-more h e = here h ∙ rw (eq-eqb (getD a i 0) (getD b i 0) e)
+
+  -- the last word
+  pub equal-last : i < length a → length a - i < 2 → eqb (getD a i 0) (getD b i 0) ≡ equalWords a b
+  unfolding equalWords
+  equal-last h few = and-true (eqb (getD a i 0) (getD b i 0)) ∙ sym (here h ∙ rw (drop-of-length-le a {i = i + 1} (omega arith), drop-of-length-le b {i = i + 1} (omega arith)))
 
   pub equal-end : length a ≤ i → true ≡ equalWords a b
   unfolding equalWords
   equal-end h = sym (inv ∙ rw (drop-of-length-le a {i = i} h, drop-of-length-le b {i = i} (omega arith)))
+
+-- two words
+module _ (a b : List ℕ) (i : ℕ) (inv : equalWords a b ≡ equalWords (drop i a) (drop i b)) (len : length a ≡ length b) (two : 2 ≤ length a - i) (first : getD a i 0 ≡ getD b i 0) where
+  one-more : equalWords a b ≡ equalWords (drop (i + 1) a) (drop (i + 1) b)
+  one-more = equal-more a b i inv len (omega arith) first
+
+  pub equal-second : (getD a (i + 1) 0 ≡ getD b (i + 1) 0 → ⊥) → false ≡ equalWords a b
+  equal-second d = equal-differs a b (i + 1) one-more len (omega arith) d
+
+  pub equal-two : getD a (i + 1) 0 ≡ getD b (i + 1) 0 → equalWords a b ≡ equalWords (drop (i + 2) a) (drop (i + 2) b)
+  equal-two e =
+      let z : i + 1 + 1 ≡ i + 2 = omega arith in
+      equal-more a b (i + 1) one-more len (omega arith) e ∙ ap (λ j. equalWords (drop j a) (drop j b)) z
 
 -- what the comparison says
 pub equal-true : (a b : List ℕ) → equalWords a b ≡ true → a ≡ b

@@ -63,7 +63,7 @@ pub fn read_in(ends: u32, fault: u32, ws: &[u32], low: u32, high: u32, at: usize
     }
 }
 
-// Are the two stretches the same?
+// Are the two stretches the same? Two words a turn, as a node of a tree has.
 pub fn same(a: &[u32], b: &[u32]) -> bool
     ensures { λ r. ⌜ r ≡ equalWords (now (a .entry)) (now (b .entry)) ⌝ }
 {
@@ -72,11 +72,17 @@ pub fn same(a: &[u32], b: &[u32]) -> bool
         return false;
     }
     let mut i: usize = 0;
-    while i < n {
+    while 2 <= n - i {
         if a[i] != b[i] {
             return false;
         }
-        i = i + 1;
+        if a[i + 1] != b[i + 1] {
+            return false;
+        }
+        i = i + 2;
+    }
+    if i < n {
+        return a[i] == b[i];
     }
     true
 }

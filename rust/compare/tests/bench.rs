@@ -102,12 +102,17 @@ fn the_papers_example_and_its_budgets() {
     );
 }
 
+/// The numbers of a cell of a table.
+fn numbers(cell: &str) -> Vec<u32> {
+    let words = cell.trim().trim_matches('`').split_whitespace();
+    words.map(|word| word.parse().expect("a word")).collect()
+}
+
 /// A row of the page's table of examples on sequences: the rules, and what the
 /// bench prints.
 fn example_on_sequences(row: &str) -> (Vec<u32>, String) {
     let cells: Vec<&str> = row.split('|').collect();
-    let words = cells[1].trim().trim_matches('`').split_whitespace();
-    let rules = words.map(|word| word.parse().expect("a word")).collect();
+    let rules = numbers(cells[1]);
     let (first, amounts) = cells[3].split_once(": ").expect("a line, and amounts");
     let amounts = amounts
         .split(',')
@@ -136,6 +141,26 @@ fn the_pages_examples_on_sequences() {
             assert_eq!(run(1, grammar, rules, TREE), *printed, "{rules:?}");
         }
     }
+}
+
+/// The grammar of the page's examples on blanks: a transfer of two names or one.
+const TRANSFERS: &[u32] = &[2, 8, 2, 2, 1, 1, 1, 1, 1, 1];
+
+#[test]
+fn the_pages_examples_on_blanks() {
+    assert!(PAGE.contains("the grammar `2  8 2 2 1 1 1 1  1 1`"));
+    let rows = PAGE.lines().filter(|line| line.starts_with("| `0 0 "));
+    let (mut matched, mut blank) = (0, 0);
+    for row in rows {
+        let cells: Vec<&str> = row.split('|').collect();
+        let (tree, rules) = (numbers(cells[1]), numbers(cells[3]));
+        let printed = cells[4].trim().replace("`: `", "\n").replace('`', "");
+        let answer = run(1, TRANSFERS, &rules, &tree);
+        assert_eq!(answer, format!("{printed}\n"), "{row}");
+        matched += u32::from(printed.starts_with("done 1 1"));
+        blank += u32::from(printed.starts_with("done 1 0") && tree[3..].contains(&0));
+    }
+    assert!(matched >= 3 && blank >= 2, "the page has too few examples");
 }
 
 #[test]

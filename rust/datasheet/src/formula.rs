@@ -16,7 +16,8 @@ pub struct Done {
     pub pairs: usize,
     /// Pairs among them that are a bound variable.
     pub variables: usize,
-    /// Nodes of the trees that these are compared with.
+    /// Nodes of the trees that these are compared with; where they are equal, each
+    /// is asked whether it is blank.
     pub compared: usize,
     /// Applications of rules.
     pub applications: usize,
@@ -47,8 +48,8 @@ pub const TERMS: [Term; 13] = [
         10.0,
     ),
     ("pair of a pattern", |done| done.pairs, 2.2),
-    ("bound variable among these", |done| done.variables, 1.5),
-    ("node compared with it", |done| done.compared, 1.0),
+    ("bound variable among these", |done| done.variables, 2.0),
+    ("node compared with it", |done| done.compared, 2.0),
     ("application of a rule", |done| done.applications, 35.0),
     (
         "pair of a construct or replacement",

@@ -16,9 +16,9 @@ const SAMPLE: f64 = 1e6;
 /// How many samples are taken of each call in one pass over all of them.
 const SAMPLES: usize = 5;
 /// How many passes are made: what else the machine does slows some of them.
-const PASSES: usize = 20;
+const PASSES: usize = 60;
 /// How long a sample is waited for while the clock is slow.
-const PATIENCE: Duration = Duration::from_millis(200);
+const PATIENCE: Duration = Duration::from_millis(20);
 const GREATEST_BUDGET: usize = 1_000_000;
 
 /// Something that is timed.

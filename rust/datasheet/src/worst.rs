@@ -50,7 +50,8 @@ pub fn all() -> Vec<Worst> {
         searching_for_numbers(),
         searching_for_sequences(),
         searching_for_tokens(),
-        comparing(),
+        comparing_regularly(),
+        comparing_irregularly(),
         testing(2_048),
         testing(4),
         calling(),
@@ -139,7 +140,7 @@ fn searching_for_numbers() -> Worst {
 }
 
 /// The pattern's elements are a variable bound to the slip's first element, of
-/// one node and so many numbers.
+/// one node and so many numbers, all of value 0.
 fn searching_for_variables(numbers: usize) -> Worst {
     let types = vec![3; numbers];
     let forms = [vec![8, 2, numbers as u32], types, vec![0]].concat();
@@ -149,7 +150,7 @@ fn searching_for_variables(numbers: usize) -> Worst {
     let rules = [head, parts, vec![4, 0, 0, 1, 0, 65, 0, 65, 1]].concat();
     let size = numbers + 1;
     let count = (2_048 - 4) / (size + 1);
-    let element = [vec![2, 0], [3, 100].repeat(numbers)].concat();
+    let element = [vec![2, 0], [3, 0].repeat(numbers)].concat();
     let slip = [
         vec![0, 0],
         elements(count, &element),
@@ -222,12 +223,26 @@ fn searching_for_tokens() -> Worst {
 
 /// Half of the slip is compared with the other half, and eight times with
 /// itself.
-fn comparing() -> Worst {
+fn comparing_regularly() -> Worst {
+    comparing("half a slip compared 9 times", elements(511, &[2, 100]))
+}
+
+/// The same with numbers that are 0 or not as it comes: where a value is 0 a name
+/// or string would be blank.
+fn comparing_irregularly() -> Worst {
+    let mut random = Random::new(0);
+    let element = |_| elements(1, &[2, random.pick(&[0, 100])]);
+    let numbers: Vec<Vec<u32>> = (0..511).map(element).collect();
+    comparing("the same, irregular", numbers.concat())
+}
+
+/// A sequence of 511 numbers is compared.
+fn comparing(name: &str, numbers: Vec<u32>) -> Worst {
     let grammar = vec![3, 8, 1, 2, 1, 1, 4, 2, 1, 2];
     let head = vec![1, 13, 0, 2, 3, 0, 0, 64, 1, 65, 0, 8];
     let part = [1, 0, 1, 65, 0];
     let rules = [head, part.repeat(8), vec![3, 0, 0, 65, 0, 65, 0]].concat();
-    let half = [elements(511, &[2, 100]), vec![1, 1]].concat();
+    let half = [numbers, vec![1, 1]].concat();
     let slip = [vec![0, 0], half.clone(), half].concat();
     let round = Done {
         attempts: 1,
@@ -241,11 +256,7 @@ fn comparing() -> Worst {
         behind: 2_047,
         ..Done::default()
     };
-    Worst::new(
-        "half a slip compared 9 times",
-        (grammar, rules, slip),
-        round,
-    )
+    Worst::new(name, (grammar, rules, slip), round)
 }
 
 /// Eight conditions of four applications each: rules that search the slip, of so

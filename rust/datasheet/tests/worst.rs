@@ -58,10 +58,10 @@ fn the_sheet_has_the_terms_of_the_formula() {
 
 #[test]
 fn the_short_formula_for_a_searching_deconstruct_says_no_less() {
-    assert!(sheet::read().contains("<=  n (12 + 3.45 k) ns"));
+    assert!(sheet::read().contains("<=  n (12 + 4.5 k) ns"));
     for nodes in [64, 200, 1_000, 2_048] {
         for pairs in [1, 2, 10, 50, 64] {
-            let short = nodes as f64 * (12.0 + 3.45 * pairs as f64);
+            let short = nodes as f64 * (12.0 + 4.5 * pairs as f64);
             let long = formula(&set_against_all(nodes, pairs));
             assert!(long <= short && short < 1.1 * long, "{nodes} {pairs}");
         }

@@ -6,6 +6,7 @@ use reference::limits;
 use reference::tree::Tree;
 use reference::{run, Outcome};
 
+use crate::blanks;
 use crate::families;
 use crate::grammars::{any_grammar, damaged_grammar, grammar, long_grammar};
 use crate::random::Random;
@@ -98,7 +99,7 @@ fn damaged_family(random: &mut Random, seed: u64) -> Input {
 pub fn run_input(seed: u64) -> Input {
     let mut random = Random::new(seed);
     let seed = u64::from(random.word());
-    let input = match random.below(24) {
+    let input = match random.below(26) {
         0 | 1 => families::calls_near_limit(seed),
         2 => families::nodes_near_limit(seed),
         3 | 4 => families::nesting_near_limit(seed),
@@ -110,6 +111,7 @@ pub fn run_input(seed: u64) -> Input {
         10 => families::rounding(seed),
         11 | 12 => sequences::sequence_operations(seed),
         13 => sequences::sequences_near_limit(seed),
+        14 | 15 => blanks::blank_fields(seed),
         _ => typed_input(seed),
     };
     if random.chance(50) {

@@ -2,6 +2,7 @@
 //! rewriting core. Each is a function of a seed: the same seed gives the same
 //! input.
 
+mod blanks;
 mod families;
 mod grammars;
 mod inputs;
@@ -13,6 +14,7 @@ mod sequences;
 mod shrink;
 mod trees;
 
+pub use blanks::blank_fields;
 pub use families::{
     calls_near_limit, conditions, counting_down, live_nodes_at_limit, live_nodes_near_limit,
     nesting_near_limit, nodes_near_limit, numbers_at_limit, operations_near_limit, rounding,

@@ -80,6 +80,15 @@ impl Grammar {
         self.kind(ty) == Kind::Token(TokenClass::Number)
     }
 
+    /// Whether a type is a name or string token, whose value 0 is "the empty
+    /// token".
+    pub fn is_text(&self, ty: TypeNumber) -> bool {
+        matches!(
+            self.kind(ty),
+            Kind::Token(TokenClass::Name | TokenClass::String)
+        )
+    }
+
     /// The type of a sequence's elements, or `None` if the type is no
     /// sequence.
     pub fn element(&self, ty: TypeNumber) -> Option<TypeNumber> {

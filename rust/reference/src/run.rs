@@ -232,7 +232,11 @@ impl Engine<'_> {
                 variables.push(tree.clone());
                 Ok(true)
             }
-            PatternItem::SameAs(variable) => Ok(variables[*variable] == *tree),
+            // T-05: "a tree holding a name or string of value 0 matches
+            // nothing, itself included".
+            PatternItem::SameAs(variable) => {
+                Ok(variables[*variable] == *tree && !tree.holds_blank(self.grammar))
+            }
         }
     }
 

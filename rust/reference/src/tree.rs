@@ -137,6 +137,13 @@ impl Tree {
         self.0.height
     }
 
+    /// Whether a name or string anywhere in the tree, its root included, is
+    /// empty.
+    pub fn holds_blank(&self, grammar: &Grammar) -> bool {
+        self.preorder()
+            .any(|tree| tree.value() == 0 && grammar.is_text(tree.ty()))
+    }
+
     /// The trees of all nodes, parent first and left to right. The place of a
     /// tree in this order is its position in `find` and `replace_at`.
     pub fn preorder(&self) -> Preorder<'_> {

@@ -36,7 +36,8 @@ pub enum PatternItem {
     Node { value: u32 },
     /// A new variable, which gets the next number of its rule.
     NewVariable,
-    /// A variable that is there already, matching only the same tree.
+    /// A variable that is there already, matching only the same tree, and with
+    /// T-05 none that holds an empty name or string.
     SameAs(VariableNumber),
 }
 

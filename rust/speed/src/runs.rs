@@ -10,7 +10,7 @@ use reference::Outcome;
 use crate::timing::times;
 
 /// Runs as bench inputs.
-const WORKLOADS: [(&str, &[u8]); 13] = [
+const WORKLOADS: [(&str, &[u8]); 15] = [
     ("smallest", include_bytes!("../workloads/smallest.txt")),
     ("typical", include_bytes!("../workloads/typical.txt")),
     (
@@ -35,6 +35,14 @@ const WORKLOADS: [(&str, &[u8]); 13] = [
     ),
     ("call_heavy", include_bytes!("../workloads/call_heavy.txt")),
     ("bind_heavy", include_bytes!("../workloads/bind_heavy.txt")),
+    (
+        "compare_differ",
+        include_bytes!("../workloads/compare_differ.txt"),
+    ),
+    (
+        "compare_equal",
+        include_bytes!("../workloads/compare_equal.txt"),
+    ),
     ("join_heavy", include_bytes!("../workloads/join_heavy.txt")),
     (
         "select_heavy",

@@ -10,7 +10,9 @@ use crate::foreign;
 /// 1 is T-01: operation 1,004 rounds an exact half to the even whole number.
 /// 2 is T-02: a number may be as great as 4,000,000,000 hundredths.
 /// 4 is T-04: the list, and operations on sequences.
-pub const EDITION: u32 = 4;
+/// 5 is T-05: in a pattern a variable whose tree holds an empty name or string
+/// matches nothing.
+pub const EDITION: u32 = 5;
 
 /// The edition of the archive that is linked.
 pub fn edition() -> u32 {

@@ -28,7 +28,7 @@ taking-requires : tie.Need-taking-requires
 taking-requires c κs = search needs
 
 returns : tie.Need-returns
-returns c = rw (c .taking .ensures) (deconstruct-none (c .before .before .before .before .before .before .before .before .before .args .book .now) (c .before .before .before .before .before .before .before .before .before .args .w .now) (c .before .before .before .before .before .before .before .before .before .args .d) (c .before .before .before .before .before .before .before .before .before .args .next) (openOf (c .before .before .before .before .before .before .before .before .before .args .places .now) (c .before .before .before .before .before .before .before .before .before .args .frame)) (c .before .before .before .before .before .before .before .before .before .args .left) (c .before .before .before .before .before .before .before .before .before .pre) _ _ (c .before .before .before .start-in .ensures .0 ∙ ap (λ k. startAt (varsOf (c .before .before .before .before .before .before .before .before .before .args .places .now) (c .before .before .before .before .before .before .before .before .before .args .frame .bound)) k) (c .before .before .before .before .word .ensures)) (c .before .before .nodes-at .ensures) (c .before .if1 .taken))
+returns c = rw (c .taking .ensures) (deconstruct-none (c .before .before .before .before .before .before .before .before .before .args .heads .now) (c .before .before .before .before .before .before .before .before .before .args .book .now) (c .before .before .before .before .before .before .before .before .before .args .w .now) (c .before .before .before .before .before .before .before .before .before .args .d) (c .before .before .before .before .before .before .before .before .before .args .next) (openOf (c .before .before .before .before .before .before .before .before .before .args .places .now) (c .before .before .before .before .before .before .before .before .before .args .frame)) (c .before .before .before .before .before .before .before .before .before .args .left) (c .before .before .before .before .before .before .before .before .before .pre) _ _ (c .before .before .before .start-in .ensures .0 ∙ ap (λ k. startAt (varsOf (c .before .before .before .before .before .before .before .before .before .args .places .now) (c .before .before .before .before .before .before .before .before .before .args .frame .bound)) k) (c .before .before .before .before .word .ensures)) (c .before .before .nodes-at .ensures) (c .before .if1 .taken))
 
 mul-end : tie.Need-mul-end
 mul-end c = search needs
@@ -58,7 +58,7 @@ match-taken-requires : tie.Need-match-taken-requires
 match-taken-requires c κs = search needs
 
 returns-2 : tie.Need-returns-2
-returns-2 c = let z : c .before .before .before .before .before .before .before .before .start-in .result + 2 * c .before .before .before .before .before .before .before .nodes-at .result - c .before .before .before .before .before .before .before .before .start-in .result ≡ 2 * c .before .before .before .before .before .before .before .nodes-at .result = omega arith in rw (c .match-taken .ensures) (deconstruct-matched (c .before .before .before .before .before .before .before .before .before .before .before .before .before .before .args .book .now) (c .before .before .before .before .before .before .before .before .before .before .before .before .before .before .args .w .now) (c .before .before .before .before .before .before .before .before .before .before .before .before .before .before .args .d) (c .before .before .before .before .before .before .before .before .before .before .before .before .before .before .args .next) (openOf (c .before .before .before .before .before .before .before .before .before .before .before .before .before .before .args .places .now) (c .before .before .before .before .before .before .before .before .before .before .before .before .before .before .args .frame)) (c .before .before .before .before .before .before .before .before .before .before .before .before .before .before .args .left) (c .before .before .before .before .before .before .before .before .before .before .before .before .before .before .pre) _ _ (c .before .before .before .before .before .before .before .before .start-in .ensures .0 ∙ ap (λ k. startAt (varsOf (c .before .before .before .before .before .before .before .before .before .before .before .before .before .before .args .places .now) (c .before .before .before .before .before .before .before .before .before .before .before .before .before .before .args .frame .bound)) k) (c .before .before .before .before .before .before .before .before .before .word .ensures)) (c .before .before .before .before .before .before .before .nodes-at .ensures) (take (c .before .before .before .before .before .before .before .before .before .before .before .before .before .before .args .frame .top) (c .before .before .before .before .before .before .before .before .before .before .before .before .before .before .args .w .now)) _ refl (ap (λ k. take k (drop (c .before .before .before .before .before .before .before .before .start-in .result) (take (c .before .before .before .before .before .before .before .before .before .before .before .before .before .before .args .frame .top) (c .before .before .before .before .before .before .before .before .before .before .before .before .before .before .args .w .now)))) z) _ (c .before .before .before .before .before .before .before .before .before .before .before .pairs-of .ensures .0) true (c .before .before .before .before .if2 .taken) (matchIn (c .before .match-first .last .1 .1 .1 .1 .1 .0) (c .before .match-first .result)) (c .before .match-first .ensures true))
+returns-2 c = let z : c .before .before .before .before .before .before .before .before .start-in .result + 2 * c .before .before .before .before .before .before .before .nodes-at .result - c .before .before .before .before .before .before .before .before .start-in .result ≡ 2 * c .before .before .before .before .before .before .before .nodes-at .result = omega arith in rw (c .match-taken .ensures) (deconstruct-matched (c .before .before .before .before .before .before .before .before .before .before .before .before .before .before .args .heads .now) (c .before .before .before .before .before .before .before .before .before .before .before .before .before .before .args .book .now) (c .before .before .before .before .before .before .before .before .before .before .before .before .before .before .args .w .now) (c .before .before .before .before .before .before .before .before .before .before .before .before .before .before .args .d) (c .before .before .before .before .before .before .before .before .before .before .before .before .before .before .args .next) (openOf (c .before .before .before .before .before .before .before .before .before .before .before .before .before .before .args .places .now) (c .before .before .before .before .before .before .before .before .before .before .before .before .before .before .args .frame)) (c .before .before .before .before .before .before .before .before .before .before .before .before .before .before .args .left) (c .before .before .before .before .before .before .before .before .before .before .before .before .before .before .pre) _ _ (c .before .before .before .before .before .before .before .before .start-in .ensures .0 ∙ ap (λ k. startAt (varsOf (c .before .before .before .before .before .before .before .before .before .before .before .before .before .before .args .places .now) (c .before .before .before .before .before .before .before .before .before .before .before .before .before .before .args .frame .bound)) k) (c .before .before .before .before .before .before .before .before .before .word .ensures)) (c .before .before .before .before .before .before .before .nodes-at .ensures) (take (c .before .before .before .before .before .before .before .before .before .before .before .before .before .before .args .frame .top) (c .before .before .before .before .before .before .before .before .before .before .before .before .before .before .args .w .now)) _ refl (ap (λ k. take k (drop (c .before .before .before .before .before .before .before .before .start-in .result) (take (c .before .before .before .before .before .before .before .before .before .before .before .before .before .before .args .frame .top) (c .before .before .before .before .before .before .before .before .before .before .before .before .before .before .args .w .now)))) z) _ (c .before .before .before .before .before .before .before .before .before .before .before .pairs-of .ensures .0) true (c .before .before .before .before .if2 .taken) (matchIn (c .before .match-first .last .1 .1 .1 .1 .1 .0) (c .before .match-first .result)) (c .before .match-first .ensures true))
 
 mul-match-pattern : tie.Need-mul-match-pattern
 mul-match-pattern c = search needs
@@ -79,7 +79,7 @@ match-taken-requires-2 : tie.Need-match-taken-requires-2
 match-taken-requires-2 c κs = search needs
 
 returns-3 : tie.Need-returns-3
-returns-3 c = let z : c .before .before .before .before .before .before .before .before .start-in .result + 2 * c .before .before .before .before .before .before .before .nodes-at .result - c .before .before .before .before .before .before .before .before .start-in .result ≡ 2 * c .before .before .before .before .before .before .before .nodes-at .result = omega arith in rw (c .match-taken2 .ensures) (deconstruct-matched (c .before .before .before .before .before .before .before .before .before .before .before .before .before .before .args .book .now) (c .before .before .before .before .before .before .before .before .before .before .before .before .before .before .args .w .now) (c .before .before .before .before .before .before .before .before .before .before .before .before .before .before .args .d) (c .before .before .before .before .before .before .before .before .before .before .before .before .before .before .args .next) (openOf (c .before .before .before .before .before .before .before .before .before .before .before .before .before .before .args .places .now) (c .before .before .before .before .before .before .before .before .before .before .before .before .before .before .args .frame)) (c .before .before .before .before .before .before .before .before .before .before .before .before .before .before .args .left) (c .before .before .before .before .before .before .before .before .before .before .before .before .before .before .pre) _ _ (c .before .before .before .before .before .before .before .before .start-in .ensures .0 ∙ ap (λ k. startAt (varsOf (c .before .before .before .before .before .before .before .before .before .before .before .before .before .before .args .places .now) (c .before .before .before .before .before .before .before .before .before .before .before .before .before .before .args .frame .bound)) k) (c .before .before .before .before .before .before .before .before .before .word .ensures)) (c .before .before .before .before .before .before .before .nodes-at .ensures) (take (c .before .before .before .before .before .before .before .before .before .before .before .before .before .before .args .frame .top) (c .before .before .before .before .before .before .before .before .before .before .before .before .before .before .args .w .now)) _ refl (ap (λ k. take k (drop (c .before .before .before .before .before .before .before .before .start-in .result) (take (c .before .before .before .before .before .before .before .before .before .before .before .before .before .before .args .frame .top) (c .before .before .before .before .before .before .before .before .before .before .before .before .before .before .args .w .now)))) z) _ (c .before .before .before .before .before .before .before .before .before .before .before .pairs-of .ensures .0) false (c .before .before .before .before .if2 .left) (matchIn (c .before .match-pattern .last .1 .1 .1 .1 .0) (c .before .match-pattern .result)) (c .before .match-pattern .ensures true))
+returns-3 c = let z : c .before .before .before .before .before .before .before .before .start-in .result + 2 * c .before .before .before .before .before .before .before .nodes-at .result - c .before .before .before .before .before .before .before .before .start-in .result ≡ 2 * c .before .before .before .before .before .before .before .nodes-at .result = omega arith in rw (c .match-taken2 .ensures) (deconstruct-matched (c .before .before .before .before .before .before .before .before .before .before .before .before .before .before .args .heads .now) (c .before .before .before .before .before .before .before .before .before .before .before .before .before .before .args .book .now) (c .before .before .before .before .before .before .before .before .before .before .before .before .before .before .args .w .now) (c .before .before .before .before .before .before .before .before .before .before .before .before .before .before .args .d) (c .before .before .before .before .before .before .before .before .before .before .before .before .before .before .args .next) (openOf (c .before .before .before .before .before .before .before .before .before .before .before .before .before .before .args .places .now) (c .before .before .before .before .before .before .before .before .before .before .before .before .before .before .args .frame)) (c .before .before .before .before .before .before .before .before .before .before .before .before .before .before .args .left) (c .before .before .before .before .before .before .before .before .before .before .before .before .before .before .pre) _ _ (c .before .before .before .before .before .before .before .before .start-in .ensures .0 ∙ ap (λ k. startAt (varsOf (c .before .before .before .before .before .before .before .before .before .before .before .before .before .before .args .places .now) (c .before .before .before .before .before .before .before .before .before .before .before .before .before .before .args .frame .bound)) k) (c .before .before .before .before .before .before .before .before .before .word .ensures)) (c .before .before .before .before .before .before .before .nodes-at .ensures) (take (c .before .before .before .before .before .before .before .before .before .before .before .before .before .before .args .frame .top) (c .before .before .before .before .before .before .before .before .before .before .before .before .before .before .args .w .now)) _ refl (ap (λ k. take k (drop (c .before .before .before .before .before .before .before .before .start-in .result) (take (c .before .before .before .before .before .before .before .before .before .before .before .before .before .before .args .frame .top) (c .before .before .before .before .before .before .before .before .before .before .before .before .before .before .args .w .now)))) z) _ (c .before .before .before .before .before .before .before .before .before .before .before .pairs-of .ensures .0) false (c .before .before .before .before .if2 .left) (matchIn (c .before .match-pattern .last .1 .1 .1 .1 .0) (c .before .match-pattern .result)) (c .before .match-pattern .ensures true))
 
 pub deconstruct-spec : {M : Type 1} → statement M
 deconstruct-spec =

@@ -14,13 +14,13 @@ use Rattle.rewrite.proofs.match_first.Statement.{statement}
 use Rattle.rewrite.proofs.match_first.Tie as tie
 
 abbrev Inv-loop : tie.InvT-loop
-Inv-loop ty pairs arena part at places₀ bound live p₀ places p = Finding ty pairs arena part at (varsOf places₀ bound) live p × Sound (varsOf places bound) × Kept (varsOf places₀ bound) (varsOf places bound)
+Inv-loop ty pairs arena part at places₀ bound live heads p₀ places p = Finding heads ty pairs arena part at (varsOf places₀ bound) live p × Sound (varsOf places bound) × Kept (varsOf places₀ bound) (varsOf places bound)
 
 abbrev μ-loop : tie.MeasureT-loop
-μ-loop ty pairs arena part at places₀ bound live p₀ places p = length part - p
+μ-loop ty pairs arena part at places₀ bound live heads p₀ places p = length part - p
 
 loop-holds : tie.Need-loop-holds Inv-loop μ-loop
-loop-holds c = (finding-start (c .before .before .before .args .ty) (c .before .before .before .args .pairs .now) (c .before .before .before .args .arena .now) (c .before .before .before .args .part .now) (c .before .before .before .args .at) (varsOf (c .before .before .before .args .places .now) (c .before .before .before .args .bound)) (c .before .before .before .args .live) (c .before .before .before .pre .2) (c .before .before .before .pre .3), c .before .before .before .pre .2, kept-same (varsOf (c .before .before .before .args .places .now) (c .before .before .before .args .bound)))
+loop-holds c = (finding-start (c .before .before .before .args .heads .now) (c .before .before .before .args .ty) (c .before .before .before .args .pairs .now) (c .before .before .before .args .arena .now) (c .before .before .before .args .part .now) (c .before .before .before .args .at) (varsOf (c .before .before .before .args .places .now) (c .before .before .before .args .bound)) (c .before .before .before .args .live) (c .before .before .before .pre .2) (c .before .before .before .pre .3), c .before .before .before .pre .2, kept-same (varsOf (c .before .before .before .args .places .now) (c .before .before .before .args .bound)))
 
 sub-loop : tie.Need-sub-loop Inv-loop μ-loop
 sub-loop c = omega (arith, c .loop .inv .0 .near)
@@ -56,13 +56,13 @@ enum-told : tie.Need-enum-told Inv-loop μ-loop
 enum-told c = search needs
 
 returns : tie.Need-returns Inv-loop μ-loop
-returns c = finding-matches (c .before .before .before .before .before .before .before .before .before .before .before .before .before .args .ty) (c .before .before .before .before .before .before .before .before .before .before .before .before .before .args .pairs .now) (c .before .before .before .before .before .before .before .before .before .before .before .before .before .args .arena .now) (c .before .before .before .before .before .before .before .before .before .before .before .before .before .args .part .now) (c .before .before .before .before .before .before .before .before .before .before .before .before .before .args .at) (varsOf (c .before .before .before .before .before .before .before .before .before .before .before .before .before .args .places .now) (c .before .before .before .before .before .before .before .before .before .before .before .before .before .args .bound)) (c .before .before .before .before .before .before .before .before .before .before .before .before .before .args .live) (c .before .before .before .before .before .before .before .before .before .loop .p) (c .before .before .before .before .before .before .before .before .before .loop .inv .0) (c .before .before .before .before .before .before .before .before .loop-test .taken) _ refl (sym (c .before .before .before .before .before .before .type-in .ensures) ∙ c .before .before .before .before .before .if1 .taken) _ _ (part-rest (c .before .before .before .before .before .before .before .before .before .loop .p) (c .before .before .before .before .before .before .before .before .before .before .before .before .before .args .part .now)) (λ strict. answers-kept (varsOf (c .before .before .before .before .before .before .before .before .before .before .before .before .before .args .places .now) (c .before .before .before .before .before .before .before .before .before .before .before .before .before .args .bound)) (varsOf (c .before .before .before .before .before .before .before .before .before .loop .places) (c .before .before .before .before .before .before .before .before .before .before .before .before .before .args .bound)) refl (c .before .before .before .before .before .before .before .before .before .loop .inv .2) (c .before .before .match-pattern .ensures strict)) (c .enum-told .given .1)
+returns c = finding-matches (c .before .before .before .before .before .before .before .before .before .before .before .before .before .args .heads .now) (c .before .before .before .before .before .before .before .before .before .before .before .before .before .args .ty) (c .before .before .before .before .before .before .before .before .before .before .before .before .before .args .pairs .now) (c .before .before .before .before .before .before .before .before .before .before .before .before .before .args .arena .now) (c .before .before .before .before .before .before .before .before .before .before .before .before .before .args .part .now) (c .before .before .before .before .before .before .before .before .before .before .before .before .before .args .at) (varsOf (c .before .before .before .before .before .before .before .before .before .before .before .before .before .args .places .now) (c .before .before .before .before .before .before .before .before .before .before .before .before .before .args .bound)) (c .before .before .before .before .before .before .before .before .before .before .before .before .before .args .live) (c .before .before .before .before .before .before .before .before .before .loop .p) (c .before .before .before .before .before .before .before .before .before .loop .inv .0) (c .before .before .before .before .before .before .before .before .loop-test .taken) _ refl (sym (c .before .before .before .before .before .before .type-in .ensures) ∙ c .before .before .before .before .before .if1 .taken) _ _ (part-rest (c .before .before .before .before .before .before .before .before .before .loop .p) (c .before .before .before .before .before .before .before .before .before .before .before .before .before .args .part .now)) (λ strict. answers-kept (varsOf (c .before .before .before .before .before .before .before .before .before .before .before .before .before .args .places .now) (c .before .before .before .before .before .before .before .before .before .before .before .before .before .args .bound)) (varsOf (c .before .before .before .before .before .before .before .before .before .loop .places) (c .before .before .before .before .before .before .before .before .before .before .before .before .before .args .bound)) refl (c .before .before .before .before .before .before .before .before .before .loop .inv .2) (c .before .before .match-pattern .ensures strict)) (c .enum-told .given .1)
 
 enum-told-2 : tie.Need-enum-told-2 Inv-loop μ-loop
 enum-told-2 c = search needs
 
 returns-2 : tie.Need-returns-2 Inv-loop μ-loop
-returns-2 c = finding-stops (c .before .before .before .before .before .before .before .before .before .before .before .before .before .args .ty) (c .before .before .before .before .before .before .before .before .before .before .before .before .before .args .pairs .now) (c .before .before .before .before .before .before .before .before .before .before .before .before .before .args .arena .now) (c .before .before .before .before .before .before .before .before .before .before .before .before .before .args .part .now) (c .before .before .before .before .before .before .before .before .before .before .before .before .before .args .at) (varsOf (c .before .before .before .before .before .before .before .before .before .before .before .before .before .args .places .now) (c .before .before .before .before .before .before .before .before .before .before .before .before .before .args .bound)) (c .before .before .before .before .before .before .before .before .before .before .before .before .before .args .live) (c .before .before .before .before .before .before .before .before .before .loop .p) (c .before .before .before .before .before .before .before .before .before .loop .inv .0) (c .before .before .before .before .before .before .before .before .loop-test .taken) _ refl (sym (c .before .before .before .before .before .before .type-in .ensures) ∙ c .before .before .before .before .before .if1 .taken) _ _ (part-rest (c .before .before .before .before .before .before .before .before .before .loop .p) (c .before .before .before .before .before .before .before .before .before .before .before .before .before .args .part .now)) (λ strict. answers-kept (varsOf (c .before .before .before .before .before .before .before .before .before .before .before .before .before .args .places .now) (c .before .before .before .before .before .before .before .before .before .before .before .before .before .args .bound)) (varsOf (c .before .before .before .before .before .before .before .before .before .loop .places) (c .before .before .before .before .before .before .before .before .before .before .before .before .before .args .bound)) refl (c .before .before .before .before .before .before .before .before .before .loop .inv .2) (c .before .before .match-pattern .ensures strict)) (c .enum-told2 .given .1)
+returns-2 c = finding-stops (c .before .before .before .before .before .before .before .before .before .before .before .before .before .args .heads .now) (c .before .before .before .before .before .before .before .before .before .before .before .before .before .args .ty) (c .before .before .before .before .before .before .before .before .before .before .before .before .before .args .pairs .now) (c .before .before .before .before .before .before .before .before .before .before .before .before .before .args .arena .now) (c .before .before .before .before .before .before .before .before .before .before .before .before .before .args .part .now) (c .before .before .before .before .before .before .before .before .before .before .before .before .before .args .at) (varsOf (c .before .before .before .before .before .before .before .before .before .before .before .before .before .args .places .now) (c .before .before .before .before .before .before .before .before .before .before .before .before .before .args .bound)) (c .before .before .before .before .before .before .before .before .before .before .before .before .before .args .live) (c .before .before .before .before .before .before .before .before .before .loop .p) (c .before .before .before .before .before .before .before .before .before .loop .inv .0) (c .before .before .before .before .before .before .before .before .loop-test .taken) _ refl (sym (c .before .before .before .before .before .before .type-in .ensures) ∙ c .before .before .before .before .before .if1 .taken) _ _ (part-rest (c .before .before .before .before .before .before .before .before .before .loop .p) (c .before .before .before .before .before .before .before .before .before .before .before .before .before .args .part .now)) (λ strict. answers-kept (varsOf (c .before .before .before .before .before .before .before .before .before .before .before .before .before .args .places .now) (c .before .before .before .before .before .before .before .before .before .before .before .before .before .args .bound)) (varsOf (c .before .before .before .before .before .before .before .before .before .loop .places) (c .before .before .before .before .before .before .before .before .before .before .before .before .before .args .bound)) refl (c .before .before .before .before .before .before .before .before .before .loop .inv .2) (c .before .before .match-pattern .ensures strict)) (c .enum-told2 .given .1)
 
 enum-told-3 : tie.Need-enum-told-3 Inv-loop μ-loop
 enum-told-3 c = search needs
@@ -74,7 +74,7 @@ loop-less : tie.Need-loop-less Inv-loop μ-loop
 loop-less c = omega (arith, c .before .before .before .before .before .before .before .before .before .loop .inv .0 .near, c .before .before .before .before .before .before .before .before .loop-test .taken)
 
 loop-again : tie.Need-loop-again Inv-loop μ-loop
-loop-again c = (finding-differs (c .before .before .before .before .before .before .before .before .before .before .before .before .before .args .ty) (c .before .before .before .before .before .before .before .before .before .before .before .before .before .args .pairs .now) (c .before .before .before .before .before .before .before .before .before .before .before .before .before .args .arena .now) (c .before .before .before .before .before .before .before .before .before .before .before .before .before .args .part .now) (c .before .before .before .before .before .before .before .before .before .before .before .before .before .args .at) (varsOf (c .before .before .before .before .before .before .before .before .before .before .before .before .before .args .places .now) (c .before .before .before .before .before .before .before .before .before .before .before .before .before .args .bound)) (c .before .before .before .before .before .before .before .before .before .before .before .before .before .args .live) (c .before .before .before .before .before .before .before .before .before .loop .p) (c .before .before .before .before .before .before .before .before .before .loop .inv .0) (c .before .before .before .before .before .before .before .before .loop-test .taken) _ refl (sym (c .before .before .before .before .before .before .type-in .ensures) ∙ c .before .before .before .before .before .if1 .taken) _ _ (part-rest (c .before .before .before .before .before .before .before .before .before .loop .p) (c .before .before .before .before .before .before .before .before .before .before .before .before .before .args .part .now)) (λ strict. answers-kept (varsOf (c .before .before .before .before .before .before .before .before .before .before .before .before .before .args .places .now) (c .before .before .before .before .before .before .before .before .before .before .before .before .before .args .bound)) (varsOf (c .before .before .before .before .before .before .before .before .before .loop .places) (c .before .before .before .before .before .before .before .before .before .before .before .before .before .args .bound)) refl (c .before .before .before .before .before .before .before .before .before .loop .inv .2) (c .before .before .match-pattern .ensures strict)) (c .enum-told3 .given .1), sound-back (varsOf (c .before .before .before .before .before .before .before .before .before .loop .places) (c .before .before .before .before .before .before .before .before .before .before .before .before .before .args .bound)) (matchIn (c .before .before .match-pattern .last .1 .1 .1 .1 .0) (c .before .before .match-pattern .result) .vars) (c .before .before .before .before .before .before .before .before .before .loop .inv .1) ((c .before .before .match-pattern .ensures false) .sound), kept-more (c .before .before .before .before .before .before .before .before .before .loop .inv .2) (kept-back (varsOf (c .before .before .before .before .before .before .before .before .before .loop .places) (c .before .before .before .before .before .before .before .before .before .before .before .before .before .args .bound)) (matchIn (c .before .before .match-pattern .last .1 .1 .1 .1 .0) (c .before .before .match-pattern .result) .vars) ((c .before .before .match-pattern .ensures false) .kept)))
+loop-again c = (finding-differs (c .before .before .before .before .before .before .before .before .before .before .before .before .before .args .heads .now) (c .before .before .before .before .before .before .before .before .before .before .before .before .before .args .ty) (c .before .before .before .before .before .before .before .before .before .before .before .before .before .args .pairs .now) (c .before .before .before .before .before .before .before .before .before .before .before .before .before .args .arena .now) (c .before .before .before .before .before .before .before .before .before .before .before .before .before .args .part .now) (c .before .before .before .before .before .before .before .before .before .before .before .before .before .args .at) (varsOf (c .before .before .before .before .before .before .before .before .before .before .before .before .before .args .places .now) (c .before .before .before .before .before .before .before .before .before .before .before .before .before .args .bound)) (c .before .before .before .before .before .before .before .before .before .before .before .before .before .args .live) (c .before .before .before .before .before .before .before .before .before .loop .p) (c .before .before .before .before .before .before .before .before .before .loop .inv .0) (c .before .before .before .before .before .before .before .before .loop-test .taken) _ refl (sym (c .before .before .before .before .before .before .type-in .ensures) ∙ c .before .before .before .before .before .if1 .taken) _ _ (part-rest (c .before .before .before .before .before .before .before .before .before .loop .p) (c .before .before .before .before .before .before .before .before .before .before .before .before .before .args .part .now)) (λ strict. answers-kept (varsOf (c .before .before .before .before .before .before .before .before .before .before .before .before .before .args .places .now) (c .before .before .before .before .before .before .before .before .before .before .before .before .before .args .bound)) (varsOf (c .before .before .before .before .before .before .before .before .before .loop .places) (c .before .before .before .before .before .before .before .before .before .before .before .before .before .args .bound)) refl (c .before .before .before .before .before .before .before .before .before .loop .inv .2) (c .before .before .match-pattern .ensures strict)) (c .enum-told3 .given .1), sound-back (varsOf (c .before .before .before .before .before .before .before .before .before .loop .places) (c .before .before .before .before .before .before .before .before .before .before .before .before .before .args .bound)) (matchIn (c .before .before .match-pattern .last .1 .1 .1 .1 .0) (c .before .before .match-pattern .result) .vars) (c .before .before .before .before .before .before .before .before .before .loop .inv .1) ((c .before .before .match-pattern .ensures false) .sound), kept-more (c .before .before .before .before .before .before .before .before .before .loop .inv .2) (kept-back (varsOf (c .before .before .before .before .before .before .before .before .before .loop .places) (c .before .before .before .before .before .before .before .before .before .before .before .before .before .args .bound)) (matchIn (c .before .before .match-pattern .last .1 .1 .1 .1 .0) (c .before .before .match-pattern .result) .vars) ((c .before .before .match-pattern .ensures false) .kept)))
 
 add-p-2 : tie.Need-add-p-2 Inv-loop μ-loop
 add-p-2 c = omega (arith, c .before .before .before .before .loop .inv .0 .near, c .before .before .before .loop-test .taken)
@@ -83,13 +83,13 @@ loop-less-2 : tie.Need-loop-less-2 Inv-loop μ-loop
 loop-less-2 c = omega (arith, c .before .before .before .before .loop .inv .0 .near, c .before .before .before .loop-test .taken)
 
 loop-again-2 : tie.Need-loop-again-2 Inv-loop μ-loop
-loop-again-2 c = (finding-other (c .before .before .before .before .before .before .before .before .args .ty) (c .before .before .before .before .before .before .before .before .args .pairs .now) (c .before .before .before .before .before .before .before .before .args .arena .now) (c .before .before .before .before .before .before .before .before .args .part .now) (c .before .before .before .before .before .before .before .before .args .at) (varsOf (c .before .before .before .before .before .before .before .before .args .places .now) (c .before .before .before .before .before .before .before .before .args .bound)) (c .before .before .before .before .before .before .before .before .args .live) (c .before .before .before .before .loop .p) (c .before .before .before .before .loop .inv .0) (c .before .before .before .loop-test .taken) _ refl (λ e. c .if1 .left (c .before .type-in .ensures ∙ e)), c .before .before .before .before .loop .inv .1, c .before .before .before .before .loop .inv .2)
+loop-again-2 c = (finding-other (c .before .before .before .before .before .before .before .before .args .heads .now) (c .before .before .before .before .before .before .before .before .args .ty) (c .before .before .before .before .before .before .before .before .args .pairs .now) (c .before .before .before .before .before .before .before .before .args .arena .now) (c .before .before .before .before .before .before .before .before .args .part .now) (c .before .before .before .before .before .before .before .before .args .at) (varsOf (c .before .before .before .before .before .before .before .before .args .places .now) (c .before .before .before .before .before .before .before .before .args .bound)) (c .before .before .before .before .before .before .before .before .args .live) (c .before .before .before .before .loop .p) (c .before .before .before .before .loop .inv .0) (c .before .before .before .loop-test .taken) _ refl (λ e. c .if1 .left (c .before .type-in .ensures ∙ e)), c .before .before .before .before .loop .inv .1, c .before .before .before .before .loop .inv .2)
 
 differs-requires : tie.Need-differs-requires Inv-loop μ-loop
 differs-requires c κs = search needs
 
 returns-3 : tie.Need-returns-3 Inv-loop μ-loop
-returns-3 c = finding-none (c .before .before .before .before .before .before .args .ty) (c .before .before .before .before .before .before .args .pairs .now) (c .before .before .before .before .before .before .args .arena .now) (c .before .before .before .before .before .before .args .part .now) (c .before .before .before .before .before .before .args .at) (varsOf (c .before .before .before .before .before .before .args .places .now) (c .before .before .before .before .before .before .args .bound)) (c .before .before .before .before .before .before .args .live) (c .before .before .loop .p) (c .before .before .loop .inv .0) (c .before .loop-test .left) (varsOf (c .before .before .loop .places) (c .before .before .before .before .before .before .args .bound)) (c .before .before .loop .inv .1) (c .before .before .loop .inv .2) _ (ap (matchIn (c .before .before .loop .places)) (c .differs .ensures))
+returns-3 c = finding-none (c .before .before .before .before .before .before .args .heads .now) (c .before .before .before .before .before .before .args .ty) (c .before .before .before .before .before .before .args .pairs .now) (c .before .before .before .before .before .before .args .arena .now) (c .before .before .before .before .before .before .args .part .now) (c .before .before .before .before .before .before .args .at) (varsOf (c .before .before .before .before .before .before .args .places .now) (c .before .before .before .before .before .before .args .bound)) (c .before .before .before .before .before .before .args .live) (c .before .before .loop .p) (c .before .before .loop .inv .0) (c .before .loop-test .left) (varsOf (c .before .before .loop .places) (c .before .before .before .before .before .before .args .bound)) (c .before .before .loop .inv .1) (c .before .before .loop .inv .2) _ (ap (matchIn (c .before .before .loop .places)) (c .differs .ensures))
 
 pub match-first-spec : {M : Type 1} → statement M
 match-first-spec =

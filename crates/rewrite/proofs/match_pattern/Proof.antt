@@ -10,13 +10,13 @@ use Rattle.rewrite.proofs.match_pattern.Statement.{statement}
 use Rattle.rewrite.proofs.match_pattern.Tie as tie
 
 abbrev Inv-loop : tie.InvT-loop
-Inv-loop pairs arena part at places₀ bound held n₀ live₀ i₀ p₀ places n live i p = Going pairs arena part at (varsOf places₀ bound) held (varsOf places n) live i p
+Inv-loop pairs arena part at places₀ bound held heads n₀ live₀ i₀ p₀ places n live i p = Going heads pairs arena part at (varsOf places₀ bound) held (varsOf places n) live i p
 
 abbrev μ-loop : tie.MeasureT-loop
-μ-loop pairs arena part at places₀ bound held n₀ live₀ i₀ p₀ places n live i p = length pairs - i
+μ-loop pairs arena part at places₀ bound held heads n₀ live₀ i₀ p₀ places n live i p = length pairs - i
 
 loop-holds : tie.Need-loop-holds Inv-loop μ-loop
-loop-holds c = going-start (c .before .before .before .args .pairs .now) (c .before .before .before .args .arena .now) (c .before .before .before .args .part .now) (c .before .before .before .args .at) (varsOf (c .before .before .before .args .places .now) (c .before .before .before .args .bound)) (c .before .before .before .args .held) (c .before .before .before .pre .2) (c .before .before .before .pre .3)
+loop-holds c = going-start (c .before .before .before .args .heads .now) (c .before .before .before .args .pairs .now) (c .before .before .before .args .arena .now) (c .before .before .before .args .part .now) (c .before .before .before .args .at) (varsOf (c .before .before .before .args .places .now) (c .before .before .before .args .bound)) (c .before .before .before .args .held) (c .before .before .before .pre .2) (c .before .before .before .pre .3)
 
 sub-loop : tie.Need-sub-loop Inv-loop μ-loop
 sub-loop c = omega (arith, c .loop .inv .read)
@@ -46,7 +46,7 @@ failed-requires : tie.Need-failed-requires Inv-loop μ-loop
 failed-requires c κs = search needs
 
 returns : tie.Need-returns Inv-loop μ-loop
-returns c = rw (c .failed .ensures) (pair-failed (c .before .before .before .before .before .before .before .before .before .before .before .before .args .pairs .now) (c .before .before .before .before .before .before .before .before .before .before .before .before .args .arena .now) (c .before .before .before .before .before .before .before .before .before .before .before .before .args .part .now) (c .before .before .before .before .before .before .before .before .before .before .before .before .args .at) (varsOf (c .before .before .before .before .before .before .before .before .before .before .before .before .args .places .now) (c .before .before .before .before .before .before .before .before .before .before .before .before .args .bound)) (c .before .before .before .before .before .before .before .before .before .before .before .before .args .held) (varsOf (c .before .before .before .before .before .before .before .before .loop .places) (c .before .before .before .before .before .before .before .before .loop .n)) (c .before .before .before .before .before .before .before .before .loop .live) (c .before .before .before .before .before .before .before .before .loop .i) (c .before .before .before .before .before .before .before .before .loop .p) (c .before .before .before .before .before .before .before .before .loop .inv) (c .before .before .before .before .before .before .before .loop-test .taken) _ _ _ _ refl refl (c .before .before .before .start-in .ensures .0) (c .before .before .pair-words .ensures .0) (c .before .if1 .taken))
+returns c = rw (c .failed .ensures) (pair-failed (c .before .before .before .before .before .before .before .before .before .before .before .before .args .heads .now) (c .before .before .before .before .before .before .before .before .before .before .before .before .args .pairs .now) (c .before .before .before .before .before .before .before .before .before .before .before .before .args .arena .now) (c .before .before .before .before .before .before .before .before .before .before .before .before .args .part .now) (c .before .before .before .before .before .before .before .before .before .before .before .before .args .at) (varsOf (c .before .before .before .before .before .before .before .before .before .before .before .before .args .places .now) (c .before .before .before .before .before .before .before .before .before .before .before .before .args .bound)) (c .before .before .before .before .before .before .before .before .before .before .before .before .args .held) (varsOf (c .before .before .before .before .before .before .before .before .loop .places) (c .before .before .before .before .before .before .before .before .loop .n)) (c .before .before .before .before .before .before .before .before .loop .live) (c .before .before .before .before .before .before .before .before .loop .i) (c .before .before .before .before .before .before .before .before .loop .p) (c .before .before .before .before .before .before .before .before .loop .inv) (c .before .before .before .before .before .before .before .loop-test .taken) _ _ _ _ refl refl (c .before .before .before .start-in .ensures .0) (c .before .before .pair-words .ensures .0) (c .before .if1 .taken))
 
 add-places : tie.Need-add-places Inv-loop μ-loop
 add-places c = omega (arith, c .before .before .before .before .before .before .before .before .loop .inv .near, c .before .before .before .before .before .before .before .before .loop .inv .read, c .before .before .before .before .before .before .before .before .before .before .before .before .pre .0, c .before .before .before .before .before .before .before .before .before .before .before .before .pre .1)
@@ -55,13 +55,13 @@ cast-places : tie.Need-cast-places Inv-loop μ-loop
 cast-places c = omega (arith, c .before .before .before .before .before .before .before .before .loop .inv .near, c .before .before .before .before .before .before .before .before .loop .inv .read, c .before .before .before .before .before .before .before .before .before .before .before .before .pre .0, c .before .before .before .before .before .before .before .before .before .before .before .before .pre .1)
 
 mul-places : tie.Need-mul-places Inv-loop μ-loop
-mul-places c = let b = pair-bound (c .before .before .before .before .before .before .before .before .before .before .before .before .args .pairs .now) (c .before .before .before .before .before .before .before .before .before .before .before .before .args .arena .now) (c .before .before .before .before .before .before .before .before .before .before .before .before .args .part .now) (c .before .before .before .before .before .before .before .before .before .before .before .before .args .at) (varsOf (c .before .before .before .before .before .before .before .before .before .before .before .before .args .places .now) (c .before .before .before .before .before .before .before .before .before .before .before .before .args .bound)) (c .before .before .before .before .before .before .before .before .before .before .before .before .args .held) (varsOf (c .before .before .before .before .before .before .before .before .loop .places) (c .before .before .before .before .before .before .before .before .loop .n)) (c .before .before .before .before .before .before .before .before .loop .live) (c .before .before .before .before .before .before .before .before .loop .i) (c .before .before .before .before .before .before .before .before .loop .p) (c .before .before .before .before .before .before .before .before .loop .inv) (c .before .before .before .before .before .before .before .loop-test .taken) _ _ _ _ refl refl (c .before .before .before .start-in .ensures .0) (c .before .before .pair-words .ensures .0) (c .if2 .taken) (c .before .if1 .left) in omega (arith, b .0)
+mul-places c = let b = pair-bound (c .before .before .before .before .before .before .before .before .before .before .before .before .args .heads .now) (c .before .before .before .before .before .before .before .before .before .before .before .before .args .pairs .now) (c .before .before .before .before .before .before .before .before .before .before .before .before .args .arena .now) (c .before .before .before .before .before .before .before .before .before .before .before .before .args .part .now) (c .before .before .before .before .before .before .before .before .before .before .before .before .args .at) (varsOf (c .before .before .before .before .before .before .before .before .before .before .before .before .args .places .now) (c .before .before .before .before .before .before .before .before .before .before .before .before .args .bound)) (c .before .before .before .before .before .before .before .before .before .before .before .before .args .held) (varsOf (c .before .before .before .before .before .before .before .before .loop .places) (c .before .before .before .before .before .before .before .before .loop .n)) (c .before .before .before .before .before .before .before .before .loop .live) (c .before .before .before .before .before .before .before .before .loop .i) (c .before .before .before .before .before .before .before .before .loop .p) (c .before .before .before .before .before .before .before .before .loop .inv) (c .before .before .before .before .before .before .before .loop-test .taken) _ _ _ _ refl refl (c .before .before .before .start-in .ensures .0) (c .before .before .pair-words .ensures .0) (c .if2 .taken) (c .before .if1 .left) in omega (arith, b .0)
 
 element-write-places : tie.Need-element-write-places Inv-loop μ-loop
-element-write-places c = let b = pair-bound (c .before .before .before .before .before .before .before .before .before .before .before .before .args .pairs .now) (c .before .before .before .before .before .before .before .before .before .before .before .before .args .arena .now) (c .before .before .before .before .before .before .before .before .before .before .before .before .args .part .now) (c .before .before .before .before .before .before .before .before .before .before .before .before .args .at) (varsOf (c .before .before .before .before .before .before .before .before .before .before .before .before .args .places .now) (c .before .before .before .before .before .before .before .before .before .before .before .before .args .bound)) (c .before .before .before .before .before .before .before .before .before .before .before .before .args .held) (varsOf (c .before .before .before .before .before .before .before .before .loop .places) (c .before .before .before .before .before .before .before .before .loop .n)) (c .before .before .before .before .before .before .before .before .loop .live) (c .before .before .before .before .before .before .before .before .loop .i) (c .before .before .before .before .before .before .before .before .loop .p) (c .before .before .before .before .before .before .before .before .loop .inv) (c .before .before .before .before .before .before .before .loop-test .taken) _ _ _ _ refl refl (c .before .before .before .start-in .ensures .0) (c .before .before .pair-words .ensures .0) (c .if2 .taken) (c .before .if1 .left) in omega (arith, b .0, c .before .before .before .before .before .before .before .before .loop .inv .sound .room)
+element-write-places c = let b = pair-bound (c .before .before .before .before .before .before .before .before .before .before .before .before .args .heads .now) (c .before .before .before .before .before .before .before .before .before .before .before .before .args .pairs .now) (c .before .before .before .before .before .before .before .before .before .before .before .before .args .arena .now) (c .before .before .before .before .before .before .before .before .before .before .before .before .args .part .now) (c .before .before .before .before .before .before .before .before .before .before .before .before .args .at) (varsOf (c .before .before .before .before .before .before .before .before .before .before .before .before .args .places .now) (c .before .before .before .before .before .before .before .before .before .before .before .before .args .bound)) (c .before .before .before .before .before .before .before .before .before .before .before .before .args .held) (varsOf (c .before .before .before .before .before .before .before .before .loop .places) (c .before .before .before .before .before .before .before .before .loop .n)) (c .before .before .before .before .before .before .before .before .loop .live) (c .before .before .before .before .before .before .before .before .loop .i) (c .before .before .before .before .before .before .before .before .loop .p) (c .before .before .before .before .before .before .before .before .loop .inv) (c .before .before .before .before .before .before .before .loop-test .taken) _ _ _ _ refl refl (c .before .before .before .start-in .ensures .0) (c .before .before .pair-words .ensures .0) (c .if2 .taken) (c .before .if1 .left) in omega (arith, b .0, c .before .before .before .before .before .before .before .before .loop .inv .sound .room)
 
 add-n : tie.Need-add-n Inv-loop μ-loop
-add-n c = let b = pair-bound (c .before .before .before .before .before .before .before .before .before .before .before .before .args .pairs .now) (c .before .before .before .before .before .before .before .before .before .before .before .before .args .arena .now) (c .before .before .before .before .before .before .before .before .before .before .before .before .args .part .now) (c .before .before .before .before .before .before .before .before .before .before .before .before .args .at) (varsOf (c .before .before .before .before .before .before .before .before .before .before .before .before .args .places .now) (c .before .before .before .before .before .before .before .before .before .before .before .before .args .bound)) (c .before .before .before .before .before .before .before .before .before .before .before .before .args .held) (varsOf (c .before .before .before .before .before .before .before .before .loop .places) (c .before .before .before .before .before .before .before .before .loop .n)) (c .before .before .before .before .before .before .before .before .loop .live) (c .before .before .before .before .before .before .before .before .loop .i) (c .before .before .before .before .before .before .before .before .loop .p) (c .before .before .before .before .before .before .before .before .loop .inv) (c .before .before .before .before .before .before .before .loop-test .taken) _ _ _ _ refl refl (c .before .before .before .start-in .ensures .0) (c .before .before .pair-words .ensures .0) (c .if2 .taken) (c .before .if1 .left) in omega (arith, b .0)
+add-n c = let b = pair-bound (c .before .before .before .before .before .before .before .before .before .before .before .before .args .heads .now) (c .before .before .before .before .before .before .before .before .before .before .before .before .args .pairs .now) (c .before .before .before .before .before .before .before .before .before .before .before .before .args .arena .now) (c .before .before .before .before .before .before .before .before .before .before .before .before .args .part .now) (c .before .before .before .before .before .before .before .before .before .before .before .before .args .at) (varsOf (c .before .before .before .before .before .before .before .before .before .before .before .before .args .places .now) (c .before .before .before .before .before .before .before .before .before .before .before .before .args .bound)) (c .before .before .before .before .before .before .before .before .before .before .before .before .args .held) (varsOf (c .before .before .before .before .before .before .before .before .loop .places) (c .before .before .before .before .before .before .before .before .loop .n)) (c .before .before .before .before .before .before .before .before .loop .live) (c .before .before .before .before .before .before .before .before .loop .i) (c .before .before .before .before .before .before .before .before .loop .p) (c .before .before .before .before .before .before .before .before .loop .inv) (c .before .before .before .before .before .before .before .loop-test .taken) _ _ _ _ refl refl (c .before .before .before .start-in .ensures .0) (c .before .before .pair-words .ensures .0) (c .if2 .taken) (c .before .if1 .left) in omega (arith, b .0)
 
 add-live : tie.Need-add-live Inv-loop μ-loop
 add-live c = omega (arith, c .before .before .before .before .before .before .before .before .loop .inv .fits, c .before .before .pair-words .ensures .1)
@@ -76,7 +76,7 @@ loop-less : tie.Need-loop-less Inv-loop μ-loop
 loop-less c = omega (arith, c .before .before .before .before .before .before .before .before .loop .inv .read, c .before .before .before .before .before .before .before .loop-test .taken)
 
 loop-again : tie.Need-loop-again Inv-loop μ-loop
-loop-again c = pair-bound (c .before .before .before .before .before .before .before .before .before .before .before .before .args .pairs .now) (c .before .before .before .before .before .before .before .before .before .before .before .before .args .arena .now) (c .before .before .before .before .before .before .before .before .before .before .before .before .args .part .now) (c .before .before .before .before .before .before .before .before .before .before .before .before .args .at) (varsOf (c .before .before .before .before .before .before .before .before .before .before .before .before .args .places .now) (c .before .before .before .before .before .before .before .before .before .before .before .before .args .bound)) (c .before .before .before .before .before .before .before .before .before .before .before .before .args .held) (varsOf (c .before .before .before .before .before .before .before .before .loop .places) (c .before .before .before .before .before .before .before .before .loop .n)) (c .before .before .before .before .before .before .before .before .loop .live) (c .before .before .before .before .before .before .before .before .loop .i) (c .before .before .before .before .before .before .before .before .loop .p) (c .before .before .before .before .before .before .before .before .loop .inv) (c .before .before .before .before .before .before .before .loop-test .taken) _ _ _ _ refl refl (c .before .before .before .start-in .ensures .0) (c .before .before .pair-words .ensures .0) (c .if2 .taken) (c .before .if1 .left) .1
+loop-again c = pair-bound (c .before .before .before .before .before .before .before .before .before .before .before .before .args .heads .now) (c .before .before .before .before .before .before .before .before .before .before .before .before .args .pairs .now) (c .before .before .before .before .before .before .before .before .before .before .before .before .args .arena .now) (c .before .before .before .before .before .before .before .before .before .before .before .before .args .part .now) (c .before .before .before .before .before .before .before .before .before .before .before .before .args .at) (varsOf (c .before .before .before .before .before .before .before .before .before .before .before .before .args .places .now) (c .before .before .before .before .before .before .before .before .before .before .before .before .args .bound)) (c .before .before .before .before .before .before .before .before .before .before .before .before .args .held) (varsOf (c .before .before .before .before .before .before .before .before .loop .places) (c .before .before .before .before .before .before .before .before .loop .n)) (c .before .before .before .before .before .before .before .before .loop .live) (c .before .before .before .before .before .before .before .before .loop .i) (c .before .before .before .before .before .before .before .before .loop .p) (c .before .before .before .before .before .before .before .before .loop .inv) (c .before .before .before .before .before .before .before .loop-test .taken) _ _ _ _ refl refl (c .before .before .before .start-in .ensures .0) (c .before .before .pair-words .ensures .0) (c .if2 .taken) (c .before .if1 .left) .1
 
 add-p-2 : tie.Need-add-p-2 Inv-loop μ-loop
 add-p-2 c = omega (arith, c .before .before .before .before .before .before .before .before .loop .inv .near, c .before .before .before .before .before .before .before .before .loop .inv .read, c .before .before .before .before .before .before .before .before .before .before .before .before .pre .0, c .before .before .pair-words .ensures .1)
@@ -88,13 +88,13 @@ loop-less-2 : tie.Need-loop-less-2 Inv-loop μ-loop
 loop-less-2 c = omega (arith, c .before .before .before .before .before .before .before .before .loop .inv .read, c .before .before .before .before .before .before .before .loop-test .taken)
 
 loop-again-2 : tie.Need-loop-again-2 Inv-loop μ-loop
-loop-again-2 c = pair-on (c .before .before .before .before .before .before .before .before .before .before .before .before .args .pairs .now) (c .before .before .before .before .before .before .before .before .before .before .before .before .args .arena .now) (c .before .before .before .before .before .before .before .before .before .before .before .before .args .part .now) (c .before .before .before .before .before .before .before .before .before .before .before .before .args .at) (varsOf (c .before .before .before .before .before .before .before .before .before .before .before .before .args .places .now) (c .before .before .before .before .before .before .before .before .before .before .before .before .args .bound)) (c .before .before .before .before .before .before .before .before .before .before .before .before .args .held) (varsOf (c .before .before .before .before .before .before .before .before .loop .places) (c .before .before .before .before .before .before .before .before .loop .n)) (c .before .before .before .before .before .before .before .before .loop .live) (c .before .before .before .before .before .before .before .before .loop .i) (c .before .before .before .before .before .before .before .before .loop .p) (c .before .before .before .before .before .before .before .before .loop .inv) (c .before .before .before .before .before .before .before .loop-test .taken) _ _ _ _ refl refl (c .before .before .before .start-in .ensures .0) (c .before .before .pair-words .ensures .0) (c .if2 .left) (c .before .if1 .left)
+loop-again-2 c = pair-on (c .before .before .before .before .before .before .before .before .before .before .before .before .args .heads .now) (c .before .before .before .before .before .before .before .before .before .before .before .before .args .pairs .now) (c .before .before .before .before .before .before .before .before .before .before .before .before .args .arena .now) (c .before .before .before .before .before .before .before .before .before .before .before .before .args .part .now) (c .before .before .before .before .before .before .before .before .before .before .before .before .args .at) (varsOf (c .before .before .before .before .before .before .before .before .before .before .before .before .args .places .now) (c .before .before .before .before .before .before .before .before .before .before .before .before .args .bound)) (c .before .before .before .before .before .before .before .before .before .before .before .before .args .held) (varsOf (c .before .before .before .before .before .before .before .before .loop .places) (c .before .before .before .before .before .before .before .before .loop .n)) (c .before .before .before .before .before .before .before .before .loop .live) (c .before .before .before .before .before .before .before .before .loop .i) (c .before .before .before .before .before .before .before .before .loop .p) (c .before .before .before .before .before .before .before .before .loop .inv) (c .before .before .before .before .before .before .before .loop-test .taken) _ _ _ _ refl refl (c .before .before .before .start-in .ensures .0) (c .before .before .pair-words .ensures .0) (c .if2 .left) (c .before .if1 .left)
 
 matches-requires : tie.Need-matches-requires Inv-loop μ-loop
 matches-requires c κs = search needs
 
 returns-2 : tie.Need-returns-2 Inv-loop μ-loop
-returns-2 c = rw (c .matches .ensures) (going-end (c .before .before .before .before .before .before .args .pairs .now) (c .before .before .before .before .before .before .args .arena .now) (c .before .before .before .before .before .before .args .part .now) (c .before .before .before .before .before .before .args .at) (varsOf (c .before .before .before .before .before .before .args .places .now) (c .before .before .before .before .before .before .args .bound)) (c .before .before .before .before .before .before .args .held) (varsOf (c .before .before .loop .places) (c .before .before .loop .n)) (c .before .before .loop .live) (c .before .before .loop .i) (c .before .before .loop .p) (c .before .before .loop .inv) (omega (arith, c .before .loop-test .left)))
+returns-2 c = rw (c .matches .ensures) (going-end (c .before .before .before .before .before .before .args .heads .now) (c .before .before .before .before .before .before .args .pairs .now) (c .before .before .before .before .before .before .args .arena .now) (c .before .before .before .before .before .before .args .part .now) (c .before .before .before .before .before .before .args .at) (varsOf (c .before .before .before .before .before .before .args .places .now) (c .before .before .before .before .before .before .args .bound)) (c .before .before .before .before .before .before .args .held) (varsOf (c .before .before .loop .places) (c .before .before .loop .n)) (c .before .before .loop .live) (c .before .before .loop .i) (c .before .before .loop .p) (c .before .before .loop .inv) (omega (arith, c .before .loop-test .left)))
 
 pub match-pattern-spec : {M : Type 1} → statement M
 match-pattern-spec =

@@ -11,7 +11,7 @@ use Rattle.rewrite.proofs.pair_words.Tie as tie
 use Rattle.rewrite.proofs.pair_words.Reads as reads
 use Rattle.rewrite.proofs.pair_words.Lts as lts
 use Rattle.rewrite.proofs.new_words.Reads as new-words-reads
-use Rattle.marks.proofs.same_tree.Reads as same-tree-reads
+use Rattle.rewrite.proofs.matches_variable.Reads as matches-variable-reads
 use Rattle.marks.proofs.size_in.Reads as size-in-reads
 use Rattle.marks.proofs.type_in.Reads as type-in-reads
 
@@ -33,20 +33,20 @@ new-words-requires c κs = search needs
 returns-2 : tie.Need-returns-2
 returns-2 c = (new (c .before .before .before .if1 .left) (c .before .if2 .taken) (c .new-words .ensures .0), c .new-words .ensures .1)
 
-mul-same-tree : tie.Need-mul-same-tree
-mul-same-tree c = search needs
+mul-matches-variable : tie.Need-mul-matches-variable
+mul-matches-variable c = search needs
 
-sub-same-tree : tie.Need-sub-same-tree
-sub-same-tree c = search needs
+sub-matches-variable : tie.Need-sub-matches-variable
+sub-matches-variable c = search needs
 
-part-same-tree-start : tie.Need-part-same-tree-start
-part-same-tree-start c = search needs
+part-matches-variable-start : tie.Need-part-matches-variable-start
+part-matches-variable-start c = search needs
 
-part-same-tree-end : tie.Need-part-same-tree-end
-part-same-tree-end c = search needs
+part-matches-variable-end : tie.Need-part-matches-variable-end
+part-matches-variable-end c = search needs
 
-same-tree-requires : tie.Need-same-tree-requires
-same-tree-requires c κs = search needs
+matches-variable-requires : tie.Need-matches-variable-requires
+matches-variable-requires c κs = search needs
 
 size-in-requires : tie.Need-size-in-requires
 size-in-requires c κs = search needs
@@ -55,10 +55,10 @@ mul-result : tie.Need-mul-result
 mul-result c = search needs
 
 returns-3 : tie.Need-returns-3
-returns-3 c = (like (c .before .before .before .before .before .before .before .if1 .left) (c .before .before .before .before .before .if2 .left) (c .before .before .before .before .if3 .taken) (same-as (part-rest (c .before .before .before .before .before .before .before .before .before .before .args .p) (c .before .before .before .before .before .before .before .before .before .before .args .part .now)) (c .before .if4 .taken) (c .before .before .same-tree .ensures)) (ap (λ x. 2 * x) (c .size-in .ensures .0)), omega (arith, c .size-in .ensures .1))
+returns-3 c = (like (c .before .before .before .before .before .before .before .if1 .left) (c .before .before .before .before .before .if2 .left) (c .before .before .before .before .if3 .taken) (same-as (part-rest (c .before .before .before .before .before .before .before .before .before .before .args .p) (c .before .before .before .before .before .before .before .before .before .before .args .part .now)) (c .before .if4 .taken) (c .before .before .matches-variable .ensures)) (ap (λ x. 2 * x) (c .size-in .ensures .0)), omega (arith, c .size-in .ensures .1))
 
 returns-4 : tie.Need-returns-4
-returns-4 c = (unlike (c .before .before .before .before .before .before .if1 .left) (c .before .before .before .before .if2 .left) (c .before .before .before .if3 .taken) (same-as (part-rest (c .before .before .before .before .before .before .before .before .before .args .p) (c .before .before .before .before .before .before .before .before .before .args .part .now)) (c .if4 .left) (c .before .same-tree .ensures)) refl, omega arith)
+returns-4 c = (unlike (c .before .before .before .before .before .before .if1 .left) (c .before .before .before .before .if2 .left) (c .before .before .before .if3 .taken) (same-as (part-rest (c .before .before .before .before .before .before .before .before .before .args .p) (c .before .before .before .before .before .before .before .before .before .args .part .now)) (c .if4 .left) (c .before .matches-variable .ensures)) refl, omega arith)
 
 type-in-requires : tie.Need-type-in-requires
 type-in-requires c κs = search needs
@@ -91,11 +91,11 @@ pair-words-spec =
     shared-slice-read-w
     new-words-requires
     returns-2
-    mul-same-tree
-    sub-same-tree
-    part-same-tree-start
-    part-same-tree-end
-    same-tree-requires
+    mul-matches-variable
+    sub-matches-variable
+    part-matches-variable-start
+    part-matches-variable-end
+    matches-variable-requires
     size-in-requires
     mul-result
     returns-3
