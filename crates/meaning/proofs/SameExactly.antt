@@ -3,7 +3,7 @@ use Prim.Native.Nat.{ℕ}
 use mathlib.Core.Path.{_≡_, refl, sym, _∙_}
 use mathlib.Core.List.{_∷_}
 use mathlib.Core.Bool.{Bool, true, false, not}
-use mathlib.Core.Option.{Option, none, some}
+use mathlib.Core.Option.{none, some}
 use native.Mathlib.Omega.{arith}
 use lib.ListN.{getElem?}
 use Rattle.words.specs.Reader.{Words, and}
@@ -11,12 +11,12 @@ use Rattle.words.specs.Views.{equalWords}
 use Rattle.words.proofs.Stretches.{equal-true, equal-same}
 use Rattle.grammar.specs.Grammar.{Grammar}
 use Rattle.tree.specs.Tree.{after, firstTree}
-use Rattle.tree.specs.Blanks.{holdsBlank, Blank}
+use Rattle.tree.specs.Blanks.{holdsBlank}
 use Rattle.tree.proofs.Blanks.{blank-there, blank-held}
 use Rattle.rules.specs.Limits.{markVariable}
 use Rattle.rules.specs.Rules.{shapes}
 use Rattle.meaning.specs.declared.State.{State}
-use Rattle.meaning.specs.Computation.{Result, ok, thenOf, present, choose}
+use Rattle.meaning.specs.Computation.{ok, thenOf, present, choose}
 use Rattle.meaning.specs.Meaning.{Bindings, variable, sameTree, match}
 use Rattle.meaning.specs.Sound.{KnownEqual, SameExactly}
 

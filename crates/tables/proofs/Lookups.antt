@@ -69,35 +69,25 @@ pub token-by : (g : Grammar) (t m : ℕ) → m ≡ mapOf (kindOf g t) → eqb m 
 unfolding isToken
 token-by g t m e = rw e
 
-values-number : (k : Kind) → length (formsOf k) ≤ 16 → eqb (valuesOf k) (greatestNumber + 1) ≡ isNumberKind k
-unfolding valuesOf isNumberKind formsOf
-values-number (token c) h = go (eqb c 2)
+-- how many values a kind has tells numbers, and names and strings
+values-tell : (k : Kind) → length (formsOf k) ≤ 16 → (eqb (valuesOf k) (greatestNumber + 1) ≡ isNumberKind k) × (eqb (valuesOf k) (greatestName + 1) ≡ isTextKind k)
+unfolding valuesOf isNumberKind isTextKind formsOf
+values-tell (token c) h = go (eqb c 2)
   where
-    go : (b : Bool) → eqb (pick b (greatestNumber + 1) (greatestName + 1)) (greatestNumber + 1) ≡ b
-    go true = refl
-    go false = refl
-values-number (opt e) h = refl
-values-number (sequence style e) h = refl
-values-number (forms fs) h = ne-eqb (length fs) (greatestNumber + 1) (λ e. omega arith)
+    go : (b : Bool) → (eqb (pick b (greatestNumber + 1) (greatestName + 1)) (greatestNumber + 1) ≡ b) × (eqb (pick b (greatestNumber + 1) (greatestName + 1)) (greatestName + 1) ≡ not b)
+    go true = (refl, refl)
+    go false = (refl, refl)
+values-tell (opt e) h = (refl, refl)
+values-tell (sequence style e) h = (refl, refl)
+values-tell (forms fs) h = (ne-eqb (length fs) (greatestNumber + 1) (λ e. omega arith), ne-eqb (length fs) (greatestName + 1) (λ e. omega arith))
 
 pub number-by : (g : Grammar) (t n : ℕ) → length (formsOf (kindOf g t)) ≤ 16 → n ≡ valuesOf (kindOf g t) → eqb n (greatestNumber + 1) ≡ isNumber g t
 unfolding isNumber
-number-by g t n h e = rw e (values-number (kindOf g t) h)
-
-values-text : (k : Kind) → length (formsOf k) ≤ 16 → eqb (valuesOf k) (greatestName + 1) ≡ isTextKind k
-unfolding valuesOf isTextKind formsOf
-values-text (token c) h = go (eqb c 2)
-  where
-    go : (b : Bool) → eqb (pick b (greatestNumber + 1) (greatestName + 1)) (greatestName + 1) ≡ not b
-    go true = refl
-    go false = refl
-values-text (opt e) h = refl
-values-text (sequence style e) h = refl
-values-text (forms fs) h = ne-eqb (length fs) (greatestName + 1) (λ e. omega arith)
+number-by g t n h e = rw e (values-tell (kindOf g t) h .0)
 
 pub text-by : (g : Grammar) (t n : ℕ) → length (formsOf (kindOf g t)) ≤ 16 → n ≡ valuesOf (kindOf g t) → eqb n (greatestName + 1) ≡ isText g t
 unfolding isText
-text-by g t n h e = rw e (values-text (kindOf g t) h)
+text-by g t n h e = rw e (values-tell (kindOf g t) h .1)
 
 -- ROWS
 

@@ -9,9 +9,12 @@ use generate::blank_fields;
 use reference::grammar::Grammar;
 use reference::tree::Tree;
 
-/// A transfer with a payer and a payee, in the trees of `blank_fields`.
+/// A transfer with a payer and a payee, and a sequence of fields, in the trees of
+/// `blank_fields`.
 const TRANSFER: u32 = 2;
 const WITH_TWO_FIELDS: u32 = 0;
+const FIELDS: u32 = 8;
+const IN_A_SEQUENCE: &str = "alike, a blank in a sequence";
 /// How often each make of two fields must come.
 const LEAST: u32 = 50;
 
@@ -31,6 +34,12 @@ fn others(tree: &Tree, other: &Tree) -> Vec<(u32, u32)> {
     }
     let pairs = words.into_iter().zip(others);
     pairs.filter(|(word, other)| word != other).collect()
+}
+
+/// Whether a sequence in a tree holds a blank.
+fn blank_in_a_sequence(grammar: &Grammar, tree: &Tree) -> bool {
+    let mut nodes = tree.preorder();
+    nodes.any(|node| node.ty() == FIELDS && node.holds_blank(grammar))
 }
 
 /// How two fields are to each other, as it is counted.
@@ -61,6 +70,9 @@ fn fields_that_hold_blanks_are_kept_apart() {
                     panic!("seed {seed}: a transfer has two fields");
                 };
                 *makes.entry(make(&grammar, payer, payee)).or_default() += 1;
+                if payer == payee && blank_in_a_sequence(&grammar, payer) {
+                    *makes.entry(IN_A_SEQUENCE.into()).or_default() += 1;
+                }
             }
         }
     }
@@ -72,6 +84,7 @@ fn fields_that_hold_blanks_are_kept_apart() {
     }
     let at_nestings = (2..=6).map(|nesting| format!("alike, a blank at nesting {nesting}"));
     let others = [
+        IN_A_SEQUENCE,
         "alike, many nodes, no blank",
         "alike, few nodes, no blank",
         "one word is 0 in one of them",
