@@ -38,13 +38,13 @@ extern "C" {
  * rounds an exact half to the even whole number. 2 is T-02: a number may be as
  * great as 4,000,000,000 hundredths. 4 is T-04: the list, and operations on
  * sequences. 5 is T-05: in a pattern a variable whose tree holds an empty name
- * or string matches nothing.
+ * or string matches nothing. 6 is T-06: reach 3, the one-pass rule.
  *
  * tamarind_edition() is the archive's. A program asks tamarind_is_this_edition()
  * once when it starts, and makes no other call if the answer is 0: header and
  * archive do not belong together. An archive that is older than editions does
  * not link. */
-#define TAMARIND_EDITION 5
+#define TAMARIND_EDITION 6
 
 uint32_t tamarind_edition(void);
 

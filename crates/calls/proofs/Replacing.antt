@@ -1,16 +1,17 @@
 -- What `replace` ensures, from what `finish` and `replace_tree` ensure. Assumes nothing.
-use Prim.Native.Nat.{ℕ, zero, suc, _+_, _*_, _≤_}
+use Prim.Native.Nat.{ℕ, zero, suc, _+_, _*_, _<_, _≤_}
 use mathlib.Core.Path.{_≡_, refl, ap, _∙_}
-use mathlib.Core.List.{List}
+use mathlib.Core.List.{List, _++_}
 use mathlib.Core.Bool.{Bool, true, false}
 use native.Mathlib.Omega.{arith}
-use lib.ListN.{take, drop}
+use lib.ListN.{take, drop, length-append}
+use lib.Seq.{length-take-le}
 use lib.Dec.{leb}
 use Rattle.words.specs.Reader.{Words, pick, and}
 use Rattle.words.proofs.Laws.{and-both}
 use Rattle.grammar.specs.Grammar.{Grammar}
 use Rattle.tree.specs.Limits.{mostNodes, mostNesting}
-use Rattle.tree.specs.Tree.{Tree, size, nesting, isTree, firstTree, typeOf, put}
+use Rattle.tree.specs.Tree.{Tree, size, nesting, isTree, after, firstTree, typeOf, put}
 use Rattle.tree.proofs.Trees.{passes-tree}
 use Rattle.rules.specs.Rules as Rules
 use Rattle.rules.specs.Rules.{Piece, pieces}
@@ -23,7 +24,7 @@ use Rattle.rules.specs.Views.{pairsAt}
 use Rattle.calls.specs.Engine.{Open, Held, Given, Setting, Sure, Finishes, Replaces}
 use Rattle.rewrite.specs.declared.arena.Placed.{Placed}
 use Rattle.calls.specs.declared.Built.{Built}
-use Rattle.rewrite.proofs.Standing.{take-less, standing-kept}
+use Rattle.rewrite.proofs.Standing.{take-less, tree-length, some-nodes, standing-kept}
 use Rattle.calls.proofs.Going.{then-ok, then-stop, sure-first, sure-as, check-sure, says-ok, says-stop, stop-says, says-map}
 
 -- THE MEANING, STEP BY STEP
@@ -96,9 +97,15 @@ module _ (g : Grammar) (w w′ : Words) (base t : ℕ) (scope : Words) (nodes : 
   placed-same zero x e = absurd (e refl)
   placed-same (suc k) x e = x
 
+-- the place of node i is one of the scope's afterwards
+put-inside : (g : Grammar) (i : ℕ) (scope ws : Words) {t target : ℕ} → i < size scope → Tree g t scope → Tree g target ws → Tree g t (put g scope (2 * i) ws) → i < size (put g scope (2 * i) ws)
+unfolding put
+put-inside g i scope ws h old new whole =
+    omega (arith, some-nodes ws new, tree-length old, tree-length new, tree-length whole, length-take-le (2 * i) scope (omega (arith, tree-length old)), length-append (take (2 * i) scope) (ws ++ after g (drop (2 * i) scope) 1), length-append ws (after g (drop (2 * i) scope) 1))
+
 -- THE CODE'S WAYS
 
-module _ (given : Given) (w w₁ : Words) (at base n i : ℕ) (frame : Open) (deep : ℕ) (left : State) (b r : Built) (low : base + 2 * n ≤ frame .top)
+module _ (given : Given) (w w₁ : Words) (at base n i : ℕ) (frame : Open) (deep : ℕ) (left : State) (b r : Built) (inside : i < n) (low : base + 2 * n ≤ frame .top)
     (f : Finishes given w w₁ at frame deep left b) where
   module _ (g : Grammar) (rules : Rules.Rules) (v : Bindings) (target : ℕ) (scope : Words) (set : Setting given g rules) (held : Held g w frame v) where
     abbrev d : M.Calls
@@ -130,14 +137,14 @@ module _ (given : Given) (w w₁ : Words) (at base n i : ℕ) (frame : Open) (de
     long = f 0 .long;
     meant = λ g rules v t target scope set held stands sure.
         let x = finish-says g rules v target scope set held sure in
-        (take-less base (frame .top) w w₁ (omega arith) (x .0), λ z. take-less (base + 2 * n) (frame .top) w w₁ low (x .0), stopped-says g rules v target scope set held ne x (Standing g w₁ base n t));
+        (take-less base (frame .top) w w₁ (omega arith) (x .0), λ z. take-less (base + 2 * n) (frame .top) w w₁ low (x .0), stopped-says g rules v target scope set held ne x (λ ws. Standing g w₁ base n t ws × (i < n)));
   })
 
   module _ (w₂ : Words) (p : Placed) (z : b .stop ≡ 0) (x : Replaced (given .heads) (given .rows) w₁ w₂ base n i (frame .top) (b .nodes) p) where
     put-says : (g : Grammar) (rules : Rules.Rules) (v : Bindings) (t target : ℕ) (scope : Words) → Setting given g rules → Held g w frame v → Standing g w base n t scope
         → Sure (M.replace true g rules (calls true g rules deep) target (pieces (pairsAt (given .book) at)) scope (record { place = 2 * i; bound = v }) left)
         → (take base w₂ ≡ take base w) × ((p .stop ≡ 0 → ⊥) → take (base + 2 * n) w₂ ≡ take (base + 2 * n) w)
-        × Says (Standing g w₂ base (p .nodes) t) (p .stop) (b .left) (M.replace true g rules (calls true g rules deep) target (pieces (pairsAt (given .book) at)) scope (record { place = 2 * i; bound = v }) left)
+        × Says (λ ws. Standing g w₂ base (p .nodes) t ws × (i < p .nodes)) (p .stop) (b .left) (M.replace true g rules (calls true g rules deep) target (pieces (pairsAt (given .book) at)) scope (record { place = 2 * i; bound = v }) left)
     put-says g rules v t target scope set held stands sure =
         let m : M.Found = record { place = 2 * i; bound = v } in
         let d = calls true g rules deep in
@@ -149,11 +156,12 @@ module _ (given : Given) (w w₁ : Words) (at base n i : ℕ) (frame : Open) (de
         let typed = placing-typed g target scope (2 * i) (q .0) (b .left) sure₁ in
         let here = x .replaced g t target scope (q .0) (set .tables) (standing-kept w w₁ (frame .top) low (y .0) stands) (q .1) typed in
         let new = put g scope (2 * i) (q .0) in
-        let P = Standing g w₂ base (p .nodes) t in (
+        let P : Words → Type 0 = λ ws. Standing g w₂ base (p .nodes) t ws × (i < p .nodes) in
+        let there : p .stop ≡ 0 → P new = λ e. let s = placed-stands g w₁ w₂ base t new (p .nodes) (p .stop) (here .1) e in (s, omega (arith, s .nodes, put-inside g i scope (q .0) (omega (arith, stands .nodes, inside)) (stands .tree) (q .1 .tree) (s .tree))) in (
           placed-kept g w₁ w₂ base t new (p .nodes) (p .stop) (here .1) ∙ take-less base (frame .top) w w₁ (omega arith) (y .0),
           λ ne. ap (take (base + 2 * n)) (placed-same g w₁ w₂ base t new (p .nodes) (p .stop) (here .1) ne) ∙ take-less (base + 2 * n) (frame .top) w w₁ low (y .0),
           says-map P P _ _ (b .left) (p .stop) (λ _ a. a) go
-              (placing-says g target scope (2 * i) (q .0) (b .left) P (p .stop) (here .0) (placed-stands g w₁ w₂ base t new (p .nodes) (p .stop) (here .1)) sure₁),
+              (placing-says g target scope (2 * i) (q .0) (b .left) P (p .stop) (here .0) there sure₁),
         )
 
   -- it is, and is put in place or stops there

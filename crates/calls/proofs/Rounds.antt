@@ -5,31 +5,35 @@ use mathlib.Core.List.{List}
 use mathlib.Core.Bool.{Bool, true, false, not}
 use mathlib.Core.Option.{Option, none, some}
 use native.Mathlib.Omega.{arith}
-use lib.ListN.{length, take}
+use lib.ListN.{length, getD, take, drop, length-append, length-drop}
 use borrow.Author.Tests.{le-leb, lt-leb}
 use Rattle.words.specs.Reader.{Words, value}
+use Rattle.grammar.specs.Limits.{mostTypes}
 use Rattle.grammar.specs.Grammar.{Grammar}
 use Rattle.tree.specs.Limits.{mostNodes}
-use Rattle.tree.specs.Tree.{size}
+use Rattle.tree.specs.Tree.{size, after, firstTree}
+use Rattle.tree.proofs.Trees.{trees-even, first-after}
 use Rattle.rules.specs.Rules as Rules
-use Rattle.rules.specs.Rules.{Piece, Rule, rootOnly, firstMatch, exhaustive, pieces}
+use Rattle.rules.specs.Rules.{Piece, Rule, rootOnly, firstMatch, exhaustive, onePass, searches, pieces}
 use Rattle.rules.specs.Layout as Layout
 use Rattle.meaning.specs.Limits.{mostLive}
 use Rattle.meaning.specs.declared.State.{State}
 use Rattle.meaning.specs.Computation.{Result, ok, stop, thenOf, stopUnless, whether, return, liveWithin}
 use Rattle.meaning.specs.Meaning as M
-use Rattle.meaning.specs.Meaning.{Env, total, live, Ending, done, stopped, cannotGoOn, called, opened, afterRound, start, begin, fits, calls}
+use Rattle.meaning.specs.Meaning.{Env, total, live, Ending, done, stopped, cannotGoOn, called, opened, Turned, afterRound, start, begin, fits, calls}
 use Rattle.rewrite.specs.Vars.{Vars, EnvAt, startsOf}
 use Rattle.rewrite.specs.Matching.{bindings}
 use Rattle.rewrite.specs.Arena.{Standing, Says}
-use Rattle.rules.specs.Views.{pairsAt, Planned, strategyAs, againOf}
-use Rattle.calls.specs.Engine.{Open, Seeking, Room, Held, Given, Setting, Sure, SoughtAs, EndedAs, FoundFits, Tree, Seeks, Replaces, Left, Calls}
+use Rattle.rules.specs.Views.{pairsAt, Planned, strategyAs, againOf, onwardOf}
+use Rattle.calls.specs.Engine.{Open, Seeking, Room, Held, Given, Setting, Sure, SoughtAs, Begins, seekFrom, EndedAs, FoundFits, Tree, Seeks, Replaces, Left, Calls}
 use Rattle.rules.specs.declared.Plan.{Plan}
 use Rattle.calls.specs.declared.Found as Code
 use Rattle.calls.specs.declared.Found.the-variants.{At, Nowhere, Stopped}
 use Rattle.calls.specs.declared.Built.{Built}
 use Rattle.calls.specs.declared.Called.{Called}
+use Rattle.marks.specs.Marked.{sizeIn}
 use Rattle.rewrite.proofs.Standing.{take-less, standing-kept, standing-below}
+use Rattle.rewrite.proofs.Placing.{child-there}
 use Rattle.calls.proofs.Frames.{env-up, env-kept}
 use Rattle.calls.proofs.Going.{then-ok, then-stop, sure-first, sure-as, says-ok, says-stop}
 use Rattle.calls.proofs.Applied.{begin-sure}
@@ -60,7 +64,7 @@ opened-stop scope rest m n l e = rw e
 module _ (g : Grammar) (rules : Rules.Rules) (deeper : M.Calls) (r : Rule) (args : Env) (scope : Words) (others : ℕ) (left : State) where
   -- the rounds of a call that has begun
   abbrev Begun : List Piece → M.Called → Type 0
-  Begun ps c = (live (start args scope others) ≤ mostLive → c ≡ M.rounds true g rules deeper (suc (left .attempts)) r ps args scope others 0 left)
+  Begun ps c = (live (start args scope others) ≤ mostLive → c ≡ M.rounds true g rules deeper (suc (left .attempts)) r ps args scope 0 others 0 left)
       × (mostLive < live (start args scope others) → c ≡ called scope 0 (stopped 44) left)
 
   with-begins : (o : Option (List Piece)) → (M.callWith true g rules deeper o r args scope others left .ending ≡ cannotGoOn → ⊥)
@@ -68,7 +72,7 @@ module _ (g : Grammar) (rules : Rules.Rules) (deeper : M.Calls) (r : Rule) (args
   unfolding M.callWith
   with-begins none h = absurd (h refl)
   with-begins (some ps) h =
-      let rest : State → M.Called = λ now. M.rounds true g rules deeper (suc (now .attempts)) r ps args scope others 0 now in
+      let rest : State → M.Called = λ now. M.rounds true g rules deeper (suc (now .attempts)) r ps args scope 0 others 0 now in
       let m = begin true g r args scope others left in
       let e = begin-sure g r args scope others left (opened-sure scope rest m h) .1 in
       (ps, refl, (λ f. opened-ok scope rest m left (e ∙ live-within (live (start args scope others)) left f), λ f. opened-stop scope rest m 44 left (e ∙ live-beyond (live (start args scope others)) left f)))
@@ -80,43 +84,58 @@ module _ (g : Grammar) (rules : Rules.Rules) (deeper : M.Calls) (r : Rule) (args
 
 -- ONE ROUND
 
-module _ (scope : Words) (k : ℕ) (rest : Words → State → M.Called) (m : Result (Option Words)) where
+-- where the rounds go on after a replacement
+abbrev placeAfter : Rules.Strategy → Turned → ℕ
+placeAfter rootOnly t = 0
+placeAfter firstMatch t = 0
+placeAfter exhaustive t = 0
+placeAfter onePass t = t .behind
+
+module _ (scope : Words) (k : ℕ) (rest : Words → ℕ → State → M.Called) (m : Result (Option Turned)) where
   after-sure : (s : Rules.Strategy) → (afterRound scope k s rest m .ending ≡ cannotGoOn → ⊥) → Sure m
   unfolding afterRound
   after-sure rootOnly h e = h (rw e)
   after-sure firstMatch h e = h (rw e)
   after-sure exhaustive h e = h (rw e)
+  after-sure onePass h e = h (rw e)
 
   after-none : (s : Rules.Strategy) (l : State) → m ≡ ok none l → afterRound scope k s rest m ≡ called scope k done l
   unfolding afterRound
   after-none rootOnly l e = rw e
   after-none firstMatch l e = rw e
   after-none exhaustive l e = rw e
+  after-none onePass l e = rw e
 
   after-stop : (s : Rules.Strategy) (n : ℕ) (l : State) → m ≡ stop n l → afterRound scope k s rest m ≡ called scope k (stopped n) l
   unfolding afterRound
   after-stop rootOnly n l e = rw e
   after-stop firstMatch n l e = rw e
   after-stop exhaustive n l e = rw e
+  after-stop onePass n l e = rw e
 
-  after-done : (s : Rules.Strategy) (next : Words) (l : State) → againOf (strategyAs s) ≡ false → m ≡ ok (some next) l → afterRound scope k s rest m ≡ called next (suc k) done l
+  after-done : (s : Rules.Strategy) (t : Turned) (l : State) → againOf (strategyAs s) ≡ false → m ≡ ok (some t) l → afterRound scope k s rest m ≡ called (t .scope) (suc k) done l
   unfolding afterRound
-  after-done rootOnly next l a e = rw e
-  after-done firstMatch next l a e = rw e
-  after-done exhaustive next l a e = let z : _≡_ {A = ℕ} 0 1 = cc in absurd (omega arith)
+  after-done rootOnly t l a e = rw e
+  after-done firstMatch t l a e = rw e
+  after-done exhaustive t l a e = let z : _≡_ {A = ℕ} 0 1 = cc in absurd (omega arith)
+  after-done onePass t l a e = let z : _≡_ {A = ℕ} 0 1 = cc in absurd (omega arith)
 
-  after-again : (s : Rules.Strategy) (next : Words) (l : State) → againOf (strategyAs s) ≡ true → m ≡ ok (some next) l → afterRound scope k s rest m ≡ rest next l
+  after-again : (s : Rules.Strategy) (t : Turned) (l : State) → againOf (strategyAs s) ≡ true → m ≡ ok (some t) l → afterRound scope k s rest m ≡ rest (t .scope) (placeAfter s t) l
   unfolding afterRound
-  after-again rootOnly next l a e = let z : _≡_ {A = ℕ} 0 1 = cc in absurd (omega arith)
-  after-again firstMatch next l a e = let z : _≡_ {A = ℕ} 0 1 = cc in absurd (omega arith)
-  after-again exhaustive next l a e = rw e
+  after-again rootOnly t l a e = let z : _≡_ {A = ℕ} 0 1 = cc in absurd (omega arith)
+  after-again firstMatch t l a e = let z : _≡_ {A = ℕ} 0 1 = cc in absurd (omega arith)
+  after-again exhaustive t l a e = rw e
+  after-again onePass t l a e = rw e
 
-module _ (g : Grammar) (rules : Rules.Rules) (deeper : M.Calls) (r : Rule) (ps : List Piece) (args : Env) (now : Words) (others : ℕ) where
+module _ (g : Grammar) (rules : Rules.Rules) (deeper : M.Calls) (r : Rule) (ps : List Piece) (args : Env) (now : Words) (place others : ℕ) where
   abbrev sought : State → Result (Option M.Found)
-  sought left = M.seek true g rules deeper r now 0 (start args now others) left
+  sought left = M.seek true g rules deeper r (drop place now) place (start args now others) left
 
-  abbrev turned : State → Result (Option Words)
-  turned left = M.turn true g rules deeper r ps args now others left
+  abbrev turned : State → Result (Option Turned)
+  turned left = M.turn true g rules deeper r ps args now place others left
+
+  abbrev turnedTo : M.Found → Words → Turned
+  turnedTo f ws = record { scope = ws; behind = f .place + length (firstTree g (drop (f .place) ws)) }
 
   abbrev replaced : M.Found → State → Result Words
   replaced f left = M.replace true g rules deeper (r .target) ps now f left
@@ -134,13 +153,13 @@ module _ (g : Grammar) (rules : Rules.Rules) (deeper : M.Calls) (r : Rule) (ps :
     unfolding M.turn thenOf
     turn-stop n l e = rw e
 
-    turn-found : (f : M.Found) (l : State) → sought left ≡ ok (some f) l → turned left ≡ thenOf (replaced f l) (λ ws. return (some ws))
+    turn-found : (f : M.Found) (l : State) → sought left ≡ ok (some f) l → turned left ≡ thenOf (replaced f l) (λ ws. return (some (turnedTo f ws)))
     unfolding M.turn thenOf whether
     turn-found f l e = rw e
 
   module _ (most k : ℕ) (left : State) where
     abbrev round : M.Called
-    round = M.rounds true g rules deeper (suc most) r ps args now others k left
+    round = M.rounds true g rules deeper (suc most) r ps args now place others k left
 
     turn-sure : (round .ending ≡ cannotGoOn → ⊥) → Sure (turned left)
     unfolding M.rounds
@@ -156,23 +175,51 @@ module _ (g : Grammar) (rules : Rules.Rules) (deeper : M.Calls) (r : Rule) (ps :
 
     module _ (f : M.Found) (l : State) (e : sought left ≡ ok (some f) l) where
       replace-sure : Sure (turned left) → Sure (replaced f l)
-      replace-sure s = sure-first (replaced f l) (λ ws. return (some ws)) (sure-as (turn-found left f l e) s)
+      replace-sure s = sure-first (replaced f l) (λ ws. return (some (turnedTo f ws))) (sure-as (turn-found left f l e) s)
 
       round-cut : (n : ℕ) (l₂ : State) → replaced f l ≡ stop n l₂ → round ≡ called now k (stopped n) l₂
       unfolding M.rounds
-      round-cut n l₂ q = after-stop now k _ (turned left) (r .strategy) n l₂ (turn-found left f l e ∙ then-stop (replaced f l) (λ ws. return (some ws)) n l₂ q)
+      round-cut n l₂ q = after-stop now k _ (turned left) (r .strategy) n l₂ (turn-found left f l e ∙ then-stop (replaced f l) (λ ws. return (some (turnedTo f ws))) n l₂ q)
 
       round-done : (ws : Words) (l₂ : State) → againOf (strategyAs (r .strategy)) ≡ false → replaced f l ≡ ok ws l₂ → round ≡ called ws (suc k) done l₂
       unfolding M.rounds
-      round-done ws l₂ a q = after-done now k _ (turned left) (r .strategy) ws l₂ a (turn-found left f l e ∙ then-ok (replaced f l) (λ ws. return (some ws)) ws l₂ q)
+      round-done ws l₂ a q = after-done now k _ (turned left) (r .strategy) (turnedTo f ws) l₂ a (turn-found left f l e ∙ then-ok (replaced f l) (λ ws. return (some (turnedTo f ws))) ws l₂ q)
 
-      round-again : (ws : Words) (l₂ : State) → againOf (strategyAs (r .strategy)) ≡ true → replaced f l ≡ ok ws l₂ → round ≡ M.rounds true g rules deeper most r ps args ws others (suc k) l₂
+      round-again : (ws : Words) (l₂ : State) → againOf (strategyAs (r .strategy)) ≡ true → replaced f l ≡ ok ws l₂
+          → round ≡ M.rounds true g rules deeper most r ps args ws (placeAfter (r .strategy) (turnedTo f ws)) others (suc k) l₂
       unfolding M.rounds
-      round-again ws l₂ a q = after-again now k _ (turned left) (r .strategy) ws l₂ a (turn-found left f l e ∙ then-ok (replaced f l) (λ ws. return (some ws)) ws l₂ q)
+      round-again ws l₂ a q = after-again now k _ (turned left) (r .strategy) (turnedTo f ws) l₂ a (turn-found left f l e ∙ then-ok (replaced f l) (λ ws. return (some (turnedTo f ws))) ws l₂ q)
 
-rounds-at : (g : Grammar) (rules : Rules.Rules) (deeper : M.Calls) (r : Rule) (ps : List Piece) (args : Env) (now : Words) (others : ℕ) (left : State) (most most′ k k′ : ℕ) → most ≡ most′ → k ≡ k′
-    → M.rounds true g rules deeper most r ps args now others k left ≡ M.rounds true g rules deeper most′ r ps args now others k′ left
-rounds-at g rules deeper r ps args now others left most most′ k k′ e q = rw (e, q)
+rounds-at : (g : Grammar) (rules : Rules.Rules) (deeper : M.Calls) (r : Rule) (ps : List Piece) (args : Env) (now : Words) (others : ℕ) (left : State) (most most′ place place′ k k′ : ℕ) → most ≡ most′ → place ≡ place′ → k ≡ k′
+    → M.rounds true g rules deeper most r ps args now place others k left ≡ M.rounds true g rules deeper most′ r ps args now place′ others k′ left
+rounds-at g rules deeper r ps args now others left most most′ place place′ k k′ e p q = rw (e, p, q)
+
+-- WHERE THE SEARCH GOES ON, after a tree was put in place of node j of the scope
+
+module _ {g : Grammar} {w : Words} {base n t : ℕ} {ws : Words} (few : length g ≤ mostTypes) (stands : Standing g w base n t ws) (j : ℕ) (inside : j < n) where
+  -- the mark there has the tree's size, and the tree ends inside
+  put-there : (sizeIn (getD w (base + 2 * j) 0) ≡ size (firstTree g (drop (2 * j) ws))) × (length (firstTree g (drop (2 * j) ws)) ≡ 2 * size (firstTree g (drop (2 * j) ws)))
+      × (j + size (firstTree g (drop (2 * j) ws)) ≤ n)
+  put-there =
+      let small = stands .tree .nodes in
+      let x = drop (2 * j) ws in
+      let c = child-there g t j ws (omega (arith, stands .nodes)) (stands .tree .typed) w base n few (stands .nodes) (omega (arith, stands .nodes)) (stands .words) .2 in
+      (c .counted, trees-even (c .tree), omega (arith, stands .nodes, trees-even (c .tree), trees-even (stands .tree .typed), ap length (first-after g x 1), length-append (firstTree g x) (after g x 1), length-drop (2 * j) ws))
+
+  onward-place : (s : Rules.Strategy) → 2 * onwardOf (strategyAs s) j (sizeIn (getD w (base + 2 * j) 0)) ≡ placeAfter s (record { scope = ws; behind = 2 * j + length (firstTree g (drop (2 * j) ws)) })
+  onward-place rootOnly = refl
+  onward-place firstMatch = refl
+  onward-place exhaustive = refl
+  onward-place onePass = let x = put-there in omega (arith, x .0, x .1)
+
+  onward-begins : (r : Rule) (s : Rules.Strategy) → r .strategy ≡ s → Begins r n (onwardOf (strategyAs s) j (sizeIn (getD w (base + 2 * j) 0)))
+  onward-begins r rootOnly e = record { inside = omega arith; root = λ _. refl }
+  onward-begins r firstMatch e = record { inside = omega arith; root = λ _. refl }
+  onward-begins r exhaustive e = record { inside = omega arith; root = λ _. refl }
+  onward-begins r onePass e = let x = put-there in record { inside = omega (arith, x .0, x .2); root = λ h. absurd (searching (ap searches (sym e) ∙ h)) }
+    where
+      searching : true ≡ false → ⊥
+      searching z = let y : _≡_ {A = ℕ} 0 1 = cc in omega arith
 
 -- THE CALL
 
@@ -203,8 +250,8 @@ module _ (given : Given) (w₀ : Words) (at base n : ℕ) (vars : Vars) (besides
     pub tree : Tree g w₀ base n scope
     pub goes : M.call true g rules (calls true g rules deep) rule args scope others left .ending ≡ cannotGoOn → ⊥
 
-  -- the scope now, and the rounds from it on
-  pub record Round (w : Words) (nodes : ℕ) (fuel : State) (count : ℕ) (g : Grammar) (rules : Rules.Rules) (rule : Rule) (args : Env) (scope : Words) (others : ℕ) : Type 0 where
+  -- the scope now, and the rounds from one of its nodes on
+  pub record Round (w : Words) (nodes : ℕ) (fuel : State) (count from : ℕ) (g : Grammar) (rules : Rules.Rules) (rule : Rule) (args : Env) (scope : Words) (others : ℕ) : Type 0 where
     pub type : ℕ
     pub now : Words
     pub stands : Standing g w base nodes type now
@@ -212,11 +259,12 @@ module _ (given : Given) (w₀ : Words) (at base n : ℕ) (vars : Vars) (besides
     pub replaces : rule .replacement ≡ some ps
     pub most : ℕ
     pub enough : fuel .attempts ≤ most
+    pub begins : Begins rule nodes from
     pub rest : M.call true g rules (calls true g rules deep) rule args scope others left
-        ≡ M.rounds true g rules (calls true g rules deep) (suc most) rule ps args now others count fuel
+        ≡ M.rounds true g rules (calls true g rules deep) (suc most) rule ps args now (2 * from) others count fuel
 
   -- before a round. Only at the first can too many nodes be live
-  pub record Calling (w : Words) (nodes : ℕ) (fuel : State) (count : ℕ) : Type 0 where
+  pub record Calling (w : Words) (nodes : ℕ) (fuel : State) (count from : ℕ) : Type 0 where
     pub few : nodes ≤ mostNodes
     pub fits : (k : ℕ) → k ≤ besides → k + n ≤ mostLive → k + nodes ≤ mostLive
     pub less : fuel .attempts ≤ left .attempts
@@ -224,7 +272,7 @@ module _ (given : Given) (w₀ : Words) (at base n : ℕ) (vars : Vars) (besides
     pub long : length w ≡ length w₀
     pub first : mostLive < besides + nodes → (w ≡ w₀) × (nodes ≡ n) × (fuel ≡ left) × (count ≡ 0)
     pub meant : (g : Grammar) (rules : Rules.Rules) (rule : Rule) (next : ℕ) (args : Env) (scope : Words) (others : ℕ) → Case g rules rule next args scope others
-        → (take base w ≡ take base w₀) × (besides + nodes ≤ mostLive → Round w nodes fuel count g rules rule args scope others)
+        → (take base w ≡ take base w₀) × (besides + nodes ≤ mostLive → Round w nodes fuel count from g rules rule args scope others)
 
   -- the contract
   abbrev Answers : Words → Called → Type 0
@@ -237,14 +285,14 @@ module _ (given : Given) (w₀ : Words) (at base n : ℕ) (vars : Vars) (besides
     pub nowhere : (r : Called) → s .found ≡ Nowhere → r ≡ record { stop = 0; nodes = nodes; left = s .left; replacements = count } → Answers w r
     pub stops : (r : Called) (number : ℕ) → s .found ≡ Stopped number → r ≡ record { stop = number; nodes = nodes; left = s .left; replacements = count } → Answers w r
 
-  -- after a replacement
-  pub record Placed (nodes : ℕ) (fuel : State) (count : ℕ) (repeats : Bool) (w : Words) (b : Built) : Type 0 where
+  -- after a replacement of node j
+  pub record Placed (plan : Plan) (nodes : ℕ) (fuel : State) (count : ℕ) (repeats : Bool) (j : ℕ) (w : Words) (b : Built) : Type 0 where
     pub long : length w ≡ length w₀
     pub spent : b .left .attempts < fuel .attempts
     pub counted : count + 1 + b .left .attempts ≤ left .attempts
     pub stops : (r : Called) → (b .stop ≡ 0 → ⊥) → r ≡ record { stop = b .stop; nodes = nodes; left = b .left; replacements = count } → Answers w r
     pub last : (r : Called) → b .stop ≡ 0 → not repeats ≡ true → r ≡ record { stop = 0; nodes = b .nodes; left = b .left; replacements = count + 1 } → Answers w r
-    pub again : b .stop ≡ 0 → not repeats ≡ false → Calling w (b .nodes) (b .left) (count + 1)
+    pub again : b .stop ≡ 0 → not repeats ≡ false → Calling w (b .nodes) (b .left) (count + 1) (onwardOf (plan .strategy) j (sizeIn (getD w (base + 2 * j) 0)))
 
   -- what a call leaves, as the contract says it
   abbrev Leaves : Words → Called → Type 0
@@ -275,7 +323,7 @@ module _ (given : Given) (w₀ : Words) (at base n : ℕ) (vars : Vars) (besides
     opens-live = omega (arith, c .counted, c .tree .1 .nodes)
 
   -- before the first round
-  pub calling-start : n ≤ mostNodes → Calling w₀ n left 0
+  pub calling-start : n ≤ mostNodes → Calling w₀ n left 0 0
   calling-start few = record {
     few = few;
     fits = λ k a b. b;
@@ -294,12 +342,13 @@ module _ (given : Given) (w₀ : Words) (at base n : ℕ) (vars : Vars) (besides
             replaces = x .1;
             most = left .attempts;
             enough = omega arith;
+            begins = record { inside = omega arith; root = λ _. refl };
             rest = x .2 .0 (omega (arith, opens-live c));
           },
         );
   }
 
-  module _ (w : Words) (nodes : ℕ) (fuel : State) (count : ℕ) (i : Calling w nodes fuel count) where
+  module _ (w : Words) (nodes : ℕ) (fuel : State) (count from : ℕ) (i : Calling w nodes fuel count from) where
     -- too many nodes are live
     pub calls-over : (r : Called) → r ≡ record { stop = 44; nodes = nodes; left = fuel; replacements = count } → mostLive < besides + nodes → Answers w r
     calls-over r e o =
@@ -314,12 +363,12 @@ module _ (given : Given) (w₀ : Words) (at base n : ℕ) (vars : Vars) (besides
     frame = record { vars = vars; live = besides + nodes; top = base + 2 * nodes }
 
     module _ (fit : besides + nodes ≤ mostLive) (plan : Plan) (planned : (rule : Rule) (next : ℕ) → Layout.rule (given .types) (given .book) at ≡ value rule next → Planned (given .types) (given .book) rule plan) (w₁ : Words) (s : Seeking)
-        (x : Seeks given w w₁ plan base nodes frame deep fuel s) where
+        (x : Seeks given w w₁ plan base nodes frame deep fuel from s) where
       fits-as : (v : Code.Found) → s .found ≡ v → FoundFits nodes fuel v (s .left)
       fits-as v f = subst (λ z. FoundFits nodes fuel z (s .left)) f (x .fits)
 
       module _ {g : Grammar} {rules : Rules.Rules} {rule : Rule} {next : ℕ} {args : Env} {scope : Words} {others : ℕ} (c : Case g rules rule next args scope others) where
-        here : Round w nodes fuel count g rules rule args scope others
+        here : Round w nodes fuel count from g rules rule args scope others
         here = i .meant g rules rule next args scope others c .1 fit
 
         kept : take base w ≡ take base w₀
@@ -331,19 +380,19 @@ module _ (given : Given) (w₀ : Words) (at base n : ℕ) (vars : Vars) (besides
           counted = omega (arith, c .counted, here .stands .nodes);
         }
 
-        turn-goes : Sure (M.turn true g rules (calls true g rules deep) rule (here .ps) args (here .now) others fuel)
-        turn-goes = turn-sure g rules (calls true g rules deep) rule (here .ps) args (here .now) others (here .most) count fuel (λ e. c .goes (ap (λ z. z .ending) (here .rest) ∙ e))
+        turn-goes : Sure (M.turn true g rules (calls true g rules deep) rule (here .ps) args (here .now) (2 * from) others fuel)
+        turn-goes = turn-sure g rules (calls true g rules deep) rule (here .ps) args (here .now) (2 * from) others (here .most) count fuel (λ e. c .goes (ap (λ z. z .ending) (here .rest) ∙ e))
 
         found : (take (base + 2 * nodes) w₁ ≡ take (base + 2 * nodes) w)
-            × SoughtAs g w₁ (others + size (here .now)) (given .book) rule (s .found) (s .frame) (s .left) (s .next) (M.seek true g rules (calls true g rules deep) rule (here .now) 0 (start args (here .now) others) fuel)
+            × SoughtAs g w₁ (others + size (here .now)) (given .book) rule (s .found) (s .frame) (s .left) (s .next) (seekFrom deep g rules rule (here .now) from (start args (here .now) others) fuel)
         found =
-            x .meant g rules rule (start args (here .now) others) (here .now) (c .setting) (planned rule next (c .read)) held (here .type, standing-below w (base + 2 * nodes) (omega arith) (here .stands))
-            (seek-sure g rules (calls true g rules deep) rule (here .ps) args (here .now) others fuel turn-goes)
+            x .meant g rules rule (start args (here .now) others) (here .now) (c .setting) (planned rule next (c .read)) held (here .type, standing-below w (base + 2 * nodes) (omega arith) (here .stands)) (here .begins)
+            (seek-sure g rules (calls true g rules deep) rule (here .ps) args (here .now) (2 * from) others fuel turn-goes)
 
         found-as : (v : Code.Found) → s .found ≡ v
-            → SoughtAs g w₁ (others + size (here .now)) (given .book) rule v (s .frame) (s .left) (s .next) (M.seek true g rules (calls true g rules deep) rule (here .now) 0 (start args (here .now) others) fuel)
+            → SoughtAs g w₁ (others + size (here .now)) (given .book) rule v (s .frame) (s .left) (s .next) (seekFrom deep g rules rule (here .now) from (start args (here .now) others) fuel)
         found-as v f =
-            subst (λ z. SoughtAs g w₁ (others + size (here .now)) (given .book) rule z (s .frame) (s .left) (s .next) (M.seek true g rules (calls true g rules deep) rule (here .now) 0 (start args (here .now) others) fuel)) f (found .1)
+            subst (λ z. SoughtAs g w₁ (others + size (here .now)) (given .book) rule z (s .frame) (s .left) (s .next) (seekFrom deep g rules rule (here .now) from (start args (here .now) others) fuel)) f (found .1)
 
         kept₁ : take base w₁ ≡ take base w₀
         kept₁ = take-less base (base + 2 * nodes) w w₁ (omega arith) (found .0) ∙ kept
@@ -357,7 +406,7 @@ module _ (given : Given) (w₀ : Words) (at base n : ℕ) (vars : Vars) (besides
           answers w₁ r e (i .few) (i .fits) (omega (arith, fits-as Nowhere f, i .less)) (x .long ∙ i .long)
           (λ g rules rule next args scope others c.
           let d = here c in
-          let q = round-none g rules (calls true g rules deep) rule (d .ps) args (d .now) others (d .most) count fuel (s .left) (found-as c Nowhere f) in
+          let q = round-none g rules (calls true g rules deep) rule (d .ps) args (d .now) (2 * from) others (d .most) count fuel (s .left) (found-as c Nowhere f) in
           (kept₁ c, left-is w₁ g 0 nodes count (s .left) count (d .now) done _ (d .rest ∙ q) refl refl (d .type, stands₁ c)))
 
       -- the search stops
@@ -367,8 +416,8 @@ module _ (given : Given) (w₀ : Words) (at base n : ℕ) (vars : Vars) (besides
           (λ g rules rule next args scope others c.
           let d = here c in
           let at = found-as c (Stopped number) f in
-          let q = round-stop g rules (calls true g rules deep) rule (d .ps) args (d .now) others (d .most) count fuel number (s .left) at in
-          let some = stop-number (sought-numbered true g rules deep rule (d .now) 0 (start args (d .now) others) fuel) at in
+          let q = round-stop g rules (calls true g rules deep) rule (d .ps) args (d .now) (2 * from) others (d .most) count fuel number (s .left) at in
+          let some = stop-number (sought-numbered true g rules deep rule (drop (2 * from) (d .now)) (2 * from) (start args (d .now) others) fuel) at in
           (kept₁ c, left-is w₁ g number nodes count (s .left) count (d .now) (stopped number) _ (d .rest ∙ q) (ended-number number (λ z. omega (arith, some))) refl (d .type, stands₁ c)))
 
       pub searched : Searched nodes count w₁ s
@@ -400,20 +449,20 @@ module _ (given : Given) (w₀ : Words) (at base n : ℕ) (vars : Vars) (besides
 
           put-as : (ps : List Piece) → ps ≡ pieces (pairsAt (given .book) (s .next)) → Sure (made ps)
               → (take base w₂ ≡ take base w₁) × ((b .stop ≡ 0 → ⊥) → take (base + 2 * nodes) w₂ ≡ take (base + 2 * nodes) w₁)
-              × Says (Standing g w₂ base (b .nodes) (here c .type)) (b .stop) (b .left) (made ps)
+              × Says (λ ws. Standing g w₂ base (b .nodes) (here c .type) ws × (j < b .nodes)) (b .stop) (b .left) (made ps)
           put-as ps e =
               rw e (y .meant g rules (bindings (found-as c (At j) f .0) (others + size (here c .now))) (here c .type) (rule .target) (here c .now) (c .setting) (found-as c (At j) f .1) (stands₁ c))
 
           put : (take base w₂ ≡ take base w₁) × ((b .stop ≡ 0 → ⊥) → take (base + 2 * nodes) w₂ ≡ take (base + 2 * nodes) w₁)
-              × Says (Standing g w₂ base (b .nodes) (here c .type)) (b .stop) (b .left) (made (here c .ps))
+              × Says (λ ws. Standing g w₂ base (b .nodes) (here c .type) ws × (j < b .nodes)) (b .stop) (b .left) (made (here c .ps))
           put =
               let d = here c in
               let q = found-as c (At j) f in
               put-as (d .ps) (q .3 (d .ps) (d .replaces))
-              (replace-sure g rules (calls true g rules deep) rule (d .ps) args (d .now) others (d .most) count fuel m (s .left) (q .2) (turn-goes c))
+              (replace-sure g rules (calls true g rules deep) rule (d .ps) args (d .now) (2 * from) others (d .most) count fuel m (s .left) (q .2) (turn-goes c))
 
-          strategy-is : againOf (strategyAs (rule .strategy)) ≡ againOf (plan .strategy)
-          strategy-is = ap againOf (sym (planned rule next (c .read) .strategy))
+          strategy-is : strategyAs (rule .strategy) ≡ plan .strategy
+          strategy-is = sym (planned rule next (c .read) .strategy)
 
         -- the replacement stops
         calls-cut : (r : Called) → (b .stop ≡ 0 → ⊥) → r ≡ record { stop = b .stop; nodes = nodes; left = b .left; replacements = count } → Answers w₂ r
@@ -422,8 +471,8 @@ module _ (given : Given) (w₀ : Words) (at base n : ℕ) (vars : Vars) (besides
             (λ g rules rule next args scope others c.
             let d = here c in
             let p = put c in
-            let z = says-stop (Standing g w₂ base (b .nodes) (d .type)) (made c (d .ps)) (b .left) (b .stop) ne (p .2) in
-            let q = round-cut g rules (calls true g rules deep) rule (d .ps) args (d .now) others (d .most) count fuel (m c) (s .left) (found-as c (At j) f .2) (b .stop) (b .left) z in (
+            let z = says-stop (λ ws. Standing g w₂ base (b .nodes) (d .type) ws × (j < b .nodes)) (made c (d .ps)) (b .left) (b .stop) ne (p .2) in
+            let q = round-cut g rules (calls true g rules deep) rule (d .ps) args (d .now) (2 * from) others (d .most) count fuel (m c) (s .left) (found-as c (At j) f .2) (b .stop) (b .left) z in (
               p .0 ∙ kept₁ c,
               left-is w₂ g (b .stop) nodes count (b .left) count (d .now) (stopped (b .stop)) _ (d .rest ∙ q) (ended-number (b .stop) ne) refl
                   (d .type, standing-kept w₁ w₂ (base + 2 * nodes) (omega arith) (p .1 ne) (stands₁ c)),
@@ -437,12 +486,12 @@ module _ (given : Given) (w₀ : Words) (at base n : ℕ) (vars : Vars) (besides
               (λ g rules rule next args scope others c.
               let d = here c in
               let p = put c in
-              let t = says-ok (Standing g w₂ base (b .nodes) (d .type)) (made c (d .ps)) (b .left) (b .stop) z (p .2) in
-              let q = round-done g rules (calls true g rules deep) rule (d .ps) args (d .now) others (d .most) count fuel (m c) (s .left) (found-as c (At j) f .2) (t .0) (b .left) (strategy-is c ∙ a) (t .2) in
-              (p .0 ∙ kept₁ c, left-is w₂ g 0 (b .nodes) (suc count) (b .left) (count + 1) (t .0) done _ (d .rest ∙ q) refl (omega arith) (d .type, t .1)))
+              let t = says-ok (λ ws. Standing g w₂ base (b .nodes) (d .type) ws × (j < b .nodes)) (made c (d .ps)) (b .left) (b .stop) z (p .2) in
+              let q = round-done g rules (calls true g rules deep) rule (d .ps) args (d .now) (2 * from) others (d .most) count fuel (m c) (s .left) (found-as c (At j) f .2) (t .0) (b .left) (ap againOf (strategy-is c) ∙ a) (t .2) in
+              (p .0 ∙ kept₁ c, left-is w₂ g 0 (b .nodes) (suc count) (b .left) (count + 1) (t .0) done _ (d .rest ∙ q) refl (omega arith) (d .type, t .1 .0)))
 
-          -- the search begins again
-          calling-again : againOf (plan .strategy) ≡ true → Calling w₂ (b .nodes) (b .left) (count + 1)
+          -- the search goes on
+          calling-again : againOf (plan .strategy) ≡ true → Calling w₂ (b .nodes) (b .left) (count + 1) (onwardOf (plan .strategy) j (sizeIn (getD w₂ (base + 2 * j) 0)))
           calling-again a = record {
             few = y .few z;
             fits = λ k h _. omega (arith, fits-then z);
@@ -453,24 +502,28 @@ module _ (given : Given) (w₀ : Words) (at base n : ℕ) (vars : Vars) (besides
             meant = λ g rules rule next args scope others c.
                 let d = here c in
                 let p = put c in
-                let t = says-ok (Standing g w₂ base (b .nodes) (d .type)) (made c (d .ps)) (b .left) (b .stop) z (p .2) in
-                let q = round-again g rules (calls true g rules deep) rule (d .ps) args (d .now) others (d .most) count fuel (m c) (s .left) (found-as c (At j) f .2) (t .0) (b .left) (strategy-is c ∙ a) (t .2) in
+                let few = c .setting .tables .heads-of .types in
+                let t = says-ok (λ ws. Standing g w₂ base (b .nodes) (d .type) ws × (j < b .nodes)) (made c (d .ps)) (b .left) (b .stop) z (p .2) in
+                let q = round-again g rules (calls true g rules deep) rule (d .ps) args (d .now) (2 * from) others (d .most) count fuel (m c) (s .left) (found-as c (At j) f .2) (t .0) (b .left) (ap againOf (strategy-is c) ∙ a) (t .2) in
                 let k = pred-of (d .most) (b .left .attempts) (omega (arith, spends, d .enough)) in (
                   p .0 ∙ kept₁ c,
                   λ _. record {
                     type = d .type;
                     now = t .0;
-                    stands = t .1;
+                    stands = t .1 .0;
                     ps = d .ps;
                     replaces = d .replaces;
                     most = k .0;
                     enough = omega (arith, spends, d .enough, k .1);
-                    rest = d .rest ∙ q ∙ rounds-at g rules (calls true g rules deep) rule (d .ps) args (t .0) others (b .left) (d .most) (suc (k .0)) (suc count) (count + 1) (k .1) (omega arith);
+                    begins = rw (← strategy-is c) (onward-begins few (t .1 .0) j (t .1 .1) rule (rule .strategy) refl);
+                    rest = d .rest ∙ q
+                        ∙ rounds-at g rules (calls true g rules deep) rule (d .ps) args (t .0) others (b .left) (d .most) (suc (k .0)) _ _ (suc count) (count + 1) (k .1)
+                        (sym (onward-place few (t .1 .0) j (t .1 .1) (rule .strategy)) ∙ ap (λ x. 2 * onwardOf x j (sizeIn (getD w₂ (base + 2 * j) 0))) (strategy-is c)) (omega arith);
                   },
                 );
           }
 
-        pub placed : (repeats : Bool) → repeats ≡ againOf (plan .strategy) → Placed nodes fuel count repeats w₂ b
+        pub placed : (repeats : Bool) → repeats ≡ againOf (plan .strategy) → Placed plan nodes fuel count repeats j w₂ b
         placed repeats e = record {
           long = y .long ∙ x .long ∙ i .long;
           spent = spends;

@@ -16,15 +16,15 @@ use Rattle.grammar.specs.Grammar.{Grammar}
 use Rattle.grammar.specs.Limits.{mostTypes}
 use Rattle.grammar.specs.Kinds.{children}
 use Rattle.tree.specs.Rest.{Rest}
-use Rattle.tree.proofs.Rest.{tree-rest, rest-node}
+use Rattle.tree.proofs.Rest.{tree-rest, rest-node, rest-at}
 use Rattle.rules.specs.Rules as Rules
-use Rattle.rules.specs.Rules.{Rule, rootOnly, firstMatch, exhaustive, searches, shapes, pieces}
+use Rattle.rules.specs.Rules.{Rule, rootOnly, firstMatch, exhaustive, onePass, searches, shapes, pieces}
 use Rattle.rules.specs.Layout as Layout
 use Rattle.rules.specs.Layout.{partAt, partOf}
 use Rattle.rules.specs.Views.{pairsAt, Planned, strategyAs, triedOf}
 use Rattle.rules.proofs.Laid.{part-value}
 use Rattle.rules.specs.declared.Strategy.{Strategy}
-use Rattle.rules.specs.declared.Strategy.the-variants.{RootOnly, FirstMatch, Exhaustive}
+use Rattle.rules.specs.declared.Strategy.the-variants.{RootOnly, FirstMatch, Exhaustive, OnePass}
 use Rattle.rules.specs.declared.Plan.{Plan}
 use Rattle.meaning.specs.Limits.{mostLive}
 use Rattle.meaning.specs.declared.State.{State}
@@ -33,7 +33,7 @@ use Rattle.meaning.specs.Meaning as M
 use Rattle.meaning.specs.Meaning.{Env, Bindings, Found, calls, match}
 use Rattle.marks.specs.Marked.{marked, typeIn}
 use Rattle.marks.specs.Post.{span}
-use Rattle.marks.proofs.Marks.{marked-length}
+use Rattle.marks.proofs.Marks.{marked-length, marked-suffix}
 use Rattle.marks.proofs.Spans.{drop-take}
 use Rattle.rewrite.specs.Vars.{Vars, Sound, Kept}
 use Rattle.rewrite.specs.Matching.{Match, Stage, Means, Answers, bindings}
@@ -41,7 +41,7 @@ use Rattle.rewrite.specs.Candidates.{Clashes, ClashesAt, unspent, Passed, NextC
 use Rattle.rewrite.specs.declared.candidates.Candidate.{Candidate}
 use Rattle.rewrite.proofs.Matcher.{kept-same, kept-more, Node, node-of, two-marked}
 use Rattle.rewrite.specs.declared.Verdict.the-variants.{Matches, Differs, Stops}
-use Rattle.calls.specs.Engine.{Open, Taking, Seeking, Room, Grown, Held, Given, Setting, Sure, TakenAs, partOn, partRead, SoughtAs, FoundFits, Tree, Steps, Seeks}
+use Rattle.calls.specs.Engine.{Open, Taking, Seeking, Room, Grown, Held, Given, Setting, Sure, TakenAs, partOn, partRead, SoughtAs, Begins, seekFrom, FoundFits, Tree, Steps, Seeks}
 use Rattle.calls.specs.declared.Found as Code
 use Rattle.calls.specs.declared.Found.the-variants.{At, Nowhere, Stopped}
 use Rattle.rewrite.proofs.Standing.{take-less, some-nodes, standing-end}
@@ -55,6 +55,7 @@ tried-few RootOnly zero = omega arith
 tried-few RootOnly (suc n) = omega arith
 tried-few FirstMatch n = omega arith
 tried-few Exhaustive n = omega arith
+tried-few OnePass n = omega arith
 
 pub tried-inside : (s : Strategy) (n i last : ℕ) → last ≡ triedOf s n → i < last → i < n
 tried-inside s n i last e h = omega (arith, h, e, tried-few s n)
@@ -68,6 +69,20 @@ tried-here firstMatch n zero h = refl
 tried-here firstMatch n (suc i) h = rw (ne-eqb (2 * suc i) 0 (λ e. omega arith))
 tried-here exhaustive n zero h = refl
 tried-here exhaustive n (suc i) h = rw (ne-eqb (2 * suc i) 0 (λ e. omega arith))
+tried-here onePass n zero h = refl
+tried-here onePass n (suc i) h = rw (ne-eqb (2 * suc i) 0 (λ e. omega arith))
+
+-- .. and so is the node that a search begins at
+begins-here : {rule : Rule} {n start : ℕ} → Begins rule n start → or (eqb (2 * start) 0) (searches (rule .strategy)) ≡ true
+begins-here {rule} {n} {start} x = go (searches (rule .strategy)) (x .root)
+  where
+    true-or : (b : Bool) → or b true ≡ true
+    true-or true = refl
+    true-or false = refl
+
+    go : (s : Bool) → (s ≡ false → start ≡ 0) → or (eqb (2 * start) 0) s ≡ true
+    go true h = true-or (eqb (2 * start) 0)
+    go false h = rw (h refl)
 
 -- past the last there is none, or none that is tried
 tried-past : (s : Rules.Strategy) (n i : ℕ) → 0 < n → i ≤ n → triedOf (strategyAs s) n ≤ i → (or (eqb (2 * i) 0) (searches s) ≡ false) ⊎ (i ≡ n)
@@ -76,6 +91,7 @@ tried-past rootOnly (suc n) zero p h l = absurd (omega arith)
 tried-past rootOnly (suc n) (suc i) p h l = inl (rw (ne-eqb (2 * suc i) 0 (λ e. omega arith)))
 tried-past firstMatch n i p h l = inr (omega arith)
 tried-past exhaustive n i p h l = inr (omega arith)
+tried-past onePass n i p h l = inr (omega arith)
 
 -- ONE NODE OF THE MEANING'S SEARCH
 
@@ -257,7 +273,7 @@ rest-as t v below more e q r = rw (e, q) at r
 below-word : (w w₀ : Words) (top p : ℕ) → p < top → take top w ≡ take top w₀ → getD w p 0 ≡ getD (take top w₀) p 0
 below-word w w₀ top p h e = sym (getD-take top w p 0 h) ∙ ap (λ x. getD x p 0) e
 
-module _ (given : Given) (w₀ : Words) (plan : Plan) (base n : ℕ) (frame : Open) (deep : ℕ) (left : State) where
+module _ (given : Given) (w₀ : Words) (plan : Plan) (base n : ℕ) (frame : Open) (deep : ℕ) (left : State) (start : ℕ) where
   -- what the meaning is given
   pub record Case : Type 0 where
     pub g : Grammar
@@ -269,10 +285,11 @@ module _ (given : Given) (w₀ : Words) (plan : Plan) (base n : ℕ) (frame : Op
     pub planned : Planned (given .types) (given .book) rule plan
     pub held : Held g w₀ frame b
     pub tree : Tree g (take (frame .top) w₀) base n scope
-    pub sure : Sure (M.seek true g rules (calls true g rules deep) rule scope 0 b left)
+    pub begins : Begins rule n start
+    pub sure : Sure (seekFrom deep g rules rule scope start b left)
 
   abbrev whole : Case → Result (Option Found)
-  whole k = M.seek true (k .g) (k .rules) (calls true (k .g) (k .rules) deep) (k .rule) (k .scope) 0 (k .b) left
+  whole k = seekFrom deep (k .g) (k .rules) (k .rule) (k .scope) start (k .b) left
 
   abbrev onward : Case → Words → ℕ → Comp (Option Found)
   onward k ws place = from (k .g) (k .rules) deep (k .rule) (k .b) ws place
@@ -291,13 +308,13 @@ module _ (given : Given) (w₀ : Words) (plan : Plan) (base n : ℕ) (frame : Op
     marks : here i ≡ marked (k .g) rest
 
   record AtNode (k : Case) (w : Words) (fuel : State) (i : ℕ) : Type 0 where
+    within : i ≤ n
     kept : take (frame .top) w ≡ take (frame .top) w₀
     rest : Words
     scope : Left k i rest
     is : whole k ≡ onward k rest (2 * i) fuel
 
   pub record Searching (w : Words) (fuel : State) (i : ℕ) : Type 0 where
-    pub within : i ≤ n
     pub less : fuel .attempts ≤ left .attempts
     pub long : length w ≡ length w₀
     run : (k : Case) → AtNode k w fuel i
@@ -309,19 +326,25 @@ module _ (given : Given) (w₀ : Words) (plan : Plan) (base n : ℕ) (frame : Op
     ends : (k : Case) → base + 2 * n ≤ frame .top
     ends k = standing-end w₀ (frame .top) (k .tree .1)
 
-    pub searching-start : Searching w₀ left 0
+    -- the marks from a node on are those of what is left there
+    marks-from : (k : Case) (i : ℕ) → i ≤ n → here i ≡ marked (k .g) (drop (2 * i) (k .scope))
+    marks-from k i h =
+        let a : 2 * (n - i) ≡ 2 * n - 2 * i = omega arith in
+        ap₂ take a (sym (drop-drop (2 * i) base (take (frame .top) w₀)))
+        ∙ sym (drop-take (2 * n) (2 * i) (drop base (take (frame .top) w₀))) ∙ ap (drop (2 * i)) (k .tree .1 .words) ∙ marked-suffix (k .g) (k .scope) i (2 * i) refl
+
+    pub searching-start : Searching w₀ left start
     searching-start = record {
-      within = omega arith;
       less = omega arith;
       long = refl;
       run = λ k.
-          let a : base + 0 ≡ base = omega arith in
-          let c : n - 0 ≡ n = omega arith in
+          let at = rest-at start (k .tree .0 ∷ []) (k .scope) (tree-rest (k .tree .1 .tree)) (omega (arith, k .begins .inside, k .tree .1 .nodes)) in
           record {
+            within = k .begins .inside;
             kept = refl;
-            rest = k .scope;
-            scope = record { due = k .tree .0 ∷ []; trees = tree-rest (k .tree .1 .tree); marks = ap₂ (λ x y. take (2 * x) (drop y (take (frame .top) w₀))) c a ∙ k .tree .1 .words };
-            is = sym (seek-here (k .g) (k .rules) deep (k .rule) (k .b) (k .scope) 0 left refl);
+            rest = drop (2 * start) (k .scope);
+            scope = record { due = at .0; trees = at .1; marks = marks-from k start (k .begins .inside) };
+            is = sym (seek-here (k .g) (k .rules) deep (k .rule) (k .b) (drop (2 * start) (k .scope)) (2 * start) left (begins-here (k .begins)));
           };
     }
 
@@ -366,21 +389,22 @@ module _ (given : Given) (w₀ : Words) (plan : Plan) (base n : ℕ) (frame : Op
         → whole k ≡ onward k (node-here k i h (a .rest) (a .scope) .below) (2 * i + 2) now → AtNode k w′ now (i + 1)
     at-next k w w′ fuel now i h a e q =
         let c : 2 * i + 2 ≡ 2 * (i + 1) = omega arith in
-        record { kept = e; rest = node-here k i h (a .rest) (a .scope) .below; scope = left-next k i h (a .rest) (a .scope); is = q ∙ ap (λ x. onward k (node-here k i h (a .rest) (a .scope) .below) x now) c }
+        record { within = omega arith; kept = e; rest = node-here k i h (a .rest) (a .scope) .below; scope = left-next k i h (a .rest) (a .scope); is = q ∙ ap (λ x. onward k (node-here k i h (a .rest) (a .scope) .below) x now) c }
 
     module _ (w : Words) (fuel : State) (i : ℕ) (go : Searching w fuel i) where
       -- an answer at a node
       sought : (f : Code.Found) (fr : Open) (now : State) (at : ℕ) (w′ : Words) → length w′ ≡ length w₀ → Grown frame fr → FoundFits n left f now
           → ((k : Case) → (take (frame .top) w′ ≡ take (frame .top) w₀) × SoughtAs (k .g) w′ (k .b .besides) (given .book) (k .rule) f fr now at (whole k))
-          → Seeks given w₀ w′ plan base n frame deep left (record { found = f; frame = fr; left = now; next = at })
+          → Seeks given w₀ w′ plan base n frame deep left start (record { found = f; frame = fr; left = now; next = at })
       sought f fr now at w′ l grown fits run = record {
         grown = grown;
         fits = fits;
         long = l;
-        meant = λ g rules rule b scope setting planned held tree sure. run (record { g = g; rules = rules; rule = rule; b = b; scope = scope; setting = setting; planned = planned; held = held; tree = tree; sure = sure });
+        meant = λ g rules rule b scope setting planned held tree begins sure.
+            run (record { g = g; rules = rules; rule = rule; b = b; scope = scope; setting = setting; planned = planned; held = held; tree = tree; begins = begins; sure = sure });
       }
 
-      pub searching-none : triedOf (plan .strategy) n ≤ i → (fr : Open) → Grown frame fr → Seeks given w₀ w plan base n frame deep left (record { found = Nowhere; frame = fr; left = fuel; next = 0 })
+      pub searching-none : triedOf (plan .strategy) n ≤ i → (fr : Open) → Grown frame fr → Seeks given w₀ w plan base n frame deep left start (record { found = Nowhere; frame = fr; left = fuel; next = 0 })
       searching-none past fr grown = sought Nowhere fr fuel 0 w (go .long) grown (go .less) (λ k. (go .run k .kept, ended k))
         where
           empty : (x : Words) → length x ≡ 0 → x ≡ []
@@ -394,9 +418,9 @@ module _ (given : Given) (w₀ : Words) (plan : Plan) (base n : ℕ) (frame : Op
               ⊎-elim
               (λ e. a .is ∙ seek-past (k .g) (k .rules) deep (k .rule) (k .b) (a .rest) (2 * i) fuel e)
               (λ e.
-              let l : length (a .rest) ≡ 0 = omega (arith, here-length k i (go .within), ap length (a .scope .marks), marked-length (k .g) (a .rest)) in
+              let l : length (a .rest) ≡ 0 = omega (arith, here-length k i (a .within), ap length (a .scope .marks), marked-length (k .g) (a .rest)) in
               a .is ∙ ap (λ x. onward k x (2 * i) fuel) (empty (a .rest) l) ∙ seek-end (k .g) (k .rules) deep (k .rule) (k .b) (2 * i) fuel)
-              (tried-past (k .rule .strategy) n i (omega (arith, k .tree .1 .nodes)) (go .within) (rw (k .planned .strategy) at past))
+              (tried-past (k .rule .strategy) n i (omega (arith, k .tree .1 .nodes)) (a .within) (rw (k .planned .strategy) at past))
 
       module _ (t : i < triedOf (plan .strategy) n) where
         abbrev inside : i < n
@@ -410,7 +434,6 @@ module _ (given : Given) (w₀ : Words) (plan : Plan) (base n : ℕ) (frame : Op
 
         searching-other : (typeIn (getD w (base + 2 * i) 0) ≡ plan .target → ⊥) → Searching w fuel (i + 1)
         searching-other other = record {
-          within = omega (arith, inside);
           less = go .less;
           long = go .long;
           run = λ k.
@@ -425,7 +448,7 @@ module _ (given : Given) (w₀ : Words) (plan : Plan) (base n : ℕ) (frame : Op
               run-here k w fuel i t inside (go .run k)
               ∙ seek-this (k .g) (k .rules) deep (k .rule) (k .b) (node k .t) (node k .v) (node k .below) (2 * i) fuel (sym (type-here k) ∙ this ∙ k .planned .target)
 
-          pub searching-spent : fuel .attempts ≡ 0 → (fr : Open) → Grown frame fr → Seeks given w₀ w plan base n frame deep left (record { found = Stopped 40; frame = fr; left = fuel; next = 0 })
+          pub searching-spent : fuel .attempts ≡ 0 → (fr : Open) → Grown frame fr → Seeks given w₀ w plan base n frame deep left start (record { found = Stopped 40; frame = fr; left = fuel; next = 0 })
           searching-spent z fr grown = sought (Stopped 40) fr fuel 0 w (go .long) grown (go .less) (λ k. (go .run k .kept, stops k))
             where
               stops : (k : Case) → whole k ≡ stop 40 fuel
@@ -452,7 +475,7 @@ module _ (given : Given) (w₀ : Words) (plan : Plan) (base n : ℕ) (frame : Op
             stage k =
                 let a = go .run k in
                 let e : part ≡ here i = ep ∙ ap (λ x. take (2 * (n - i)) (drop (base + 2 * i) x)) (ea ∙ a .kept) in
-                let l : length part ≡ 2 * (n - i) = ap length e ∙ here-length k i (go .within) in
+                let l : length part ≡ 2 * (n - i) = ap length e ∙ here-length k i (a .within) in
                 record {
                   tables = k .setting .tables .heads-of;
                   place = ep ∙ ap (λ x. take x (drop (base + 2 * i) arena)) (sym l);
@@ -474,7 +497,6 @@ module _ (given : Given) (w₀ : Words) (plan : Plan) (base n : ℕ) (frame : Op
 
             pub searching-differs : m .verdict ≡ Differs → Searching w (spent fuel) (i + 1)
             searching-differs v = record {
-              within = omega (arith, inside);
               less = omega (arith, go .less);
               long = go .long;
               run = λ k.
@@ -484,7 +506,7 @@ module _ (given : Given) (w₀ : Words) (plan : Plan) (base n : ℕ) (frame : Op
                   ∙ none-twice (spent fuel) _ (next k (node k .below) (2 * i)) ∙ after-none (k .g) (k .rules) deep (k .rule) (k .b) (node k .below) (2 * i) (spent fuel));
             }
 
-            pub searching-stops : {no : ℕ} → m .verdict ≡ Stops no → (fr : Open) → Grown frame fr → Seeks given w₀ w plan base n frame deep left (record { found = Stopped no; frame = fr; left = spent fuel; next = 0 })
+            pub searching-stops : {no : ℕ} → m .verdict ≡ Stops no → (fr : Open) → Grown frame fr → Seeks given w₀ w plan base n frame deep left start (record { found = Stopped no; frame = fr; left = spent fuel; next = 0 })
             searching-stops {no} v fr grown = sought (Stopped no) fr (spent fuel) 0 w (go .long) grown (omega (arith, go .less)) (λ k. (go .run k .kept, stops k))
               where
                 stops : (k : Case) → whole k ≡ stop no (spent fuel)
@@ -544,7 +566,7 @@ module _ (given : Given) (w₀ : Words) (plan : Plan) (base n : ℕ) (frame : Op
                 }
 
             module _ (w₁ : Words) (now : State) (fr : Open) (at count : ℕ) (tr : Trying w₁ now fr at count) where
-              pub trying-done : count ≡ 0 → Seeks given w₀ w₁ plan base n frame deep left (record { found = At i; frame = fr; left = now; next = at })
+              pub trying-done : count ≡ 0 → Seeks given w₀ w₁ plan base n frame deep left start (record { found = At i; frame = fr; left = now; next = at })
               trying-done z = sought (At i) fr now at w₁ (tr .long) (tr .grown) (inside, tr .less) (λ k. (tr .try k .kept, done k))
                 where
                   done : (k : Case) → SoughtAs (k .g) w₁ (k .b .besides) (given .book) (k .rule) (At i) fr now at (whole k)
@@ -584,7 +606,6 @@ module _ (given : Given) (w₀ : Words) (plan : Plan) (base n : ℕ) (frame : Op
 
                 pub trying-differs : r .verdict ≡ Differs → Searching w₂ (r .left) (i + 1)
                 trying-differs v = record {
-                  within = omega (arith, inside);
                   less = omega (arith, tr .less, steps .takes .less);
                   long = same-long;
                   run = λ k.
@@ -594,7 +615,7 @@ module _ (given : Given) (w₀ : Words) (plan : Plan) (base n : ℕ) (frame : Op
                       ∙ none-twice (r .left) _ (next k (node k .below) (2 * i)) ∙ after-none (k .g) (k .rules) deep (k .rule) (k .b) (node k .below) (2 * i) (r .left));
                 }
 
-                pub trying-stops : {no : ℕ} → r .verdict ≡ Stops no → (fr : Open) → Grown frame fr → Seeks given w₀ w₂ plan base n frame deep left (record { found = Stopped no; frame = fr; left = r .left; next = 0 })
+                pub trying-stops : {no : ℕ} → r .verdict ≡ Stops no → (fr : Open) → Grown frame fr → Seeks given w₀ w₂ plan base n frame deep left start (record { found = Stopped no; frame = fr; left = r .left; next = 0 })
                 trying-stops {no} v fr grown = sought (Stopped no) fr (r .left) 0 w₂ same-long grown (omega (arith, tr .less, steps .takes .less)) (λ k. (still k, stops k))
                   where
                     stops : (k : Case) → whole k ≡ stop no (r .left)
@@ -640,11 +661,11 @@ module _ (given : Given) (w₀ : Words) (plan : Plan) (base n : ℕ) (frame : Op
 -- THE VARIABLES
 
 -- a search does not depend on what lies past the variables that are bound
-pub seeks-still : {given : Given} {w w′ : Words} {plan : Plan} {base n live top deep : ℕ} {left : State} {r : Seeking} (u v : Vars) → v .n ≡ u .n → Kept u v
-    → Seeks given w w′ plan base n (record { vars = v; live = live; top = top }) deep left r → Seeks given w w′ plan base n (record { vars = u; live = live; top = top }) deep left r
+pub seeks-still : {given : Given} {w w′ : Words} {plan : Plan} {base n live top deep : ℕ} {left : State} {start : ℕ} {r : Seeking} (u v : Vars) → v .n ≡ u .n → Kept u v
+    → Seeks given w w′ plan base n (record { vars = v; live = live; top = top }) deep left start r → Seeks given w w′ plan base n (record { vars = u; live = live; top = top }) deep left start r
 seeks-still u v e k x = record {
   grown = record { sound = x .grown .sound; kept = kept-more k (x .grown .kept); few = x .grown .few; low = x .grown .low; more = x .grown .more; higher = x .grown .higher };
   fits = x .fits;
   long = x .long;
-  meant = λ g rules rule b scope setting planned held tree sure. x .meant g rules rule b scope setting planned (held-still u v e k held) tree sure;
+  meant = λ g rules rule b scope setting planned held tree begins sure. x .meant g rules rule b scope setting planned (held-still u v e k held) tree begins sure;
 }

@@ -96,7 +96,7 @@ module _ (given : Given) (w : Words) (at base n : ℕ) (frame : Open) (deep : �
 
   pub matches-found : frame .live + n ≤ mostLive → (w′ : Words) (plan : Plan) (s : Seeking)
       → ((rule : Rule) (next : ℕ) → Layout.rule (given .types) (given .book) at ≡ value rule next → Planned (given .types) (given .book) rule plan)
-      → Seeks given w w′ plan base n (record { vars = frame .vars; live = frame .live + n; top = frame .top }) deep left s
+      → Seeks given w w′ plan base n (record { vars = frame .vars; live = frame .live + n; top = frame .top }) deep left 0 s
       → (v : Verdict) → foundVerdict (s .found) ≡ v → CallMatches given w w′ at base n frame deep left (record { verdict = v; left = s .left })
   matches-found h w′ plan s planned sk v ev = (
     found-less n left (s .found) (s .left) (sk .fits),
@@ -106,7 +106,7 @@ module _ (given : Given) (w : Words) (at base n : ℕ) (frame : Open) (deep : �
       meant = λ g rules scope b st held tree sure.
           let b′ : Bindings = start (b .env) scope (b .besides) in
           let steps = matches-steps g rules (calls true g rules deep) r (b .env) scope (b .besides) left sure ∙ live-fits (live b′) left _ (omega (arith, h, held .counted, tree .1 .nodes)) in
-          let q = sk .meant g rules r b′ scope st (planned r next e) (record { stands = held .stands; counted = omega (arith, held .counted, tree .1 .nodes) }) tree
+          let q = sk .meant g rules r b′ scope st (planned r next e) (record { stands = held .stands; counted = omega (arith, held .counted, tree .1 .nodes) }) tree (record { inside = omega arith; root = λ _. refl })
           (sure-first (M.seek true g rules (calls true g rules deep) r scope 0 b′ left) isMatch (sure-as steps sure)) in
           (q .0, tested-as (s .left) ev steps (found-tested g w′ (b′ .besides) (given .book) r (s .found) (s .frame) (s .left) (s .next) _ (q .1)));
     },

@@ -14,7 +14,7 @@ use Rattle.tree.specs.Limits.{mostNodes}
 use Rattle.tree.specs.Tree.{size}
 use Rattle.rules.specs.Limits.{mostRules}
 use Rattle.rules.specs.Rules as Rules
-use Rattle.rules.specs.Rules.{Piece, Rule, Application, applied, arguments, applications, conditionOf, shapes, pieces, pairsIn}
+use Rattle.rules.specs.Rules.{Piece, searches, Rule, Application, applied, arguments, applications, conditionOf, shapes, pieces, pairsIn}
 use Rattle.rules.specs.Layout as Layout
 use Rattle.rules.specs.Layout.{PartAt, partAt, partOf}
 use Rattle.rules.specs.declared.Deconstruct.{Deconstruct}
@@ -158,6 +158,15 @@ SoughtAs g w besides book r (At i) frame left next m =
 SoughtAs g w besides book r Nowhere frame left next m = m ≡ ok none left
 SoughtAs g w besides book r (Stopped n) frame left next m = m ≡ stop n left
 
+-- a search may begin at the node `from` of n: at the root alone, if the rule does not search
+pub record Begins (r : Rule) (n from : ℕ) : Type 0 where
+  pub inside : from ≤ n
+  pub root : searches (r .strategy) ≡ false → from ≡ 0
+
+-- the search from there on
+abbrev pub seekFrom : ℕ → Grammar → Rules.Rules → Rule → Words → ℕ → Bindings → Comp (Option Found)
+seekFrom deep g rules rule scope from b = M.seek true g rules (calls true g rules deep) rule (drop (2 * from) scope) (2 * from) b
+
 -- how a call ended, by its number
 abbrev pub EndedAs : ℕ → Ending → Type 0
 EndedAs zero e = e ≡ done
@@ -219,16 +228,16 @@ module _ (given : Given) (w w′ : Words) where
     pub next-is : (q : PartAt) (next : ℕ) → partAt (given .types) (given .book) at ≡ value q next → r .next ≡ next
     pub takes : Takes w w′ frame left r With (partRead deep (given .book) (partAt (given .types) (given .book) at))
 
-  -- SEARCH
+  -- SEARCH, from the node `from` on
 
-  pub record Seeks (plan : Plan) (base n : ℕ) (frame : Open) (deep : ℕ) (left : State) (r : Seeking) : Type 0 where
+  pub record Seeks (plan : Plan) (base n : ℕ) (frame : Open) (deep : ℕ) (left : State) (from : ℕ) (r : Seeking) : Type 0 where
     pub grown : Grown frame (r .frame)
     pub fits : FoundFits n left (r .found) (r .left)
     pub long : length w′ ≡ length w
     pub meant : (g : Grammar) (rules : Rules.Rules) (rule : Rule) (b : Bindings) (scope : Words) → With g rules → Planned (given .types) (given .book) rule plan → Held g w frame b → Tree g (take (frame .top) w) base n scope
-        → Sure (M.seek true g rules (calls true g rules deep) rule scope 0 b left)
+        → Begins rule n from → Sure (seekFrom deep g rules rule scope from b left)
         → (take (frame .top) w′ ≡ take (frame .top) w)
-        × SoughtAs g w′ (b .besides) (given .book) rule (r .found) (r .frame) (r .left) (r .next) (M.seek true g rules (calls true g rules deep) rule scope 0 b left)
+        × SoughtAs g w′ (b .besides) (given .book) rule (r .found) (r .frame) (r .left) (r .next) (seekFrom deep g rules rule scope from b left)
 
   -- CONDITIONS
 
@@ -345,7 +354,7 @@ module _ (given : Given) (w w′ : Words) where
     pub meant : (g : Grammar) (rules : Rules.Rules) (b : Bindings) (t target : ℕ) (scope : Words) → Setting given g rules → Held g w frame b → Standing g w base n t scope
         → Sure (M.replace true g rules (calls true g rules deep) target (pieces (pairsAt (given .book) at)) scope (record { place = 2 * i; bound = b }) left)
         → (take base w′ ≡ take base w) × ((r .stop ≡ 0 → ⊥) → take (base + 2 * n) w′ ≡ take (base + 2 * n) w)
-        × Says (Standing g w′ base (r .nodes) t) (r .stop) (r .left) (M.replace true g rules (calls true g rules deep) target (pieces (pairsAt (given .book) at)) scope (record { place = 2 * i; bound = b }) left)
+        × Says (λ ws. Standing g w′ base (r .nodes) t ws × (i < r .nodes)) (r .stop) (r .left) (M.replace true g rules (calls true g rules deep) target (pieces (pairsAt (given .book) at)) scope (record { place = 2 * i; bound = b }) left)
 
   -- what a call leaves of its scope: so many nodes, which stand at base
   abbrev pub Left : Grammar → ℕ → Called → M.Called → Type 0

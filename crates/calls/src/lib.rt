@@ -369,7 +369,7 @@ fn step(
     }
 }
 
-// The first node of the scope, n nodes from base on, at which an attempt matches. Document 01's nested loops over nodes and parts: left by a label at the first
+// The first node of the scope, n nodes from base on, at which an attempt matches, from the node `from` on. Document 01's nested loops over nodes and parts: left by a label at the first
 // match, yielding its position by `break`.
 fn seek(
     heads: &[u32; HEADS],
@@ -385,9 +385,10 @@ fn seek(
     frame: Frame,
     deep: usize,
     left: State,
+    from: usize,
 ) -> Sought
     requires { ⌜ Room (now w) (openOf (now places) frame) × (1 ≤ types) × (plan .count ≤ 8) × (base < 2 ^ 32) × (n ≤ 2048) × (0 < n → base + 2 * n ≤ frame .top) ⌝ }
-    ensures { λ r. ⌜ Seeks (givenOf (now (heads .entry)) (now (rows .entry)) types (now (book .entry)) (now (starts .entry))) (now (w .entry)) (now (w .exit)) plan base n (openOf (now (places .entry)) frame) deep left (seekingIn (now (places .exit)) r) ⌝ }
+    ensures { λ r. ⌜ Seeks (givenOf (now (heads .entry)) (now (rows .entry)) types (now (book .entry)) (now (starts .entry))) (now (w .entry)) (now (w .exit)) plan base n (openOf (now (places .entry)) frame) deep left from (seekingIn (now (places .exit)) r) ⌝ }
 {
     let pairs = rules::pairs_of(book, plan.pattern);
     let strategy = plan.strategy;
@@ -395,7 +396,7 @@ fn seek(
     let end = base + 2 * n;
     let first = candidates::first_of(pairs, plan.target);
     let mut fuel = left;
-    let mut i: usize = 0;
+    let mut i = from;
     let found = 'nodes: loop {
         if last <= i {
             break 'nodes seeking(Found::Nowhere, frame, fuel, 0);
@@ -534,6 +535,7 @@ fn matches(
         inner,
         deep,
         left,
+        0,
     );
     let now = s.left;
     let found = s.found;
@@ -1066,6 +1068,7 @@ pub fn call(
     let mut nodes = n;
     let mut fuel = left;
     let mut count: u32 = 0;
+    let mut from: usize = 0;
     loop {
         let live = besides + nodes;
         if MOST_LIVE < live {
@@ -1090,6 +1093,7 @@ pub fn call(
             frame,
             deep,
             fuel,
+            from,
         );
         let found = s.found;
         match found {
@@ -1126,6 +1130,8 @@ pub fn call(
                 if !repeats {
                     return calling(0, nodes, fuel, count);
                 }
+                let put = marks::size_in(words::word(w, base + 2 * i));
+                from = rules::onward(strategy, i, put);
             }
         }
     }

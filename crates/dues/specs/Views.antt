@@ -17,7 +17,7 @@ use Rattle.tree.specs.Views.{InTables, level}
 use Rattle.rules.specs.Rules.{Rules}
 use Rattle.rules.specs.Layout.{bit}
 use Rattle.rules.specs.declared.Strategy.{Strategy}
-use Rattle.rules.specs.declared.Strategy.the-variants.{RootOnly, FirstMatch, Exhaustive}
+use Rattle.rules.specs.declared.Strategy.the-variants.{RootOnly, FirstMatch, Exhaustive, OnePass}
 use Rattle.judgement.specs.Wanted.{Wanted, exactly, aNumber, toJoin, aSequence, anything}
 use Rattle.judgement.specs.Typing as Typing
 use Rattle.judgement.specs.Typing.{Due, aTree, aChain, applicationCount, application, argument, Context, inPattern, inReplacement, inCondition, mayStand, meets}
@@ -127,6 +127,7 @@ abbrev pub searchesAs : Strategy → Bool
 searchesAs RootOnly = false
 searchesAs FirstMatch = true
 searchesAs Exhaustive = true
+searchesAs OnePass = true
 
 -- is a rule with this map applied here?
 abbrev pub appliesMap : Typing.Place → ℕ → Bool

@@ -559,6 +559,7 @@ pub fn fits_scope(strategy: Strategy, target: u32, s: u32) -> bool
         Strategy::RootOnly => target == s,
         Strategy::FirstMatch => true,
         Strategy::Exhaustive => true,
+        Strategy::OnePass => true,
     }
 }
 

@@ -17,9 +17,9 @@ use Rattle.grammar.specs.Kinds.{allowed, children, isNumber}
 use Rattle.tree.specs.Limits.{mostNodes}
 use Rattle.tree.specs.Tree as T
 use Rattle.tree.specs.Tree.{Trees, Tree, size, areTrees, isTree, after, firstTree, typeOf, put}
-use Rattle.tree.proofs.Trees.{tells, trees-append, trees-even, size-append, and-intro, trees-pass, tree-passes, tree-type}
+use Rattle.tree.proofs.Trees.{tells, trees-append, trees-even, first-append, size-append, and-intro, trees-pass, tree-passes, tree-type}
 use Rattle.rules.specs.Limits.{mostVariables}
-use Rattle.rules.specs.Rules.{Operation, Edit, Applied, rule, operation, editing, Application, Piece, Part, Strategy, rootOnly, firstMatch, exhaustive, searches, Rule, Rules}
+use Rattle.rules.specs.Rules.{Operation, Edit, Applied, rule, operation, editing, Application, Piece, Part, Strategy, rootOnly, firstMatch, exhaustive, onePass, searches, Rule, Rules}
 use Rattle.judgement.specs.Wanted.{Wanted, wants, scopeFits, wantedIn}
 use Rattle.judgement.specs.WellTyped.{Types, Role, replacing, testing, Operates, adds, subtracts, divides, remains, rounds, truncates, equals, exceeds, Usable, Applies, aRule, anOperation, anEdit, AllApply, allNone, allMore, Replacement, piecesEnd, aWritten, aCopy, aChain, PartFits, deconstructs, searchesFor, constructs, tests, PartsFit, noPart, aPart, RuleFits}
 use Rattle.judgement.specs.Tested.{isReplacing}
@@ -27,7 +27,7 @@ use Rattle.meaning.specs.declared.State.{State}
 use Rattle.meaning.specs.Computation.{Result, thenOf, stopUnless}
 use Rattle.meaning.specs.Operations.{rounded, truncated, inRange, divisor, withOne, withNone, compute, compare, valueOf, valuesOf, isNumberToken, areNumberTokens}
 use Rattle.meaning.specs.Meaning as M
-use Rattle.meaning.specs.Meaning.{Env, Bindings, live, fits, Found, Ending, done, stopped, cannotGoOn, Called, resultAs, resultOf, opened, afterRound, Calls, apply, applyChain, fill, finish, succeeds, anySucceeds, part, parts, attempt, seek, replace, begin, start, callMatches, turn, callWith, call, variables}
+use Rattle.meaning.specs.Meaning.{Env, Bindings, live, fits, Found, Ending, done, stopped, cannotGoOn, Called, resultAs, resultOf, opened, Turned, afterRound, Calls, apply, applyChain, fill, finish, succeeds, anySucceeds, part, parts, attempt, seek, replace, begin, start, callMatches, turn, callWith, call, variables}
 use Rattle.meaning.specs.Sound.{WellEnded, Sound}
 use Rattle.tree.specs.Rest.{Rest}
 use Rattle.tree.proofs.Rest.{tree-rest, rest-node, onward}
@@ -107,20 +107,36 @@ pub record SoundCalls (g : Grammar) (rules : Rules) (strict plain : Calls) : Typ
   pub matching : {t : ℕ} {r : Rule} {args : Env} {scope : Words} → Fitting g rules t r args scope → (besides : ℕ) (n : State)
       → Safe Any n (strict .matches r args scope besides n) (plain .matches r args scope besides n)
 
+-- trees of these types, put after the words, make a tree of type t
+abbrev Opens : Grammar → ℕ → Words → Types → Type 0
+Opens g t before ts = (us : Words) → Trees g ts us → Trees g (t ∷ []) (before ++ us)
+
+-- what stands in a scope of type t from the place on: trees of some types, in whose place others of these types may stand
+pub record From (g : Grammar) (t : ℕ) (scope : Words) (place : ℕ) : Type 0 where
+  pub before : Words
+  pub ws : Words
+  pub ts : Types
+  pub is : scope ≡ before ++ ws
+  pub long : length before ≡ place
+  pub rest : Rest g ts ws
+  pub opens : Opens g t before ts
+
+from-start : {g : Grammar} {t : ℕ} {scope : Words} → Tree g t scope → From g t scope 0
+from-start {t = t} {scope} x = record { before = []; ws = scope; ts = t ∷ []; is = refl; long = refl; rest = tree-rest x; opens = λ us q. q }
+
 -- where a match stands: in its place is a tree of the target type, and any other of that type may take it
 pub record Spot (g : Grammar) (t target : ℕ) (Γ : Types) (scope : Words) (f : Found) : Type 0 where
   pub root : typeOf scope ≡ t
   pub typed : OfTypes g Γ (f .bound .env)
   pub here : Tree g target (firstTree g (drop (f .place) scope))
   pub any : (u : Words) → Trees g (target ∷ []) u → Trees g (t ∷ []) (put g scope (f .place) u)
+  -- what follows such a tree then
+  pub behind : (u : Words) → Trees g (target ∷ []) u → From g t (put g scope (f .place) u) (f .place + length u)
+  pub there : (u : Words) → drop (f .place) (put g scope (f .place) u) ≡ u ++ after g (drop (f .place) scope) 1
 
 with-fact : {A R : Type 0} (P : A → Type 0) (o : Option A) → R → Maybe P o → Maybe (λ a. P a × R) o
 with-fact P none r p = tt
 with-fact P (some a) r p = (p, r)
-
--- trees of these types, put after the words, make a tree of type t
-abbrev Opens : Grammar → ℕ → Words → Types → Type 0
-Opens g t before ts = (us : Words) → Trees g ts us → Trees g (t ∷ []) (before ++ us)
 
 opens-node : {g : Grammar} {t x : ℕ} {ts : Types} (before : Words) (v : ℕ) → allowed g x v ≡ true → Opens g t before (x ∷ ts) → Opens g t (before ++ x ∷ v ∷ []) (children g x v ++ ts)
 opens-node {x = x} before v fine open′ us q = rw append-assoc (open′ (x ∷ v ∷ us) (T.node fine q))
@@ -137,6 +153,16 @@ spot {g} before ws place c r h open′ root typed =
       typed = typed;
       here = rw d (on .tree);
       any = λ u q. rw (d, k) (open′ (u ++ after g ws 1) (trees-append q (on .rest .typed)));
+      behind = λ u q. record {
+        before = before ++ u;
+        ws = after g ws 1;
+        ts = _;
+        is = rw (d, k, append-assoc);
+        long = omega (arith, length-append before u, h);
+        rest = on .rest;
+        opens = λ us p. rw append-assoc (open′ (u ++ us) (trees-append q p));
+      };
+      there = λ u. rw (d, k) (drop-at before (u ++ after g ws 1) place h);
     }
 
 -- a call that fits passes the strict test
@@ -171,14 +197,21 @@ unfolding opened
 opened-sound tree (goes {l = l} h p) f = sound-less h (f l h)
 opened-sound tree (stops h a b) f = record { agree = refl; ends = (a, b); scope = tree; attempts = h }
 
-afterRound-sound : {g : Grammar} {t : ℕ} {n : State} {scope : Words} {x y : Result (Option Words)} {rest rest′ : Words → State → Called} → Tree g t scope → (k : ℕ) (s : Strategy)
-    → Safe (λ m l. Maybe (λ next. Tree g t next × (l .attempts < n .attempts)) m) n x y → ((next : Words) (l : State) → Tree g t next → l .attempts < n .attempts → Sound g t (l .attempts) (rest next l) (rest′ next l))
+-- after a replacement: a tree, and what follows the tree put in place
+pub record Went (g : Grammar) (t : ℕ) (x : Turned) : Type 0 where
+  pub tree : Tree g t (x .scope)
+  pub from : From g t (x .scope) (x .behind)
+
+afterRound-sound : {g : Grammar} {t : ℕ} {n : State} {scope : Words} {x y : Result (Option Turned)} {rest rest′ : Words → ℕ → State → Called} → Tree g t scope → (k : ℕ) (s : Strategy)
+    → Safe (λ m l. Maybe (λ next. Went g t next × (l .attempts < n .attempts)) m) n x y
+    → ((next : Words) (place : ℕ) (l : State) → Tree g t next → From g t next place → l .attempts < n .attempts → Sound g t (l .attempts) (rest next place l) (rest′ next place l))
     → Sound g t (n .attempts) (afterRound scope k s rest x) (afterRound scope k s rest′ y)
 unfolding afterRound
 afterRound-sound tree k s (goes {a = none} {l} h p) f = record { agree = refl; ends = tt; scope = tree; attempts = h }
-afterRound-sound tree k exhaustive (goes {a = some next} {l} h p) f = sound-less h (f next l (p .0) (p .1))
-afterRound-sound tree k firstMatch (goes {a = some next} {l} h p) f = record { agree = refl; ends = tt; scope = p .0; attempts = h }
-afterRound-sound tree k rootOnly (goes {a = some next} {l} h p) f = record { agree = refl; ends = tt; scope = p .0; attempts = h }
+afterRound-sound tree k exhaustive (goes {a = some next} {l} h p) f = sound-less h (f (next .scope) 0 l (p .0 .tree) (from-start (p .0 .tree)) (p .1))
+afterRound-sound tree k onePass (goes {a = some next} {l} h p) f = sound-less h (f (next .scope) (next .behind) l (p .0 .tree) (p .0 .from) (p .1))
+afterRound-sound tree k firstMatch (goes {a = some next} {l} h p) f = record { agree = refl; ends = tt; scope = p .0 .tree; attempts = h }
+afterRound-sound tree k rootOnly (goes {a = some next} {l} h p) f = record { agree = refl; ends = tt; scope = p .0 .tree; attempts = h }
 afterRound-sound tree k s (stops h a b) f = record { agree = refl; ends = (a, b); scope = tree; attempts = h }
 
 -- ONE LEVEL
@@ -328,7 +361,7 @@ module _ (g : Grammar) (rules : Rules) (each : (n : ℕ) (r : Rule) → getElem?
       (λ l _ _. returns tt))
 
   replace-safe : {t target : ℕ} {Γ : Types} {scope : Words} {ps : List Piece} (f : Found) → Spot g t target Γ scope f → Replacement g rules Γ (target ∷ []) ps → (n : State)
-      → Safe (λ ws l. Tree g t ws) n (replace true g rules deeper target ps scope f n) (replace false g rules deeper′ target ps scope f n)
+      → Safe (λ ws l. Went g t (record { scope = ws; behind = f .place + length (firstTree g (drop (f .place) ws)) })) n (replace true g rules deeper target ps scope f n) (replace false g rules deeper′ target ps scope f n)
   unfolding replace
   replace-safe {t} {target} {scope = scope} f s p n =
       andThen (finish-safe (f .bound) (s .typed) p n) λ ws l₁ _ tree.
@@ -337,7 +370,8 @@ module _ (g : Grammar) (rules : Rules) (each : (n : ℕ) (r : Rule) → getElem?
       andThen (nesting-safe g (put g scope (f .place) ws) l₃) λ u l₄ _ flat.
       let whole : Tree g t (put g scope (f .place) ws) = record { typed = s .any ws (tree .typed); nodes = small; nested = flat } in
       andThen (check-safe (isTree g (typeOf scope) (put g scope (f .place) ws)) l₄ (rw (s .root) (tree-passes whole))) λ u l₅ _ _.
-      returns whole
+      let z : firstTree g (drop (f .place) (put g scope (f .place) ws)) ≡ ws = rw (s .there ws) (first-append (tree .typed) (after g (drop (f .place) scope) 1)) in
+      returns (record { tree = whole; from = rw z (s .behind ws (tree .typed)) })
 
   module _ {t : ℕ} {r : Rule} {args : Env} {scope : Words} (besides : ℕ) (fit : Fitting g rules t r args scope) where
     begin-safe : (n : State) → Safe Any n (begin true g r args scope besides n) (begin false g r args scope besides n)
@@ -347,40 +381,42 @@ module _ (g : Grammar) (rules : Rules) (each : (n : ℕ) (r : Rule) → getElem?
         andThen (check-safe (fits g r args scope) l (fits-true scope fit)) λ u l _ _.
         live-safe (live (start args scope besides)) l
 
-    -- the first match in the scope
-    search-safe : (n : State) → Safe (λ m l. Maybe (λ f. Spot g t (r .target) (fit .rule .all) scope f × (l .attempts < n .attempts)) m) n
-        (seek true g rules deeper r scope 0 (start args scope besides) n) (seek false g rules deeper′ r scope 0 (start args scope besides) n)
-    search-safe n = seek-safe (fit .rule) _ (fit .arguments) (n .attempts) scope (t ∷ []) [] 0 (tree-rest (fit .tree)) (tree-type scope (fit .tree .typed)) refl refl (λ us q. q) n (le-refl (n .attempts))
+    -- the first match in the scope from the place on
+    search-safe : (place : ℕ) → From g t scope place → (n : State) → Safe (λ m l. Maybe (λ f. Spot g t (r .target) (fit .rule .all) scope f × (l .attempts < n .attempts)) m) n
+        (seek true g rules deeper r (drop place scope) place (start args scope besides) n) (seek false g rules deeper′ r (drop place scope) place (start args scope besides) n)
+    search-safe place x n =
+        let d : drop place scope ≡ x .ws = ap (drop place) (x .is) ∙ drop-at (x .before) (x .ws) place (x .long) in
+        rw d (seek-safe (fit .rule) _ (fit .arguments) (n .attempts) (x .ws) (x .ts) (x .before) place (x .rest) (tree-type scope (fit .tree .typed)) (x .is) (x .long) (x .opens) n (le-refl (n .attempts)))
 
     pub callMatches-safe : (n : State) → Safe Any n (callMatches true g rules deeper r args scope besides n) (callMatches false g rules deeper′ r args scope besides n)
     unfolding callMatches
     callMatches-safe n =
         andThen (begin-safe n) λ u l₁ _ _.
-        andThen (search-safe l₁) λ m l₂ _ q.
+        andThen (search-safe 0 (from-start (fit .tree)) l₁) λ m l₂ _ q.
         whether-safe m q (λ c l _ _. returns tt) (λ l _. returns tt)
 
-    turn-safe : {ps : List Piece} → r .replacement ≡ some ps → (n : State)
-        → Safe (λ m l. Maybe (λ next. Tree g t next × (l .attempts < n .attempts)) m) n (turn true g rules deeper r ps args scope besides n) (turn false g rules deeper′ r ps args scope besides n)
+    turn-safe : {ps : List Piece} → r .replacement ≡ some ps → (place : ℕ) → From g t scope place → (n : State)
+        → Safe (λ m l. Maybe (λ next. Went g t next × (l .attempts < n .attempts)) m) n (turn true g rules deeper r ps args scope place besides n) (turn false g rules deeper′ r ps args scope place besides n)
     unfolding turn
-    turn-safe {ps} replaces n =
-        andThen (search-safe n) λ m l₁ _ q.
+    turn-safe {ps} replaces place x n =
+        andThen (search-safe place x n) λ m l₁ _ q.
         whether-safe m q
         (λ f l₂ h₂ s.
-        andThen (replace-safe f (s .0) (fit .rule .replacement ps replaces .typed) l₂) λ ws l₃ h₃ tree.
-        returns (tree, omega (arith, s .1)))
+        andThen (replace-safe f (s .0) (fit .rule .replacement ps replaces .typed) l₂) λ ws l₃ h₃ went.
+        returns (went, omega (arith, s .1)))
         (λ l _. returns tt)
 
   -- a rule with a replacement, and its arguments
   module _ {t : ℕ} {r : Rule} {ps : List Piece} {args : Env} (besides : ℕ) (rule : RuleFits g rules r) (replaces : r .replacement ≡ some ps) (arguments : OfTypes g (r .parameters) args)
       (reach : searches (r .strategy) ≡ false → t ≡ r .target) where
-    rounds-sound : (most : ℕ) (scope : Words) → Tree g t scope → (k : ℕ) (n : State) → n .attempts < most
-        → Sound g t (n .attempts) (M.rounds true g rules deeper most r ps args scope besides k n) (M.rounds false g rules deeper′ most r ps args scope besides k n)
+    rounds-sound : (most : ℕ) (scope : Words) (place : ℕ) → Tree g t scope → From g t scope place → (k : ℕ) (n : State) → n .attempts < most
+        → Sound g t (n .attempts) (M.rounds true g rules deeper most r ps args scope place besides k n) (M.rounds false g rules deeper′ most r ps args scope place besides k n)
     unfolding M.rounds
-    rounds-sound zero scope tree k n h = absurd (omega arith)
-    rounds-sound (suc most) scope tree k n h =
+    rounds-sound zero scope place tree x k n h = absurd (omega arith)
+    rounds-sound (suc most) scope place tree x k n h =
         afterRound-sound tree k (r .strategy)
-        (turn-safe besides (record { rule = rule; arguments = arguments; tree = tree; reach = reach }) replaces n)
-        (λ next l tree′ less. rounds-sound most next tree′ (suc k) l (omega arith))
+        (turn-safe besides (record { rule = rule; arguments = arguments; tree = tree; reach = reach }) replaces place x n)
+        (λ next from l tree′ y less. rounds-sound most next from tree′ y (suc k) l (omega arith))
 
   callWith-sound : {t : ℕ} {r : Rule} {args : Env} {scope : Words} (ps : List Piece) (o : Option (List Piece)) → r .replacement ≡ o → o ≡ some ps → Fitting g rules t r args scope → (besides : ℕ) (n : State)
       → Sound g t (n .attempts) (callWith true g rules deeper o r args scope besides n) (callWith false g rules deeper′ o r args scope besides n)
@@ -388,7 +424,7 @@ module _ (g : Grammar) (rules : Rules) (each : (n : ℕ) (r : Rule) → getElem?
   callWith-sound ps none e q fit besides n = let z : _≡_ {A = ℕ} 0 1 = cc in absurd (omega arith)
   callWith-sound {scope = scope} ps (some qs) e q fit besides n =
       opened-sound (fit .tree) (begin-safe besides fit n)
-      (λ l h. rounds-sound besides (fit .rule) e (fit .arguments) (fit .reach) (suc (l .attempts)) scope (fit .tree) 0 l (omega arith))
+      (λ l h. rounds-sound besides (fit .rule) e (fit .arguments) (fit .reach) (suc (l .attempts)) scope 0 (fit .tree) (from-start (fit .tree)) 0 l (omega arith))
 
   pub call-sound : {t : ℕ} {r : Rule} {args : Env} {scope : Words} {ps : List Piece} → Fitting g rules t r args scope → r .replacement ≡ some ps → (besides : ℕ) (n : State)
       → Sound g t (n .attempts) (call true g rules deeper r args scope besides n) (call false g rules deeper′ r args scope besides n)

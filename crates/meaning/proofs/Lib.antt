@@ -1,5 +1,5 @@
--- The soundness of the meaning, from words too, the claim about a list of runs, what rounding is, that round never stops, what operations on sequences make, and what a variable in a
--- pattern matches.
+-- The soundness of the meaning, from words too, the claim about a list of runs, what rounding is, that round never stops, what operations on sequences make, what a variable in a
+-- pattern matches, and what a one-pass rule costs.
 pub mod Safe
 pub mod Matching
 pub mod Numbers
@@ -14,3 +14,4 @@ pub mod Rounding
 pub mod RoundNeverStops
 pub mod EditsTyped
 pub mod SameExactly
+pub mod OnePass

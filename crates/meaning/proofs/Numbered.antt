@@ -1,6 +1,6 @@
 -- No computation of the meaning stops by 0, so that 0 can say that none did: the instance of Related.antt with equal states, where every stop is kept and has a
 -- number. Assumes nothing.
-use Prim.Native.Nat.{ℕ, zero, suc, _<_}
+use Prim.Native.Nat.{ℕ, zero, suc, _≤_, _<_}
 use mathlib.Core.Path.{_≡_, refl}
 use mathlib.Core.Bool.{Bool}
 use native.Mathlib.Omega.{arith}
@@ -11,13 +11,10 @@ use Rattle.rules.specs.Rules.{Rule, Rules}
 use Rattle.meaning.specs.declared.State.{State}
 use Rattle.meaning.specs.Computation.{Result, stop, spendOf, spend}
 use Rattle.meaning.specs.Meaning.{Bindings, seek, calls}
-use Rattle.meaning.proofs.Related.{Related, goes, stops, free, sticks, Respects, seek-related, calls-related}
+use Rattle.meaning.proofs.Related.{Related, goes, stops, free, sticks, Never, Respects, seek-related, calls-related}
 
 abbrev Same : State → State → Type 0
 Same l m = l ≡ m
-
-abbrev Never : ℕ → State → Type 0
-Never n l = ⊥
 
 abbrev Positive : ℕ → State → Type 0
 Positive n l = 0 < n
@@ -43,10 +40,12 @@ spends : (l : State) → Numbered (spend l)
 unfolding spend
 spends l = spends-of (l .attempts) l
 
+keeps-positive : (k : ℕ) (l : State) → 41 ≤ k → Positive k l
+keeps-positive k l h = omega (arith, h)
+
 respects-same : Respects Same Never Positive
 respects-same = record {
   less = λ l m e. rw e (le-refl (m .attempts));
-  keeps = λ k l h. omega (arith, h);
   spends = λ l m e. rw e (spends m);
 }
 
@@ -54,5 +53,5 @@ respects-same = record {
 pub sought-numbered : (strict : Bool) (g : Grammar) (rules : Rules) (depth : ℕ) (r : Rule) (ws : Words) (place : ℕ) (b : Bindings) (n : State)
     → Numbered (seek strict g rules (calls strict g rules depth) r ws place b n)
 sought-numbered strict g rules depth r ws place b n =
-    let below = calls-related Same Never Positive respects-same strict g rules depth in
-    seek-related Same Never Positive respects-same strict g rules (calls strict g rules depth) (calls strict g rules depth) below r ws place b refl
+    let below = calls-related Same Never Positive keeps-positive respects-same strict g rules depth in
+    seek-related Same Never Positive keeps-positive respects-same strict g rules (calls strict g rules depth) (calls strict g rules depth) below r ws place b refl

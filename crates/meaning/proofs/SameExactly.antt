@@ -1,7 +1,7 @@
 -- A VARIABLE IN A PATTERN MATCHES exactly a tree that is the same and holds no blank. Assumes nothing.
 use Prim.Native.Nat.{ℕ}
 use mathlib.Core.Path.{_≡_, refl, sym, _∙_}
-use mathlib.Core.List.{_∷_}
+use mathlib.Core.List.{List, _∷_}
 use mathlib.Core.Bool.{Bool, true, false, not}
 use mathlib.Core.Option.{none, some}
 use native.Mathlib.Omega.{arith}
@@ -14,7 +14,7 @@ use Rattle.tree.specs.Tree.{after, firstTree}
 use Rattle.tree.specs.Blanks.{holdsBlank}
 use Rattle.tree.proofs.Blanks.{blank-there, blank-held}
 use Rattle.rules.specs.Limits.{markVariable}
-use Rattle.rules.specs.Rules.{shapes}
+use Rattle.rules.specs.Rules.{Shape, same, shapes}
 use Rattle.meaning.specs.declared.State.{State}
 use Rattle.meaning.specs.Computation.{ok, thenOf, present, choose}
 use Rattle.meaning.specs.Meaning.{Bindings, variable, sameTree, match}
@@ -41,31 +41,35 @@ known-equal g u w k = rw (k .same, equal-same w) (go (holdsBlank g w) refl)
 
 -- THE PAIR
 
-module _ (strict : Bool) (g : Grammar) (x : ℕ) (ps u : Words) (t v : ℕ) (below : Words) (b : Bindings) (left : State) (there : getElem? (b .env) x ≡ some u) where
-  -- what the test of the two trees makes of the pair
-  by-test : (test : Bool) → sameTree g u (firstTree g (t ∷ v ∷ below)) ≡ test
-      → match strict g (shapes (markVariable ∷ x ∷ ps)) (t ∷ v ∷ below) b left ≡ choose test (match strict g (shapes ps) (after g (t ∷ v ∷ below) 1) b) (λ l. ok none l) left
-  unfolding match shapes variable present thenOf
-  by-test test e = rw (there, e)
+-- what the test of the two trees makes of the pair
+module _ (strict : Bool) (g : Grammar) (ps : List Shape) (b : Bindings) (left : State) (t v : ℕ) (ws : Words) (x : ℕ) (u : Words) (there : getElem? (b .env) x ≡ some u) where
+  pub same-other : sameTree g u (firstTree g (t ∷ v ∷ ws)) ≡ false → match strict g (same x ∷ ps) (t ∷ v ∷ ws) b left ≡ ok none left
+  unfolding match variable present thenOf choose
+  same-other e = rw (there, e)
 
+  pub same-there : sameTree g u (firstTree g (t ∷ v ∷ ws)) ≡ true → match strict g (same x ∷ ps) (t ∷ v ∷ ws) b left ≡ match strict g ps (after g (t ∷ v ∷ ws) 1) b left
+  unfolding match variable present thenOf choose
+  same-there e = rw (there, e)
+
+module _ (strict : Bool) (g : Grammar) (x : ℕ) (ps u : Words) (t v : ℕ) (below : Words) (b : Bindings) (left : State) (there : getElem? (b .env) x ≡ some u) where
   matched : (test : Bool) → sameTree g u (firstTree g (t ∷ v ∷ below)) ≡ test → (c : Bindings) (next : State)
       → match strict g (shapes (markVariable ∷ x ∷ ps)) (t ∷ v ∷ below) b left ≡ ok (some c) next → KnownEqual g u (firstTree g (t ∷ v ∷ below))
-  unfolding choose
+  unfolding shapes
   matched true e c next f = equal-known g u (firstTree g (t ∷ v ∷ below)) e
-  matched false e c next f = let q = sym (by-test false e) ∙ f in let z : _≡_ {A = ℕ} 0 1 = cc in absurd (omega arith)
+  matched false e c next f = let q = sym (same-other strict g (shapes ps) b left t v below x u there e) ∙ f in let z : _≡_ {A = ℕ} 0 1 = cc in absurd (omega arith)
 
   differs : (test : Bool) → sameTree g u (firstTree g (t ∷ v ∷ below)) ≡ test → (KnownEqual g u (firstTree g (t ∷ v ∷ below)) → ⊥)
       → match strict g (shapes (markVariable ∷ x ∷ ps)) (t ∷ v ∷ below) b left ≡ ok none left
-  unfolding choose
+  unfolding shapes
   differs true e h = absurd (h (equal-known g u (firstTree g (t ∷ v ∷ below)) e))
-  differs false e h = by-test false e
+  differs false e h = same-other strict g (shapes ps) b left t v below x u there e
 
 pub same-exactly : SameExactly
-unfolding choose
+unfolding shapes
 same-exactly strict g x ps u t v below b left there =
     let test = sameTree g u (firstTree g (t ∷ v ∷ below)) in
     record {
       sound = matched strict g x ps u t v below b left there test refl;
-      complete = λ k. by-test strict g x ps u t v below b left there true (known-equal g u (firstTree g (t ∷ v ∷ below)) k);
+      complete = λ k. same-there strict g (shapes ps) b left t v below x u there (known-equal g u (firstTree g (t ∷ v ∷ below)) k);
       fails = differs strict g x ps u t v below b left there test refl;
     }

@@ -85,6 +85,41 @@ alike n kinds field = case 1 (fields n kinds) ownAccount (both field) (ended don
 blank : ℕ → Words → Words → Case
 blank n kinds field = case 1 (fields n kinds) ownAccount (both field) (ended done 1 0 (both field))
 
+-- T-06: slips of fields, of type 2. A field is a name, or a name as its prefix and a field
+prefixes : Words
+prefixes = 4 ∷ 8 ∷ 1 ∷ 1 ∷ 1 ∷ 4 ∷ 2 ∷ 8 ∷ 2 ∷ 1 ∷ 3 ∷ 2 ∷ 3 ∷ 2 ∷ 1 ∷ 1 ∷ []
+
+-- a field: its prefixes, and its name at last
+prefixed : List ℕ → Words
+prefixed [] = []
+prefixed (n ∷ []) = 2 ∷ 0 ∷ 3 ∷ n ∷ []
+prefixed (n ∷ m ∷ ns) = 2 ∷ 1 ∷ 3 ∷ n ∷ prefixed (m ∷ ns)
+
+rows : List (List ℕ) → Words
+rows [] = 1 ∷ 1 ∷ []
+rows (f ∷ fs) = 1 ∷ 0 ∷ (prefixed f ++ rows fs)
+
+slip : List (List ℕ) → Words
+slip fs = 0 ∷ 0 ∷ rows fs
+
+-- "rules that add a prefix", here 9, to any field; with this reach
+prefixing : ℕ → Words
+prefixing reach = 1 ∷ 9 ∷ 2 ∷ reach ∷ 1 ∷ 64 ∷ 2 ∷ 3 ∷ 2 ∷ 1 ∷ 3 ∷ 9 ∷ 65 ∷ 0 ∷ []
+
+three : Words
+three = slip ((1 ∷ []) ∷ (2 ∷ []) ∷ (3 ∷ []) ∷ [])
+
+eachOnce : Words
+eachOnce = slip ((9 ∷ 1 ∷ []) ∷ (9 ∷ 2 ∷ []) ∷ (9 ∷ 3 ∷ []) ∷ [])
+
+-- .. its own name, to a field that has none
+doubling : Words
+doubling = 1 ∷ 9 ∷ 2 ∷ 3 ∷ 2 ∷ 2 ∷ 0 ∷ 64 ∷ 3 ∷ 4 ∷ 2 ∷ 1 ∷ 65 ∷ 0 ∷ 2 ∷ 0 ∷ 65 ∷ 0 ∷ []
+
+-- takes one prefix away
+shortening : Words
+shortening = 1 ∷ 9 ∷ 2 ∷ 3 ∷ 3 ∷ 2 ∷ 1 ∷ 64 ∷ 3 ∷ 64 ∷ 2 ∷ 1 ∷ 65 ∷ 1 ∷ []
+
 table : List Case
 table =
     -- M1: "a trial is due": only where a node of the target type comes up
@@ -385,6 +420,40 @@ table =
     ∷ case 1 names (1 ∷ 12 ∷ 0 ∷ 3 ∷ 0 ∷ 0 ∷ 64 ∷ 1 ∷ 64 ∷ 1 ∷ 2 ∷ 4 ∷ 1 ∷ 1 ∷ 1 ∷ 0 ∷ 1 ∷ 0 ∷ 1 ∷ 65 ∷ 2 ∷ 2 ∷ 0 ∷ 1 ∷ 65 ∷ 1 ∷ []) (0 ∷ 0 ∷ 1 ∷ 0 ∷ 1 ∷ 6 ∷ []) (ended done 1 0 (0 ∷ 0 ∷ 1 ∷ 0 ∷ 1 ∷ 6 ∷ []))
     -- a search: the attempt at two blanks costs what a failed one does
     ∷ case 9 (4 ∷ 8 ∷ 1 ∷ 1 ∷ 1 ∷ 4 ∷ 2 ∷ 8 ∷ 2 ∷ 2 ∷ 3 ∷ 3 ∷ 1 ∷ 3 ∷ 1 ∷ 1 ∷ []) (1 ∷ 9 ∷ 2 ∷ 2 ∷ 3 ∷ 2 ∷ 0 ∷ 64 ∷ 3 ∷ 65 ∷ 0 ∷ 2 ∷ 2 ∷ 1 ∷ 65 ∷ 0 ∷ []) (0 ∷ 0 ∷ 1 ∷ 0 ∷ 2 ∷ 0 ∷ 3 ∷ 0 ∷ 3 ∷ 0 ∷ 1 ∷ 0 ∷ 2 ∷ 0 ∷ 3 ∷ 5 ∷ 3 ∷ 5 ∷ 1 ∷ 1 ∷ []) (ended done 4 1 (0 ∷ 0 ∷ 1 ∷ 0 ∷ 2 ∷ 0 ∷ 3 ∷ 0 ∷ 3 ∷ 0 ∷ 1 ∷ 0 ∷ 2 ∷ 1 ∷ 3 ∷ 5 ∷ 1 ∷ 1 ∷ []))
+    -- T-06
+    -- "Each field once": a prefix is added to each of three; a budget of exactly the targets; one more, and one less
+    ∷ case 3 prefixes (prefixing 3) three (ended done 3 3 eachOnce)
+    ∷ case 4 prefixes (prefixing 3) three (ended done 3 3 eachOnce)
+    ∷ case 2 prefixes (prefixing 3) three (ended (stopped 40) 2 2 (slip ((9 ∷ 1 ∷ []) ∷ (9 ∷ 2 ∷ []) ∷ (3 ∷ []) ∷ [])))
+    -- "under reach 2 these never finish"; under reach 1 only one field is found
+    ∷ case 5 prefixes (prefixing 2) three (ended (stopped 40) 5 5 (slip ((9 ∷ 9 ∷ 9 ∷ 9 ∷ 9 ∷ 1 ∷ []) ∷ (2 ∷ []) ∷ (3 ∷ []) ∷ [])))
+    ∷ case 5 prefixes (prefixing 1) three (ended done 1 1 (slip ((9 ∷ 1 ∷ []) ∷ (2 ∷ []) ∷ (3 ∷ []) ∷ [])))
+    -- "or of 1 where there are none"
+    ∷ case 1 prefixes (prefixing 3) (slip []) (ended done 0 0 (slip []))
+    -- "a matched tree is replaced and not entered": the field in a field stays; so does one in what is put in place
+    ∷ case 2 prefixes (prefixing 3) (slip ((5 ∷ 1 ∷ []) ∷ (2 ∷ []) ∷ [])) (ended done 2 2 (slip ((9 ∷ 5 ∷ 1 ∷ []) ∷ (9 ∷ 2 ∷ []) ∷ [])))
+    ∷ case 2 prefixes doubling (slip ((1 ∷ []) ∷ (2 ∷ []) ∷ [])) (ended done 2 2 (slip ((1 ∷ 1 ∷ []) ∷ (2 ∷ 2 ∷ []) ∷ [])))
+    ∷ case 2 prefixes shortening (slip ((5 ∷ 6 ∷ 1 ∷ []) ∷ (8 ∷ 2 ∷ []) ∷ [])) (ended done 2 2 (slip ((6 ∷ 1 ∷ []) ∷ (2 ∷ []) ∷ [])))
+    -- "an unmatched node's children are tried, left to right": the field in a field that is none to double
+    ∷ case 3 prefixes doubling (slip ((5 ∷ 1 ∷ []) ∷ (2 ∷ []) ∷ [])) (ended done 3 2 (slip ((5 ∷ 1 ∷ 1 ∷ []) ∷ (2 ∷ 2 ∷ []) ∷ [])))
+    -- the rest of a sequence: in a matched one it is not tried, in an unmatched one it is, also where it is empty
+    ∷ case 9 numbers (1 ∷ 9 ∷ 1 ∷ 3 ∷ 3 ∷ 1 ∷ 0 ∷ 64 ∷ 2 ∷ 64 ∷ 1 ∷ 1 ∷ 65 ∷ 1 ∷ []) (list (1 ∷ 2 ∷ 3 ∷ [])) (ended done 1 1 (list (2 ∷ 3 ∷ [])))
+    ∷ case 9 lists (1 ∷ 9 ∷ 1 ∷ 3 ∷ 3 ∷ 1 ∷ 0 ∷ 2 ∷ 5 ∷ 64 ∷ 1 ∷ 1 ∷ 65 ∷ 0 ∷ []) (list (4 ∷ 5 ∷ 5 ∷ 6 ∷ [])) (ended done 2 1 (list (4 ∷ 5 ∷ 6 ∷ [])))
+    ∷ case 9 numbers (1 ∷ 9 ∷ 1 ∷ 3 ∷ 1 ∷ 1 ∷ 1 ∷ 3 ∷ 1 ∷ 0 ∷ 2 ∷ 9 ∷ 1 ∷ 1 ∷ []) (list (4 ∷ [])) (ended done 2 1 (list (4 ∷ 9 ∷ [])))
+    -- a match at the scope's root ends the pass
+    ∷ case 9 levels (1 ∷ 9 ∷ 0 ∷ 3 ∷ 2 ∷ 0 ∷ 0 ∷ 64 ∷ 0 ∷ 1 ∷ 65 ∷ 0 ∷ []) (0 ∷ 0 ∷ 0 ∷ 0 ∷ 0 ∷ 1 ∷ []) (ended done 1 1 (0 ∷ 0 ∷ 0 ∷ 1 ∷ []))
+    -- "a matched tree is replaced", at once: a stop in the second replacement keeps the first; 45, and 42 over the scope as it then is
+    ∷ case 9 numbers (1 ∷ 9 ∷ 2 ∷ 3 ∷ 1 ∷ 64 ∷ 2 ∷ 4 ∷ 66 ∷ 0 ∷ 1 ∷ 0 ∷ 1002 ∷ 1 ∷ 65 ∷ 0 ∷ []) (list (3 ∷ 0 ∷ 5 ∷ [])) (ended (stopped 45) 2 1 (list (100 ∷ 0 ∷ 5 ∷ [])))
+    ∷ case 999 prefixes (prefixing 3) (slip (replicate 681 (1 ∷ []))) (ended (stopped 42) 2 1 (slip ((9 ∷ 1 ∷ []) ∷ replicate 680 (1 ∷ []))))
+    -- "Conditions may have it too and then act as reach 1": a condition, and a rule with a replacement that acts as one
+    ∷ case 9 numbers (2 ∷ 12 ∷ 0 ∷ 1 ∷ 64 ∷ 0 ∷ 1 ∷ 8 ∷ 3 ∷ 66 ∷ 0 ∷ 1 ∷ 0 ∷ 1 ∷ 0 ∷ 2 ∷ 0 ∷ 0 ∷ 1 ∷ 1 ∷ 1 ∷ 2 ∷ 3 ∷ 1 ∷ 2 ∷ 5 ∷ []) (list (4 ∷ 5 ∷ 5 ∷ [])) (ended done 3 1 (list []))
+    ∷ case 9 numbers (2 ∷ 12 ∷ 0 ∷ 1 ∷ 64 ∷ 0 ∷ 1 ∷ 8 ∷ 3 ∷ 66 ∷ 0 ∷ 1 ∷ 0 ∷ 1 ∷ 0 ∷ 2 ∷ 0 ∷ 0 ∷ 1 ∷ 1 ∷ 9 ∷ 2 ∷ 3 ∷ 1 ∷ 2 ∷ 5 ∷ 1 ∷ 2 ∷ 5 ∷ []) (list (4 ∷ 5 ∷ 5 ∷ [])) (ended done 3 1 (list []))
+    -- in a group: one pass over the copy, whose replacements are not counted; its parameters stay to the end of the pass
+    ∷ case 9 numbers (2 ∷ 8 ∷ 0 ∷ 2 ∷ 0 ∷ 0 ∷ 64 ∷ 1 ∷ 4 ∷ 0 ∷ 0 ∷ 66 ∷ 0 ∷ 1 ∷ 0 ∷ 1 ∷ 0 ∷ 9 ∷ 2 ∷ 3 ∷ 1 ∷ 2 ∷ 200 ∷ 1 ∷ 2 ∷ 4200 ∷ []) (list (200 ∷ 500 ∷ 200 ∷ [])) (ended done 4 1 (list (4200 ∷ 500 ∷ 4200 ∷ [])))
+    ∷ case 9 numbers (2 ∷ 8 ∷ 0 ∷ 4 ∷ 0 ∷ 0 ∷ 1 ∷ 0 ∷ 64 ∷ 2 ∷ 64 ∷ 1 ∷ 7 ∷ 0 ∷ 0 ∷ 1 ∷ 0 ∷ 65 ∷ 0 ∷ 66 ∷ 1 ∷ 1 ∷ 0 ∷ 1 ∷ 1 ∷ 65 ∷ 0 ∷ 11 ∷ 2 ∷ 3 ∷ 1 ∷ 2 ∷ 1 ∷ 64 ∷ 2 ∷ 1 ∷ 65 ∷ 0 ∷ []) (list (7 ∷ 1 ∷ 2 ∷ [])) (ended done 3 1 (list (7 ∷ 7 ∷ 7 ∷ [])))
+    -- reach 4, and 0
+    ∷ case 3 prefixes (prefixing 4) three (refused 21 3)
+    ∷ case 3 prefixes (prefixing 0) three (refused 21 3)
     -- 1 to 5, in this order
     ∷ over 4095 16383 0 [] [] [] (refused 1 0)
     ∷ over 4096 16383 0 [] [] [] (refused 2 0)
@@ -396,5 +465,5 @@ table =
     ∷ []
 
 right : found table ≡ given table
-unfolding given found Reader.word Reader.wordIn Reader.many Reader.end Views.equalWords Grammar.typesOf Grammar.field Grammar.element Grammar.form Grammar.kind Grammar.grammar Grammar.allKnown Grammar.anyFormKnown Grammar.finishes Grammar.round Grammar.rounds Grammar.finite Grammar.finiteRecords Grammar.readGrammar Grammar.grammarFits Kinds.kindOf Kinds.allows Kinds.allowed Kinds.childrenOf Kinds.children Kinds.isSequenceKind Kinds.isSequence Kinds.isNumberKind Kinds.isNumber Kinds.isTextKind Kinds.isText Tree.size Tree.levelsOf Tree.levels Tree.nestingFrom Tree.nesting Tree.areTrees Tree.isTree Tree.first Tree.after Tree.typeOf Tree.put Blanks.isBlank Blanks.holdsBlank Sequences.elementOf Sequences.spine Sequences.sequenceOf Sequences.elementsIn Sequences.elements Sequences.takenFrom Dues.pairs Dues.whole Reading.duesOf Reading.meetsNode Reading.readTreeOf Rules.operations Rules.applied Rules.shapes Rules.arguments Rules.applications Rules.pairsIn Rules.argumentsWritten Rules.applicationsWritten Rules.chainWritten Rules.unreadable Rules.chainOf Rules.conditionOf Rules.piecesAfter Rules.pieces Layout.strategyOf Layout.stretch Layout.field Layout.pairs Layout.variableAt Layout.deconstructFields Layout.conditionFields Layout.partOf Layout.reach Layout.replacement Layout.mainFits Layout.mainBits Layout.typeField Layout.searchFields Layout.constructFields Layout.partAt Layout.part Layout.parameters Layout.headFields Layout.head Layout.parts Layout.rule Layout.layout Layout.readLayout Layout.rulesFit Wanted.wants Typing.mayStand Typing.isSome Typing.appliesRule Typing.appliesOperation Typing.fitsScope Typing.operatesOn Typing.usable Typing.wantedByEdit Typing.wantedByOperation Typing.wantedBy Typing.newVariable Typing.variable Typing.chain Typing.node Typing.meets Typing.typed Typing.variableThere Typing.partTyped Typing.partsTyped Typing.ruleTyped Typing.mainTarget Typing.rulesTyped Typing.readRules Computation.thenOf Computation.spendOf Computation.spend Computation.stopUnless Computation.surely Computation.check Computation.present Computation.choose Computation.whether Computation.nodesWithin Computation.nestingWithin Computation.liveWithin Rounding.halfEven Operations.rounded Operations.truncated Operations.inRange Operations.divisor Operations.withOne Operations.withNone Operations.compute Operations.compare Operations.valueOf Operations.valuesOf Operations.withValue Operations.isNumberToken Operations.areNumberTokens Edits.position Edits.selected Edits.joined Edits.withOne Edits.withTwo Edits.edited Edits.isSequenceTree Edits.each Edits.editFits Edits.edit Meaning.total Meaning.variable Meaning.variables Meaning.sameTree Meaning.bind Meaning.match Meaning.matchFirst Meaning.areTreesOf Meaning.fits Meaning.begin Meaning.resultAs Meaning.resultOf Meaning.opened Meaning.afterRound Meaning.apply Meaning.applyChain Meaning.fill Meaning.finish Meaning.succeeds Meaning.anySucceeds Meaning.part Meaning.parts Meaning.attempt Meaning.seek Meaning.replace Meaning.turn Meaning.rounds Meaning.callWith Meaning.call Meaning.callMatches Meaning.calls Meaning.runFrom Meaning.run Outcome.callFits Outcome.decode Outcome.endedAs Outcome.outcomeOf Outcome.outcome numbers toFortyTwo twoAndFive elements list lists sequences levels times fields names ownAccount both alike blank table
+unfolding given found Reader.word Reader.wordIn Reader.many Reader.end Views.equalWords Grammar.typesOf Grammar.field Grammar.element Grammar.form Grammar.kind Grammar.grammar Grammar.allKnown Grammar.anyFormKnown Grammar.finishes Grammar.round Grammar.rounds Grammar.finite Grammar.finiteRecords Grammar.readGrammar Grammar.grammarFits Kinds.kindOf Kinds.allows Kinds.allowed Kinds.childrenOf Kinds.children Kinds.isSequenceKind Kinds.isSequence Kinds.isNumberKind Kinds.isNumber Kinds.isTextKind Kinds.isText Tree.size Tree.levelsOf Tree.levels Tree.nestingFrom Tree.nesting Tree.areTrees Tree.isTree Tree.first Tree.after Tree.typeOf Tree.put Blanks.isBlank Blanks.holdsBlank Sequences.elementOf Sequences.spine Sequences.sequenceOf Sequences.elementsIn Sequences.elements Sequences.takenFrom Dues.pairs Dues.whole Reading.duesOf Reading.meetsNode Reading.readTreeOf Rules.operations Rules.applied Rules.shapes Rules.arguments Rules.applications Rules.pairsIn Rules.argumentsWritten Rules.applicationsWritten Rules.chainWritten Rules.unreadable Rules.chainOf Rules.conditionOf Rules.piecesAfter Rules.pieces Layout.strategyOf Layout.stretch Layout.field Layout.pairs Layout.variableAt Layout.deconstructFields Layout.conditionFields Layout.partOf Layout.reach Layout.replacement Layout.mainFits Layout.mainBits Layout.typeField Layout.searchFields Layout.constructFields Layout.partAt Layout.part Layout.parameters Layout.headFields Layout.head Layout.parts Layout.rule Layout.layout Layout.readLayout Layout.rulesFit Wanted.wants Typing.mayStand Typing.isSome Typing.appliesRule Typing.appliesOperation Typing.fitsScope Typing.operatesOn Typing.usable Typing.wantedByEdit Typing.wantedByOperation Typing.wantedBy Typing.newVariable Typing.variable Typing.chain Typing.node Typing.meets Typing.typed Typing.variableThere Typing.partTyped Typing.partsTyped Typing.ruleTyped Typing.mainTarget Typing.rulesTyped Typing.readRules Computation.thenOf Computation.spendOf Computation.spend Computation.stopUnless Computation.surely Computation.check Computation.present Computation.choose Computation.whether Computation.nodesWithin Computation.nestingWithin Computation.liveWithin Rounding.halfEven Operations.rounded Operations.truncated Operations.inRange Operations.divisor Operations.withOne Operations.withNone Operations.compute Operations.compare Operations.valueOf Operations.valuesOf Operations.withValue Operations.isNumberToken Operations.areNumberTokens Edits.position Edits.selected Edits.joined Edits.withOne Edits.withTwo Edits.edited Edits.isSequenceTree Edits.each Edits.editFits Edits.edit Meaning.total Meaning.variable Meaning.variables Meaning.sameTree Meaning.bind Meaning.match Meaning.matchFirst Meaning.areTreesOf Meaning.fits Meaning.begin Meaning.resultAs Meaning.resultOf Meaning.opened Meaning.afterRound Meaning.apply Meaning.applyChain Meaning.fill Meaning.finish Meaning.succeeds Meaning.anySucceeds Meaning.part Meaning.parts Meaning.attempt Meaning.seek Meaning.replace Meaning.turn Meaning.rounds Meaning.callWith Meaning.call Meaning.callMatches Meaning.calls Meaning.runFrom Meaning.run Outcome.callFits Outcome.decode Outcome.endedAs Outcome.outcomeOf Outcome.outcome numbers toFortyTwo twoAndFive elements list lists sequences levels times fields names ownAccount both alike blank prefixes prefixed rows slip prefixing three eachOnce doubling shortening table
 right = refl

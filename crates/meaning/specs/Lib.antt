@@ -6,6 +6,7 @@ pub mod Edits
 pub mod Meaning
 pub mod Outcome
 pub mod Sound
+pub mod OnePass
 pub mod Runs
 pub mod Cases
 pub mod CasesBench
@@ -13,3 +14,4 @@ pub mod CasesRun
 pub mod CasesLarge
 pub mod CasesStuck
 pub mod CasesEdits
+pub mod CasesOnePass

@@ -12,7 +12,7 @@ use Rattle.grammar.specs.Grammar.{Grammar}
 use Rattle.tree.specs.Tree.{size, areTrees, isTree, after, firstTree, typeOf, put}
 use Rattle.tree.specs.Blanks.{holdsBlank}
 use Rattle.rules.specs.Limits.{mostVariables}
-use Rattle.rules.specs.Rules.{Applied, rule, operation, editing, nothing, Shape, node, new, same, Application, Piece, write, copy, chain, Part, deconstruct, search, construct, condition, Strategy, rootOnly, firstMatch, exhaustive, searches, Rule, Rules}
+use Rattle.rules.specs.Rules.{Applied, rule, operation, editing, nothing, Shape, node, new, same, Application, Piece, write, copy, chain, Part, deconstruct, search, construct, condition, Strategy, rootOnly, firstMatch, exhaustive, onePass, searches, Rule, Rules}
 use Rattle.meaning.specs.Limits.{mostCalls}
 use Rattle.meaning.specs.declared.State.{State}
 use Rattle.meaning.specs.Computation.{initial, Result, ok, stop, stuck, Comp, _>>=_, _>>_, return, never, spend, surely, check, present, choose, whether, provided, nodesWithin, nestingWithin, liveWithin}
@@ -152,12 +152,20 @@ opened scope rest (ok u left) = rest left
 opened scope rest (stop n left) = called scope 0 (stopped n) left
 opened scope rest stuck = called scope 0 cannotGoOn (initial 0)
 
--- after a round on the scope, k replacements before it: "A match is replaced; with reach 2 the search then begins again at the scope's root"
-unfoldable pub afterRound : Words → ℕ → Strategy → (Words → State → Called) → Result (Option Words) → Called
+-- what a replacement leaves: the scope then, and the place of what follows the tree put in place
+pub record Turned : Type 0 where
+  pub scope : Words
+  pub behind : ℕ
+
+-- after a round on the scope, k replacements before it: "A match is replaced; with reach 2 the search then begins again at the scope's root"; the rest is what
+-- follows on a scope, from a place of it on
+unfoldable pub afterRound : Words → ℕ → Strategy → (Words → ℕ → State → Called) → Result (Option Turned) → Called
 afterRound scope k s rest (ok none left) = called scope k done left
-afterRound scope k exhaustive rest (ok (some next) left) = rest next left
-afterRound scope k firstMatch rest (ok (some next) left) = called next (suc k) done left
-afterRound scope k rootOnly rest (ok (some next) left) = called next (suc k) done left
+afterRound scope k exhaustive rest (ok (some t) left) = rest (t .scope) 0 left
+-- T-06: "a matched tree is replaced and not entered"
+afterRound scope k onePass rest (ok (some t) left) = rest (t .scope) (t .behind) left
+afterRound scope k firstMatch rest (ok (some t) left) = called (t .scope) (suc k) done left
+afterRound scope k rootOnly rest (ok (some t) left) = called (t .scope) (suc k) done left
 afterRound scope k s rest (stop n left) = called scope k (stopped n) left
 afterRound scope k s rest stuck = called scope k cannotGoOn (initial 0)
 
@@ -296,25 +304,25 @@ module _ (strict : Bool) (g : Grammar) (rules : Rules) (deeper : Calls) where
     check strict (isTree g (typeOf scope) (put g scope (f .place) ws))
     return (put g scope (f .place) ws)
 
-  -- one round: the first match, if there is one, is replaced
-  unfoldable pub turn : Rule → List Piece → Env → Words → ℕ → Comp (Option Words)
-  turn r ps args scope besides = do
-    m ← seek r scope 0 (start args scope besides)
+  -- one round, from the place on: the first match, if there is one, is replaced
+  unfoldable pub turn : Rule → List Piece → Env → Words → ℕ → ℕ → Comp (Option Turned)
+  turn r ps args scope place besides = do
+    m ← seek r (drop place scope) place (start args scope besides)
     whether m (λ f. do
       ws ← replace (r .target) ps scope f
-      return (some ws)) (return none)
+      return (some (record { scope = ws; behind = f .place + length (firstTree g (drop (f .place) ws)) }))) (return none)
 
   -- the rounds. Each but the last spends an attempt, so there are never more than the attempts left and one
-  unfoldable pub rounds : ℕ → Rule → List Piece → Env → Words → ℕ → ℕ → State → Called
-  rounds zero r ps args scope besides k left = called scope k cannotGoOn left
-  rounds (suc most) r ps args scope besides k left =
-      afterRound scope k (r .strategy) (λ next now. rounds most r ps args next besides (suc k) now) (turn r ps args scope besides left)
+  unfoldable pub rounds : ℕ → Rule → List Piece → Env → Words → ℕ → ℕ → ℕ → State → Called
+  rounds zero r ps args scope place besides k left = called scope k cannotGoOn left
+  rounds (suc most) r ps args scope place besides k left =
+      afterRound scope k (r .strategy) (λ next from now. rounds most r ps args next from besides (suc k) now) (turn r ps args scope place besides left)
 
   -- a call that rewrites its scope: "Replacements apply rules with bit 3"
   unfoldable pub callWith : Option (List Piece) → Rule → Env → Words → ℕ → State → Called
   callWith none r args scope besides left = called scope 0 cannotGoOn left
   callWith (some ps) r args scope besides left =
-      opened scope (λ now. rounds (suc (now .attempts)) r ps args scope besides 0 now) (begin strict g r args scope besides left)
+      opened scope (λ now. rounds (suc (now .attempts)) r ps args scope 0 besides 0 now) (begin strict g r args scope besides left)
 
   unfoldable pub call : Rule → Env → Words → ℕ → State → Called
   call r args scope besides left = callWith (r .replacement) r args scope besides left

@@ -13,7 +13,7 @@ use Rattle.words.proofs.Laws.{then-value, in-value, many-suc, many-length}
 use Rattle.grammar.specs.Grammar.{Grammar}
 use Rattle.tree.specs.Reading.{tree}
 use Rattle.rules.specs.Limits.{mostParameters}
-use Rattle.rules.specs.Rules.{Rule, Rules, rootOnly, firstMatch, exhaustive, searches}
+use Rattle.rules.specs.Rules.{Rule, Rules, rootOnly, firstMatch, exhaustive, onePass, searches}
 use Rattle.rules.specs.Rules as Rules
 use Rattle.rules.specs.Layout.{Head, bit, onlyIf, strategyOf, field, reach, typeField, parameters, headFields, head, rule}
 use Rattle.rules.specs.Views.{headRead, strategyAs}
@@ -75,8 +75,8 @@ reach-within : (ws : Words) (m at r next : ℕ) → reach ws m at ≡ value r ne
 unfolding reach field
 reach-within ws m at r next = go (bit 0 m)
   where
-    go : (b : Bool) → onlyIf b 0 (field ws 1 2) at ≡ value r next → at ≤ length ws → next ≤ length ws
-    go true e l = let w = in-value 20 21 ws 1 2 at e in omega arith
+    go : (b : Bool) → onlyIf b 0 (field ws 1 3) at ≡ value r next → at ≤ length ws → next ≤ length ws
+    go true e l = let w = in-value 20 21 ws 1 3 at e in omega arith
     go false e l = let y : at ≡ next = cc in omega arith
 
 parameters-as : {ws : Words} {h h′ : Head} {p next : ℕ} → Parameters ws (h .parameters) p → h ≡ h′ → p ≡ next → Parameters ws (h′ .parameters) next
@@ -141,6 +141,7 @@ module _ (types : ℕ) (ws : Words) (at : ℕ) (r : HeadRead) (e : r ≡ headRea
       searches-is rootOnly = refl
       searches-is firstMatch = refl
       searches-is exhaustive = refl
+      searches-is onePass = refl
 
       pub fits-is : (s : ℕ) {q : Bool} → q ≡ or (searchesAs (f .strategy)) (eqb (f .target) s) → q ≡ fitsScope rule s
       unfolding fitsScope

@@ -34,7 +34,8 @@ use Rattle.rewrite.specs.Vars.{Vars, varsOf, EnvAt, startsOf, bound, sta
 use Rattle.rewrite.specs.Matching.{Stage, bindings, Means, Match, Answers, matchIn, MatchAnswers, NewTold, VariableTold, PairTold, failedBy}
 use Rattle.rewrite.specs.Matching.NewTold.{other, over, past, taken}
 use Rattle.rewrite.specs.Matching.PairTold.{short, new, unlike, like, type, value, node}
-use Rattle.rewrite.proofs.Steps.{pair-new, pair-same, pair-node, no-pair, match-end, match-short, node-type, node-value, node-both, new-type, new-full, new-seventeenth, new-bound, same-unbound, same-other, same-there}
+use Rattle.meaning.proofs.SameExactly.{same-other, same-there}
+use Rattle.rewrite.proofs.Steps.{pair-new, pair-same, pair-node, no-pair, match-end, match-short, node-type, node-value, node-both, new-type, new-full, new-seventeenth, new-bound, same-unbound}
 
 -- THE VARIABLES
 

@@ -34,6 +34,16 @@ leb-deeper {g} ws r (suc d) most h =
     go true f e = le-leb (nestingFrom g ws (suc d ∷ [])) most (omega (arith, leb-true (suc d + nesting g ws) (most + 1) f))
     go false f e = lt-leb (nestingFrom g ws (suc d ∷ [])) most (omega (arith, leb-false (suc d + nesting g ws) (most + 1) f))
 
+-- what the mark of a scope's node i says
+pub child-there : (g : Grammar) (t i : ℕ) (scope : Words) → i < size scope → Trees g (t ∷ []) scope → (w : Words) (base n : ℕ) → length g ≤ 64 → size scope ≡ n → n ≤ 2048 → take (2 * n) (drop base w) ≡ marked g scope
+    → (c : ℕ) × (cs : List ℕ) × Child g c cs (drop (2 * i) scope) (getD w (base + 2 * i) 0)
+child-there g t i scope inside tree w base n l s few e =
+    let q = suffix-some scope tree i (2 * i) refl (omega (arith, trees-even tree)) in
+    (q .0, q .1, child-of g (q .0) (q .1) (drop (2 * i) scope) (getD w (base + 2 * i) 0) l (omega (arith, first-size g (drop (2 * i) scope) 1, suffix-size scope i (2 * i) refl)) (q .2) here)
+  where
+    here : getD w (base + 2 * i) 0 ≡ getD (marked g (drop (2 * i) scope)) 0 0
+    here = sym (getD-drop base w (2 * i) 0) ∙ sym (getD-take (2 * n) (drop base w) (2 * i) 0 (omega arith)) ∙ ap (λ k. getD k (2 * i) 0) e ∙ marked-drop g scope i (2 * i) refl
+
 -- NODE i OF A SCOPE, and a tree of its type in its place
 module _ (g : Grammar) (t target i : ℕ) (scope ws : Words) (inside : i < size scope) (tree : Trees g (t ∷ []) scope) (old : Trees g (target ∷ []) (firstTree g (drop (2 * i) scope))) (new : Trees g (target ∷ []) ws) where
   abbrev u : ℕ
@@ -78,16 +88,6 @@ module _ (g : Grammar) (t target i : ℕ) (scope ws : Words) (inside : i < size 
       ap (λ x. leb (nesting g x) most) put-is ∙ splice-nesting g scope a u v b (there .1) (there .2) tree ws new-there most h ∙ ap (λ n. leb (nestingFrom g ws (nodeNesting g scope (1 ∷ []) n ∷ [])) most) l
       ∙ leb-deeper ws new (nodeNesting g scope (1 ∷ []) (2 * i)) most k
 
-  -- what the node's mark says
-  child-there : (w : Words) (base n : ℕ) → length g ≤ 64 → size scope ≡ n → n ≤ 2048 → take (2 * n) (drop base w) ≡ marked g scope
-      → (c : ℕ) × (cs : List ℕ) × Child g c cs (drop (2 * i) scope) (getD w (base + 2 * i) 0)
-  child-there w base n l s few e =
-      let q = suffix-some scope tree i (2 * i) refl near in
-      (q .0, q .1, child-of g (q .0) (q .1) (drop (2 * i) scope) (getD w (base + 2 * i) 0) l (omega (arith, first-size g (drop (2 * i) scope) 1, suffix-size scope i (2 * i) refl)) (q .2) here)
-    where
-      here : getD w (base + 2 * i) 0 ≡ getD (marked g (drop (2 * i) scope)) 0 0
-      here = sym (getD-drop base w (2 * i) 0) ∙ sym (getD-take (2 * n) (drop base w) (2 * i) 0 (omega arith)) ∙ ap (λ k. getD k (2 * i) 0) e ∙ marked-drop g scope i (2 * i) refl
-
 -- the node's own tree in its place
 put-own : (g : Grammar) (scope : Words) (p : ℕ) → put g scope p (firstTree g (drop p scope)) ≡ scope
 unfolding put
@@ -125,7 +125,7 @@ module _ (heads w : Words) (base n i from deepest : ℕ) (inside : i < n) (ed : 
   deep-not before eb less g t target m scope ws hs s x o =
       let few = s .tree .nodes in
       let in-scope : i < size scope = omega (arith, s .nodes) in
-      let old = child-there g t target i scope ws in-scope (s .tree .typed) (o .typed) (x .tree .typed) w base n (hs .types) (s .nodes) (omega (arith, s .nodes)) (s .words) in
+      let old = child-there g t i scope in-scope (s .tree .typed) w base n (hs .types) (s .nodes) (omega (arith, s .nodes)) (s .words) in
       sym (le-ltb 64 (nesting g (put g scope (2 * i) ws)) (put-flat g t target i scope ws in-scope (s .tree .typed) (o .typed) (x .tree .typed) 64 (s .tree .nested)
       (omega (arith, new-nests g target m ws hs x, eb, old .2 .nested))))
 
@@ -149,7 +149,7 @@ module _ (heads rows w : Words) (base n i from m k : ℕ) (inside : i < n) (ek :
     old-is : k ≡ size (firstTree g (drop (2 * i) scope))
     old-is =
         let few = s .tree .nodes in
-        ek ∙ child-there g t target i scope ws in-scope (s .tree .typed) (o .typed) (x .tree .typed) w base n (tb .rows-of .types) (s .nodes) (omega (arith, s .nodes)) (s .words) .2 .counted
+        ek ∙ child-there g t i scope in-scope (s .tree .typed) w base n (tb .rows-of .types) (s .nodes) (omega (arith, s .nodes)) (s .words) .2 .counted
 
     old-fits : k ≤ n
     old-fits = omega (arith, old-is, s .nodes, old-small g t target i scope ws in-scope (s .tree .typed) (o .typed) (x .tree .typed))

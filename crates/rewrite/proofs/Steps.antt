@@ -13,7 +13,7 @@ use Rattle.tree.specs.Tree.{size, isTree, after, firstTree}
 use Rattle.rules.specs.Rules.{Shape, node, new, same, shapes}
 use Rattle.meaning.specs.declared.State.{State}
 use Rattle.meaning.specs.Computation.{ok, stop, stuck, thenOf, stopUnless, surely, check, present, choose, liveWithin}
-use Rattle.meaning.specs.Meaning.{Bindings, live, variable, sameTree, bind, match}
+use Rattle.meaning.specs.Meaning.{Bindings, live, variable, bind, match}
 
 -- THE PAIR
 
@@ -85,11 +85,3 @@ module _ (strict : Bool) (g : Grammar) (ps : List Shape) (b : Bindings) (left : 
     pub same-unbound : (x : ℕ) → getElem? (b .env) x ≡ none → match strict g (same x ∷ ps) (t ∷ v ∷ ws) b left ≡ stuck
     unfolding match variable present thenOf
     same-unbound x e = rw e
-
-    pub same-other : (x : ℕ) (u : Words) → getElem? (b .env) x ≡ some u → sameTree g u (firstTree g (t ∷ v ∷ ws)) ≡ false → match strict g (same x ∷ ps) (t ∷ v ∷ ws) b left ≡ ok none left
-    unfolding match variable present thenOf choose
-    same-other x u e h = rw (e, h)
-
-    pub same-there : (x : ℕ) (u : Words) → getElem? (b .env) x ≡ some u → sameTree g u (firstTree g (t ∷ v ∷ ws)) ≡ true → match strict g (same x ∷ ps) (t ∷ v ∷ ws) b left ≡ match strict g ps (after g (t ∷ v ∷ ws) 1) b left
-    unfolding match variable present thenOf choose
-    same-there x u e h = rw (e, h)

@@ -24,7 +24,7 @@ use Rattle.rules.specs.declared.HeadRead.the-variants.{Header, NoHead}
 use Rattle.rules.specs.declared.FoundPart.{FoundPart}
 use Rattle.rules.specs.declared.Head.{Head as HeadFound}
 use Rattle.rules.specs.declared.Strategy.{Strategy}
-use Rattle.rules.specs.declared.Strategy.the-variants.{RootOnly, FirstMatch, Exhaustive}
+use Rattle.rules.specs.declared.Strategy.the-variants.{RootOnly, FirstMatch, Exhaustive, OnePass}
 use Rattle.rules.specs.declared.Part.the-variants.{Deconstruct}
 use Rattle.rules.specs.declared.PartRead.{PartRead}
 use Rattle.rules.specs.declared.PartRead.the-variants.{Found, NoPart}
@@ -181,7 +181,7 @@ module _ (ws : Words) (m at : ℕ) where
   unfolding reach
   reach-none h = rw (div-one m, ne-eqb (m % 2) 1 h)
 
-  pub reach-there : m % 2 ≡ 1 → {g : Got} → g ≡ got (field ws 1 2 at) → g ≡ got (reach ws m at)
+  pub reach-there : m % 2 ≡ 1 → {g : Got} → g ≡ got (field ws 1 3 at) → g ≡ got (reach ws m at)
   unfolding reach
   reach-there h f = f ∙ rw (div-one m, eq-eqb (m % 2) 1 h)
 
@@ -237,9 +237,13 @@ pub strategy-first : {r : ℕ} → r ≡ 1 → FirstMatch ≡ strategyAs (strate
 unfolding strategyOf
 strategy-first h = rw h
 
-pub strategy-all : (r : ℕ) → (r ≡ 0 → ⊥) → (r ≡ 1 → ⊥) → Exhaustive ≡ strategyAs (strategyOf r)
+pub strategy-all : {r : ℕ} → r ≡ 2 → Exhaustive ≡ strategyAs (strategyOf r)
 unfolding strategyOf
-strategy-all r h₀ h₁ = rw (ne-eqb r 0 h₀, ne-eqb r 1 h₁)
+strategy-all h = rw h
+
+pub strategy-once : (r : ℕ) → (r ≡ 0 → ⊥) → (r ≡ 1 → ⊥) → (r ≡ 2 → ⊥) → OnePass ≡ strategyAs (strategyOf r)
+unfolding strategyOf
+strategy-once r h₀ h₁ h₂ = rw (ne-eqb r 0 h₀, ne-eqb r 1 h₁, ne-eqb r 2 h₂)
 
 -- k types take k words
 types-words : (types : ℕ) (ws : Words) (k at : ℕ) (ts : List ℕ) (next : ℕ) → many k (typeField types ws) at ≡ value ts next → length ts + at ≤ next

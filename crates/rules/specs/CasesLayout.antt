@@ -8,7 +8,7 @@ use Rattle.words.specs.Reader.{Words, value, word, wordIn, many, end}
 use Rattle.words.specs.Views.{answer}
 use Rattle.words.specs.declared.Check.{Check}
 use Rattle.words.specs.declared.Check.the-variants.{Passed, Refused}
-use Rattle.rules.specs.Rules.{node, new, same, add, greater, operation, nothing, write, chain, deconstruct, search, construct, condition, rootOnly, firstMatch, exhaustive, Rules, operations, applied, shapes, arguments, applications, pairsIn, argumentsWritten, applicationsWritten, chainWritten, unreadable, chainOf, conditionOf, piecesAfter, pieces}
+use Rattle.rules.specs.Rules.{node, new, same, add, greater, operation, nothing, write, copy, chain, deconstruct, search, construct, condition, rootOnly, firstMatch, exhaustive, onePass, Rules, operations, applied, shapes, arguments, applications, pairsIn, argumentsWritten, applicationsWritten, chainWritten, unreadable, chainOf, conditionOf, piecesAfter, pieces}
 use Rattle.rules.specs.Layout.{strategyOf, stretch, field, pairs, variableAt, deconstructFields, conditionFields, partOf, reach, replacement, mainFits, mainBits, typeField, searchFields, constructFields, partAt, part, parameters, headFields, head, parts, rule as readRule, layout, readLayout}
 
 -- the number of types, a book's words, and the layout's answer
@@ -75,10 +75,11 @@ table =
     ∷ case 3 (1 ∷ 9 ∷ 2 ∷ 2 ∷ 1 ∷ 99 ∷ 99 ∷ 0 ∷ []) (Refused 21 7)
     ∷ case 3 (1 ∷ 9 ∷ 2 ∷ 2 ∷ 1 ∷ 2 ∷ []) (Refused 20 6)
     ∷ case 3 (1 ∷ 9 ∷ 2 ∷ 2 ∷ 1 ∷ []) (Refused 20 5)
-    -- reach is 1 or 2
+    -- reach is 1, 2 or 3
     ∷ case 3 (1 ∷ 9 ∷ 2 ∷ 0 ∷ 1 ∷ 2 ∷ 200 ∷ 1 ∷ 2 ∷ 4200 ∷ []) (Refused 21 3)
     ∷ case 3 (1 ∷ 9 ∷ 2 ∷ 1 ∷ 1 ∷ 2 ∷ 200 ∷ 1 ∷ 2 ∷ 4200 ∷ []) (Passed 10)
-    ∷ case 3 (1 ∷ 9 ∷ 2 ∷ 3 ∷ 1 ∷ 2 ∷ 200 ∷ 1 ∷ 2 ∷ 4200 ∷ []) (Refused 21 3)
+    ∷ case 3 (1 ∷ 9 ∷ 2 ∷ 3 ∷ 1 ∷ 2 ∷ 200 ∷ 1 ∷ 2 ∷ 4200 ∷ []) (Passed 10)
+    ∷ case 3 (1 ∷ 9 ∷ 2 ∷ 4 ∷ 1 ∷ 2 ∷ 200 ∷ 1 ∷ 2 ∷ 4200 ∷ []) (Refused 21 3)
     ∷ []
 
 given : List Case → List Check
@@ -92,7 +93,7 @@ found (case types ws c ∷ cs) = answer (readLayout types ws) ∷ found cs
 -- WHAT A BOOK DECODES TO
 
 -- the main rule: a number that is greater than 1.00 is looked for and 1.00 added; then a condition with a parameter, tried on its scope's root alone; then a
--- replacement whose chain has K 0, and a condition with a pair behind its chain
+-- replacement whose chain has K 0, and a condition with a pair behind its chain; then a one-pass rule
 decoded : Rules
 decoded =
     record {
@@ -119,11 +120,12 @@ decoded =
       parts = condition true 0 (record { applied = nothing; arguments = [] } ∷ []) ∷ [];
       replacement = some (chain 0 (record { applied = nothing; arguments = [] } ∷ []) ∷ []);
     }
+    ∷ record { target = 2; strategy = onePass; parameters = []; pattern = new 2 ∷ []; parts = []; replacement = some (copy 0 ∷ []) }
     ∷ []
 
 book : Words
-book = 3 ∷ 13 ∷ 2 ∷ 1 ∷ 1 ∷ 64 ∷ 2 ∷ 2 ∷ 4 ∷ 2 ∷ 1 ∷ 2 ∷ 100 ∷ 8 ∷ 4 ∷ 66 ∷ 0 ∷ 1 ∷ 0 ∷ 1009 ∷ 1 ∷ 65 ∷ 1 ∷ 4 ∷ 66 ∷ 0 ∷ 1 ∷ 0 ∷ 1000 ∷ 1 ∷ 65 ∷ 1 ∷ 6 ∷ 0 ∷ 1 ∷ 2 ∷ 2 ∷ 0 ∷ 0 ∷ 65 ∷ 0 ∷ 2 ∷ 1 ∷ 0 ∷ 1 ∷ 2 ∷ 200 ∷ 3 ∷ 2 ∷ 0 ∷ 1 ∷ 64 ∷ 2 ∷ 13 ∷ 1 ∷ 2 ∷ 1 ∷ 64 ∷ 1 ∷ 1 ∷ 24 ∷ 4 ∷ 66 ∷ 0 ∷ 1 ∷ 0 ∷ 1 ∷ 0 ∷ 65 ∷ 0 ∷ 2 ∷ 66 ∷ 0 ∷ 0 ∷ 0 ∷ []
+book = 4 ∷ 13 ∷ 2 ∷ 1 ∷ 1 ∷ 64 ∷ 2 ∷ 2 ∷ 4 ∷ 2 ∷ 1 ∷ 2 ∷ 100 ∷ 8 ∷ 4 ∷ 66 ∷ 0 ∷ 1 ∷ 0 ∷ 1009 ∷ 1 ∷ 65 ∷ 1 ∷ 4 ∷ 66 ∷ 0 ∷ 1 ∷ 0 ∷ 1000 ∷ 1 ∷ 65 ∷ 1 ∷ 6 ∷ 0 ∷ 1 ∷ 2 ∷ 2 ∷ 0 ∷ 0 ∷ 65 ∷ 0 ∷ 2 ∷ 1 ∷ 0 ∷ 1 ∷ 2 ∷ 200 ∷ 3 ∷ 2 ∷ 0 ∷ 1 ∷ 64 ∷ 2 ∷ 13 ∷ 1 ∷ 2 ∷ 1 ∷ 64 ∷ 1 ∷ 1 ∷ 24 ∷ 4 ∷ 66 ∷ 0 ∷ 1 ∷ 0 ∷ 1 ∷ 0 ∷ 65 ∷ 0 ∷ 2 ∷ 66 ∷ 0 ∷ 0 ∷ 0 ∷ 9 ∷ 2 ∷ 3 ∷ 1 ∷ 64 ∷ 2 ∷ 1 ∷ 65 ∷ 0 ∷ []
 
-right : (found table ≡ given table) × (readLayout 3 book ≡ value decoded 75)
+right : (found table ≡ given table) × (readLayout 3 book ≡ value decoded 84)
 unfolding word wordIn many end operations applied shapes arguments applications pairsIn argumentsWritten applicationsWritten chainWritten unreadable chainOf conditionOf piecesAfter pieces strategyOf stretch field pairs variableAt deconstructFields conditionFields partOf reach replacement mainFits mainBits typeField searchFields constructFields partAt part parameters headFields head parts readRule layout readLayout table given found decoded book
 right = (refl, refl)

@@ -8,7 +8,7 @@ use lib.ListN.{length, getD, take, drop}
 use lib.Dec.{leb, eqb}
 use Rattle.words.specs.Reader.{Words, pick, and, or, Read, value, refused, Reader, andThen, _>>=_, _>>_, return, require, word, wordIn, many, end}
 use Rattle.rules.specs.Limits.{mostRuleWords, mostRules, mostParameters, mostParts, mostPairs}
-use Rattle.rules.specs.Rules.{Piece, Part, deconstruct, search, construct, condition, Strategy, rootOnly, firstMatch, exhaustive, Rule, Rules, shapes, conditionOf, pieces}
+use Rattle.rules.specs.Rules.{Piece, Part, deconstruct, search, construct, condition, Strategy, rootOnly, firstMatch, exhaustive, onePass, Rule, Rules, shapes, conditionOf, pieces}
 
 -- a rule's fields before its pattern
 pub record Head : Type 0 where
@@ -35,9 +35,9 @@ abbrev pub onlyIf : {A : Type 0} → Bool → A → Reader A → Reader A
 onlyIf true a r = r
 onlyIf false a r = return a
 
--- "reach: 1 first match anywhere, 2 until none is left. Without it only the scope's root is tried", here 0
+-- "reach: 1 first match anywhere, 2 until none is left. Without it only the scope's root is tried", here 0; T-06: "Add reach 3"
 unfoldable pub strategyOf : ℕ → Strategy
-strategyOf r = pick (eqb r 0) rootOnly (pick (eqb r 1) firstMatch exhaustive)
+strategyOf r = pick (eqb r 0) rootOnly (pick (eqb r 1) firstMatch (pick (eqb r 2) exhaustive onePass))
 
 module _ (ws : Words) where
   -- the words of the pairs whose count stands at p
@@ -76,9 +76,9 @@ module _ (ws : Words) where
   partOf (constructAt s p) = construct s (pieces (stretch p))
   partOf (conditionAt negated p) = condition negated (getD (stretch p) 1 0) (conditionOf (stretch p))
 
-  -- "bit 0, reach: 1 .., 2 .."; 0 where the bit does not stand
+  -- "bit 0, reach: 1 .., 2 ..", T-06: 3; 0 where the bit does not stand
   unfoldable pub reach : ℕ → Reader ℕ
-  reach m = onlyIf (bit 0 m) 0 (field 1 2)
+  reach m = onlyIf (bit 0 m) 0 (field 1 3)
 
   -- "bit 3, a replacement"
   unfoldable pub replacement : ℕ → Reader (Option (List Piece))

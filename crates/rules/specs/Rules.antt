@@ -52,15 +52,17 @@ pub data Part : Type 0 where
   -- "test (a replacement that is one group)"; true: "with bit 4 also", it holds if none succeeds
   condition : Bool → ℕ → List Application → Part
 
--- which nodes a rule tries, the paper's reach: "Without it only the scope's root is tried", "1 first match anywhere, 2 until none is left"
+-- which nodes a rule tries, the paper's reach: "Without it only the scope's root is tried", "1 first match anywhere, 2 until none is left"; T-06: "reach 3, the one-pass
+-- rule"
 pub data Strategy : Type 0 where
-  rootOnly firstMatch exhaustive : Strategy
+  rootOnly firstMatch exhaustive onePass : Strategy
 
 -- has the rule a reach?
 abbrev pub searches : Strategy → Bool
 searches rootOnly = false
 searches firstMatch = true
 searches exhaustive = true
+searches onePass = true
 
 -- "A rule without one [a replacement] is a condition"
 pub record Rule : Type 0 where

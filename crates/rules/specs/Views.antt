@@ -11,11 +11,11 @@ use Rattle.words.specs.declared.Got.{Got}
 use Rattle.words.specs.declared.Got.the-variants.{Word, Bad}
 use Rattle.rules.specs.Rules as Rules
 use Rattle.rules.specs.Limits.{mostParameters, mostParts, mostApplications}
-use Rattle.rules.specs.Rules.{rootOnly, firstMatch, exhaustive, Piece, Rule, shapes, pieces}
+use Rattle.rules.specs.Rules.{rootOnly, firstMatch, exhaustive, onePass, Piece, Rule, shapes, pieces}
 use Rattle.rules.specs.Layout as Layout
 use Rattle.rules.specs.Layout.{PartAt, deconstructAt, constructAt, conditionAt, bit, onlyIf, field}
 use Rattle.rules.specs.declared.Strategy.{Strategy}
-use Rattle.rules.specs.declared.Strategy.the-variants.{RootOnly, FirstMatch, Exhaustive}
+use Rattle.rules.specs.declared.Strategy.the-variants.{RootOnly, FirstMatch, Exhaustive, OnePass}
 use Rattle.rules.specs.declared.Plan.{Plan}
 use Rattle.rules.specs.declared.HeadRead.{HeadRead}
 use Rattle.rules.specs.declared.HeadRead.the-variants.{Header, NoHead}
@@ -29,6 +29,7 @@ abbrev pub strategyAs : Rules.Strategy → Strategy
 strategyAs rootOnly = RootOnly
 strategyAs firstMatch = FirstMatch
 strategyAs exhaustive = Exhaustive
+strategyAs onePass = OnePass
 
 -- how many types were read
 abbrev pub counted : Read (List ℕ) → Got
@@ -90,12 +91,21 @@ triedOf RootOnly zero = 0
 triedOf RootOnly (suc n) = 1
 triedOf FirstMatch n = n
 triedOf Exhaustive n = n
+triedOf OnePass n = n
 
--- does the search begin again after a replacement?
+-- does the search go on after a replacement?
 abbrev pub againOf : Strategy → Bool
 againOf RootOnly = false
 againOf FirstMatch = false
 againOf Exhaustive = true
+againOf OnePass = true
+
+-- .. and where, if the tree put in place of node i has m nodes: at the root again, or behind that tree
+abbrev pub onwardOf : Strategy → ℕ → ℕ → ℕ
+onwardOf RootOnly i m = 0
+onwardOf FirstMatch i m = 0
+onwardOf Exhaustive i m = 0
+onwardOf OnePass i m = i + m
 
 -- a chain's count; 0, if that is no count
 abbrev pub chainCount : Words → ℕ → ℕ

@@ -16,7 +16,7 @@ ghost use Rattle.words.specs.Views.{answer, got};
 ghost use Rattle.rules.specs.Layout as Layout;
 ghost use Rattle.rules.specs.Rules.{Rule};
 ghost use Rattle.rules.specs.declared.Part.the-variants as Variant;
-ghost use Rattle.rules.specs.Views.{partAs, partRead, searchedType, headRead, counted, strategyAs, pairsAt, pairsEnd, partCount, Planned, triedOf, againOf, chainCount};
+ghost use Rattle.rules.specs.Views.{partAs, partRead, searchedType, headRead, counted, strategyAs, pairsAt, pairsEnd, partCount, Planned, triedOf, againOf, onwardOf, chainCount};
 
 pub mod limits;
 
@@ -34,6 +34,7 @@ pub enum Strategy {
     RootOnly,
     FirstMatch,
     Exhaustive,
+    OnePass,
 }
 
 // A rule's fields before its pattern: its map, its target type, which nodes it tries, how many parameters it has and where their types stand, and where the
@@ -281,7 +282,7 @@ fn reach(ws: &[u32], map: u32, at: usize) -> Got
     if map % 2 != 1 {
         return Got::Word(0, at);
     }
-    field(ws, 1, 2, at)
+    field(ws, 1, 3, at)
 }
 
 // What a reach says; 0 stands for none.
@@ -294,7 +295,10 @@ fn strategy_of(r: u32) -> Strategy
     if r == 1 {
         return Strategy::FirstMatch;
     }
-    Strategy::Exhaustive
+    if r == 2 {
+        return Strategy::Exhaustive;
+    }
+    Strategy::OnePass
 }
 
 // k types, one after the other.
@@ -567,10 +571,11 @@ pub fn tried(strategy: Strategy, n: usize) -> usize
         Strategy::RootOnly => { if 0 < n { 1 } else { 0 } }
         Strategy::FirstMatch => n,
         Strategy::Exhaustive => n,
+        Strategy::OnePass => n,
     }
 }
 
-// Does the search begin again after a replacement?
+// Does the search go on after a replacement?
 pub fn again(strategy: Strategy) -> bool
     ensures { λ r. ⌜ r ≡ againOf strategy ⌝ }
 {
@@ -578,6 +583,20 @@ pub fn again(strategy: Strategy) -> bool
         Strategy::RootOnly => false,
         Strategy::FirstMatch => false,
         Strategy::Exhaustive => true,
+        Strategy::OnePass => true,
+    }
+}
+
+// Where the search goes on, if the tree put in place of node i has m nodes: at the root again, or behind that tree.
+pub fn onward(strategy: Strategy, i: usize, m: usize) -> usize
+    requires { ⌜ (i ≤ 2048) × (m < 4096) ⌝ }
+    ensures { λ r. ⌜ r ≡ onwardOf strategy i m ⌝ }
+{
+    match strategy {
+        Strategy::RootOnly => 0,
+        Strategy::FirstMatch => 0,
+        Strategy::Exhaustive => 0,
+        Strategy::OnePass => i + m,
     }
 }
 

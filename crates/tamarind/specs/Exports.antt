@@ -89,4 +89,4 @@ PostsOutput = (ending filled : ℕ) (result tree : Words) → Posts ending fille
 
 -- THE EDITION of the exported functions: 0 is document 01, and a change request that a caller can see sets its own number: 1 is T-01, 2 is T-02, 4 is T-04, 5 is T-05
 abbrev pub edition : ℕ
-edition = 5
+edition = 6

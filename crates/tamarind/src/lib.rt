@@ -418,7 +418,7 @@ pub extern "C" fn tamarind_run(
 }
 
 // The number of the last change request that a caller can see.
-const EDITION: u32 = 5;
+const EDITION: u32 = 6;
 
 // The edition of these functions: a caller asks whether it was written for this one.
 #[no_mangle]

@@ -1,9 +1,9 @@
 -- Laws of what is left of a tree from one of its nodes on. Assumes nothing.
-use Prim.Native.Nat.{ℕ, suc, _≤_, max}
+use Prim.Native.Nat.{ℕ, zero, suc, _*_, _≤_, max}
 use mathlib.Core.Path.{_≡_, refl}
 use mathlib.Core.List.{List, [], _∷_, _++_}
 use native.Mathlib.Omega.{arith}
-use lib.ListN.{length}
+use lib.ListN.{length, drop}
 use Rattle.words.specs.Reader.{Words}
 use Rattle.grammar.specs.Grammar.{Grammar}
 use Rattle.grammar.specs.Kinds.{children}
@@ -36,6 +36,15 @@ rest-step {g} {t} {w} {v} {ts} {ws} (k ∷ ks) r e p n s =
 
 pub rest-node : {g : Grammar} {t w v : ℕ} {ts : List ℕ} {ws : Words} → Rest g (t ∷ ts) (w ∷ v ∷ ws) → Rest g (children g t v ++ ts) ws
 rest-node x = rest-step (x .ks) (x .typed) (x .each) (x .positive) (x .nested) (x .nodes)
+
+-- from the node i on
+pub rest-at : {g : Grammar} (i : ℕ) (ts : List ℕ) (ws : Words) → Rest g ts ws → i ≤ size ws → (us : List ℕ) × Rest g us (drop (2 * i) ws)
+unfolding size
+rest-at zero ts ws x h = (ts, x)
+rest-at (suc i) ts [] x h = absurd (omega arith)
+rest-at (suc i) ts (w ∷ []) x h = absurd (omega arith)
+rest-at (suc i) [] (w ∷ v ∷ ws) x h = absurd (tells (x .typed))
+rest-at {g} (suc i) (t ∷ ts) (w ∷ v ∷ ws) x h = let z : 2 * suc i ≡ suc (suc (2 * i)) = omega arith in rw z (rest-at i (children g t v ++ ts) ws (rest-node x) (omega arith))
 
 -- one tree on
 pub record Onward (g : Grammar) (t : ℕ) (ts : List ℕ) (ws : Words) : Type 0 where

@@ -163,6 +163,32 @@ fn the_pages_examples_on_blanks() {
     assert!(matched >= 3 && blank >= 2, "the page has too few examples");
 }
 
+/// The grammar of the page's examples on one pass, fields with prefixes, and a tree
+/// of two fields of which one has a prefix.
+const PREFIXES: &[u32] = &[4, 8, 1, 1, 1, 4, 2, 8, 2, 1, 3, 2, 3, 2, 1, 1];
+const FIELDS: &[u32] = &[0, 0, 1, 0, 2, 0, 3, 1, 1, 0, 2, 1, 3, 5, 2, 0, 3, 2, 1, 1];
+
+#[test]
+fn the_pages_examples_on_one_pass() {
+    assert!(PAGE.contains("the grammar `4  8 1 1 1  4 2  8 2 1 3 2 3 2  1 1`"));
+    assert!(PAGE.contains("The tree is `0 0  1 0 2 0 3 1  1 0 2 1 3 5 2 0 3 2  1 1`"));
+    let rows = PAGE.lines().map(|line| line.split('|').collect());
+    let mut reaches = [0; 5];
+    for cells in rows.filter(|cells: &Vec<&str>| cells.len() > 4 && cells[1].contains(", reach ")) {
+        let row = cells.join("|");
+        let [budget, reach] = numbers(&cells[1].replace(", reach", ""))[..] else {
+            panic!("{row}");
+        };
+        let rules = numbers(cells[2]);
+        assert_eq!(rules[3], reach, "{row}");
+        let printed = cells[4].trim().replace("`: `", "\n").replace('`', "");
+        let answer = run(budget, PREFIXES, &rules, FIELDS);
+        assert_eq!(answer, format!("{printed}\n"), "{row}");
+        reaches[reach as usize] += 1;
+    }
+    assert!(reaches[3] >= 5 && reaches[1..].iter().all(|&rows| rows > 0));
+}
+
 #[test]
 fn the_papers_refusals_and_operations() {
     let wrong = [1, 9, 2, 2, 1, 2, 200, 1, 1, 1];

@@ -79,5 +79,5 @@ fn the_workloads_agree() {
         }
         workloads += 1;
     }
-    assert_eq!(workloads, 15);
+    assert_eq!(workloads, 17);
 }

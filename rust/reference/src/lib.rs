@@ -1,7 +1,7 @@
 //! A plain implementation of the rewriting core of document 01 ("The
-//! rewriting core of the counter pad") with change requests T-01, T-02, T-04
-//! and T-05 of document 02, written from those papers alone with real trees, to
-//! compare another core with.
+//! rewriting core of the counter pad") with change requests T-01, T-02, T-04,
+//! T-05 and T-06 of document 02, written from those papers alone with real
+//! trees, to compare another core with.
 //!
 //! Names are the field's usual ones. The paper's own words stand at each
 //! definition: a "slip" is a tree, a "rule book" the rules, a "trial" an

@@ -17,6 +17,9 @@ pub enum Reach {
     FirstMatch,
     /// Reach 2: again and again until no match is left.
     Exhaustive,
+    /// Reach 3 of T-06, "the one-pass rule": every match once, none of them
+    /// entered.
+    OnePass,
 }
 
 /// The pairs of one pattern or replacement, not read yet.
@@ -107,8 +110,7 @@ impl<'a> LayoutReader<'a, '_> {
         let target = self.ty()?;
         let reach = match map & REACH_BIT {
             0 => Reach::RootOnly,
-            _ if self.reader.count(1, 2)? == 1 => Reach::FirstMatch,
-            _ => Reach::Exhaustive,
+            _ => self.reach()?,
         };
         let mut parameters = Vec::new();
         if map & PARAMETERS_BIT != 0 {
@@ -135,6 +137,14 @@ impl<'a> LayoutReader<'a, '_> {
             pattern,
             parts,
             replacement,
+        })
+    }
+
+    fn reach(&mut self) -> Result<Reach, Refusal> {
+        Ok(match self.reader.count(1, 3)? {
+            1 => Reach::FirstMatch,
+            2 => Reach::Exhaustive,
+            _ => Reach::OnePass,
         })
     }
 

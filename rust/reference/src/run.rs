@@ -126,17 +126,26 @@ impl Engine<'_> {
         let mut variables = arguments;
         let parameters = variables.len();
         let mut matched = false;
-        while let Some(position) = self.search(rule, scope, &mut variables)? {
+        let mut from = 0;
+        while let Some(position) = self.search(rule, scope, from, &mut variables)? {
             matched = true;
             match &rule.replacement {
                 Some(replacement) if purpose == Purpose::Rewrite => {
                     let new = self.construct(replacement, &variables)?;
+                    let behind = position + new.size();
                     self.put_in_place(scope, position, new)?;
                     self.release_from(parameters, &mut variables);
-                    if rule.reach != Reach::Exhaustive {
-                        break;
+                    match rule.reach {
+                        Reach::RootOnly | Reach::FirstMatch => break,
+                        // "the search then begins again at the scope's root".
+                        Reach::Exhaustive => from = 0,
+                        // T-06: "a matched tree is replaced and not entered",
+                        // so the node behind it is next.
+                        Reach::OnePass => from = behind,
                     }
                 }
+                // "The first match ends the search of a condition"; with
+                // reach 3 conditions "act as reach 1" (T-06).
                 _ => break,
             }
         }
@@ -145,19 +154,20 @@ impl Engine<'_> {
         Ok(matched)
     }
 
-    /// Tries a rule on the nodes of a scope. Returns the position of the first
-    /// match, whose variables stay bound.
+    /// Tries a rule on the nodes of a scope from a position on. Returns the
+    /// position of the first match, whose variables stay bound.
     fn search(
         &mut self,
         rule: &Rule,
         scope: &Tree,
+        from: usize,
         variables: &mut Vec<Tree>,
     ) -> Result<Option<usize>, Stop> {
         let nodes = match rule.reach {
             Reach::RootOnly => 1,
-            Reach::FirstMatch | Reach::Exhaustive => scope.size(),
+            Reach::FirstMatch | Reach::Exhaustive | Reach::OnePass => scope.size(),
         };
-        for (position, node) in scope.preorder().enumerate().take(nodes) {
+        for (position, node) in scope.preorder().enumerate().take(nodes).skip(from) {
             if node.ty() == rule.target && self.attempt(rule, node, variables)? {
                 return Ok(Some(position));
             }

@@ -127,9 +127,13 @@ fn l7_layout_is_read_whole_before_typing() {
 }
 
 #[test]
-fn l8_reach_is_1_or_2() {
+fn l8_reach_is_1_to_3() {
     assert_eq!(refusal(&[1, 9, 2, 0]), Some((21, 3)));
-    assert_eq!(refusal(&[1, 9, 2, 3]), Some((21, 3)));
+    // Reach 3 is allowed with T-06; here the rules end behind it.
+    for reach in 1..=3 {
+        assert_eq!(refusal(&[1, 9, 2, reach]), Some((20, 4)));
+    }
+    assert_eq!(refusal(&[1, 9, 2, 4]), Some((21, 3)));
 }
 
 #[test]

@@ -1,6 +1,7 @@
 //! Times runs of which one thing is doubled twice, to show that the cost grows
 //! with it and no faster: the nodes that one search goes over, the attempts of
-//! a run, and the elements of a sequence that is joined and cut.
+//! a run, the fields that one pass replaces, and the elements of a sequence that
+//! is joined and cut.
 //!
 //! Nothing is subtracted. Each time of the proved core includes the clearing of
 //! 16,384 words of work memory, about 1.3 microseconds whatever the input, and
@@ -29,9 +30,13 @@ const REPLACE_BUDGETS: [u32; 3] = [100 * 26, 200 * 26, 400 * 26];
 /// The elements of the sequence that the operations of each round are applied
 /// to, up to those of the workloads.
 const ELEMENTS: [u32; 3] = [200, 400, 800];
+/// The fields that one pass makes smaller, up to nearly those of the workload.
+const FIELDS: [u32; 3] = [170, 340, 680];
 
 const SEARCH_HEAVY: &[u8] = include_bytes!("../workloads/search_heavy.txt");
 const REPLACE_HEAVY: &[u8] = include_bytes!("../workloads/replace_heavy.txt");
+const ONE_PASS: &[u8] = include_bytes!("../workloads/one_pass.txt");
+const ONE_PASS_SHRINK: &[u8] = include_bytes!("../workloads/one_pass_shrink.txt");
 const JOIN_HEAVY: &[u8] = include_bytes!("../workloads/join_heavy.txt");
 const SELECT_HEAVY: &[u8] = include_bytes!("../workloads/select_heavy.txt");
 const EXTRACT_HEAVY: &[u8] = include_bytes!("../workloads/extract_heavy.txt");
@@ -110,7 +115,7 @@ fn counts(input: &Input) -> (Option<u32>, u32, u32) {
     }
 }
 
-fn all_series() -> [Series; 8] {
+fn all_series() -> [Series; 10] {
     [
         Series {
             name: "nodes of one search",
@@ -131,6 +136,14 @@ fn all_series() -> [Series; 8] {
         Series {
             name: "attempts of replace_heavy, one amount counts down",
             inputs: REPLACE_BUDGETS.map(|budget| (budget, with_budget(replace_evenly(), budget))),
+        },
+        Series {
+            name: "nodes of one_pass",
+            inputs: NODES.map(|nodes| (nodes, one_pass(nodes))),
+        },
+        Series {
+            name: "fields of one_pass_shrink",
+            inputs: FIELDS.map(|fields| (fields, one_pass_shrink(fields))),
         },
         Series {
             name: "elements of join_heavy",
@@ -213,6 +226,23 @@ fn amounts(tree: &[u32]) -> Vec<usize> {
         .filter(|(_, node)| node[0] == 3)
         .map(|(index, _)| 2 * (index + 1) + 1)
         .collect()
+}
+
+/// Each amount of a tree of so many nodes is doubled, once.
+fn one_pass(nodes: u32) -> Input {
+    let mut input = workload(ONE_PASS);
+    input.tree.truncate(2 * nodes as usize - 2);
+    input.tree.extend([1, 1]);
+    input
+}
+
+/// So many optional amounts are taken away, each with one that moves all behind it
+/// and has fewer nodes.
+fn one_pass_shrink(fields: u32) -> Input {
+    let mut input = workload(ONE_PASS_SHRINK);
+    input.tree.truncate(2 + 6 * fields as usize);
+    input.tree.extend([1, 1]);
+    input
 }
 
 /// Each round takes half of the elements and joins them with themselves.
@@ -319,6 +349,19 @@ mod tests {
             outcomes(&replace_evenly),
             spent(REPLACE_BUDGETS, [100, 200, 400])
         );
+    }
+
+    #[test]
+    fn one_pass_replaces_each_field_once() {
+        let [_, _, _, _, _, one_pass, one_pass_shrink, ..] = all_series();
+        for (nodes, input) in &one_pass.inputs {
+            assert_eq!(input.tree.len(), 2 * *nodes as usize);
+        }
+        let fields = |nodes: u32| (nodes - 2) / 2;
+        let each_once = NODES.map(|nodes| (nodes, None, fields(nodes), fields(nodes)));
+        assert_eq!(outcomes(&one_pass), each_once);
+        let each_once = FIELDS.map(|fields| (fields, None, fields, fields));
+        assert_eq!(outcomes(&one_pass_shrink), each_once);
     }
 
     #[test]

@@ -7,10 +7,10 @@ use compare::{compare_run, Counts};
 use generate::{reference_outcome, Input};
 use reference::Outcome;
 
-use crate::timing::times;
+use crate::timing::{medians, times};
 
 /// Runs as bench inputs.
-const WORKLOADS: [(&str, &[u8]); 15] = [
+const WORKLOADS: [(&str, &[u8]); 17] = [
     ("smallest", include_bytes!("../workloads/smallest.txt")),
     ("typical", include_bytes!("../workloads/typical.txt")),
     (
@@ -32,6 +32,11 @@ const WORKLOADS: [(&str, &[u8]); 15] = [
     (
         "replace_grow",
         include_bytes!("../workloads/replace_grow.txt"),
+    ),
+    ("one_pass", include_bytes!("../workloads/one_pass.txt")),
+    (
+        "one_pass_shrink",
+        include_bytes!("../workloads/one_pass_shrink.txt"),
     ),
     ("call_heavy", include_bytes!("../workloads/call_heavy.txt")),
     ("bind_heavy", include_bytes!("../workloads/bind_heavy.txt")),
@@ -70,6 +75,7 @@ pub fn print_table() {
         print_row(name, &input, &mut memories);
     }
     print_clearing(&mut memories);
+    print_replacement(&mut memories);
 }
 
 /// Prints how long the smallest run takes beside the clearing of its work memory,
@@ -84,6 +90,38 @@ fn print_clearing(memories: &mut Memories) {
     let ratio = run / clearing;
     println!();
     println!("Clearing work memory alone takes {clearing:.0} ns, the smallest run {ratio:.2} times that.");
+}
+
+/// Prints what a replacement costs in one pass beside one in `replace_heavy`: the
+/// time of the run by its replacements.
+fn print_replacement(memories: &mut Memories) {
+    let input = |wanted: &str| {
+        let mut all = WORKLOADS.iter();
+        let (_, text) = all.find(|(name, _)| *name == wanted).expect("a workload");
+        reference::bench::parse(text).expect("a bench input")
+    };
+    let again = input("replace_heavy");
+    for name in ["one_pass", "one_pass_shrink"] {
+        let once = input(name);
+        let mut runs = |input: &Input| _ = black_box(memories.run(black_box(input)));
+        let [once_time, again_time] = medians(|number| match number {
+            0 => runs(&once),
+            _ => runs(&again),
+        });
+        let once_each = once_time / f64::from(replacements(&once));
+        let again_each = again_time / f64::from(replacements(&again));
+        let ratio = once_each / again_each;
+        println!();
+        println!("A replacement takes {once_each:.0} ns in {name} and {again_each:.0} ns in replace_heavy: {ratio:.2} times that.");
+    }
+}
+
+/// The replacements of a run that nothing refuses.
+fn replacements(input: &Input) -> u32 {
+    match reference_outcome(input) {
+        Outcome::Refused(refusal) => panic!("refused: {refusal:?}"),
+        Outcome::Ended { replacements, .. } => replacements,
+    }
 }
 
 /// The two memories that a run is lent, never cleared from outside.

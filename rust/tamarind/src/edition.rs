@@ -12,7 +12,8 @@ use crate::foreign;
 /// 4 is T-04: the list, and operations on sequences.
 /// 5 is T-05: in a pattern a variable whose tree holds an empty name or string
 /// matches nothing.
-pub const EDITION: u32 = 5;
+/// 6 is T-06: reach 3, the one-pass rule.
+pub const EDITION: u32 = 6;
 
 /// The edition of the archive that is linked.
 pub fn edition() -> u32 {

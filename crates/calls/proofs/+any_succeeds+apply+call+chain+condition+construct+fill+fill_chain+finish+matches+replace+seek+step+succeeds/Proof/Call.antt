@@ -3,8 +3,11 @@ use Rattle.calls.proofs.Frames.{Still, still-after}
 use Rattle.rewrite.proofs.Matcher.{kept-same}
 use Rattle.calls.proofs.Searching.{seeks-still}
 use Rattle.rewrite.specs.Vars.{varsOf}
-use mathlib.Core.Path.{refl}
-use Prim.Native.Nat.{ℕ, _<_}
+use mathlib.Core.Path.{_≡_, refl, ap, _∙_}
+use lib.ListN.{getD}
+use Rattle.rules.specs.Views.{onwardOf}
+use Rattle.marks.specs.Marked.{sizeIn}
+use Prim.Native.Nat.{ℕ, _+_, _*_, _<_}
 use native.Mathlib.Omega.{arith}
 use borrow.Author.Needs.{needs}
 use Rattle.calls.specs.Engine.{givenOf, seekingIn}
@@ -16,17 +19,20 @@ use Rattle.calls.proofs.+any_succeeds+apply+call+chain+condition+constr
 use Rattle.rules.proofs.again.Reads as again-reads
 use Rattle.calls.proofs.calling.Reads as calling-reads
 use Rattle.rules.proofs.plan_of.Reads as plan-of-reads
+use Rattle.rules.proofs.onward.Reads as onward-reads
+use Rattle.words.proofs.word.Reads as word-reads
+use Rattle.marks.proofs.size_in.Reads as size-in-reads
 use Rattle.calls.proofs.+any_succeeds+apply+call+chain+condition+construct+fill+fill_chain+finish+matches+replace+seek+step+succeeds.Proof.Common.{call-at, replace-below, seek-below}
 
 abbrev pub call-claims : ℕ → call-lts.Claims
-call-claims t = (plan-of-reads.Asked, plan-of-reads.Learnt, again-reads.Asked, again-reads.Learnt, calling-reads.Asked, calling-reads.Learnt, seek-below t, seek.Post, replace-below t, replace.Post)
+call-claims t = (plan-of-reads.Asked, plan-of-reads.Learnt, again-reads.Asked, again-reads.Learnt, calling-reads.Asked, calling-reads.Learnt, seek-below t, seek.Post, replace-below t, replace.Post, word-reads.Asked, word-reads.Learnt, size-in-reads.Asked, size-in-reads.Learnt, onward-reads.Asked, onward-reads.Learnt)
 
 abbrev pub call-Inv-loop : call-lts.InvT-loop
-call-Inv-loop heads rows types book starts w₀ at base n places₀ bound besides deep plan repeats nodes₀ fuel₀ count₀ w places nodes fuel count =
-    Calling (givenOf heads rows types book starts) w₀ at base n (varsOf places₀ bound) besides deep fuel₀ w nodes fuel count × Still places₀ places bound
+call-Inv-loop heads rows types book starts w₀ at base n places₀ bound besides deep plan strategy repeats nodes₀ fuel₀ count₀ from₀ w places nodes fuel count from =
+    Calling (givenOf heads rows types book starts) w₀ at base n (varsOf places₀ bound) besides deep fuel₀ w nodes fuel count from × Still places₀ places bound
 
 abbrev pub call-μ-loop : call-lts.MeasureT-loop
-call-μ-loop heads rows types book starts w₀ at base n places₀ bound besides deep plan repeats nodes₀ fuel₀ count₀ w places nodes fuel count = fuel .attempts
+call-μ-loop heads rows types book starts w₀ at base n places₀ bound besides deep plan strategy repeats nodes₀ fuel₀ count₀ from₀ w places nodes fuel count from = fuel .attempts
 
 pub call-plan-of-requires : (t : ℕ) → call-lts.Need-plan-of-requires (call-claims t) (call-at t) call.Post call-Inv-loop call-μ-loop
 call-plan-of-requires t c κs = search needs
@@ -52,13 +58,13 @@ pub call-returns : (t : ℕ) → call-lts.Need-returns (call-claims t) (call-at 
 call-returns t c =
     let a = c .before .before .before .before .before .before .before .args in
     let i = c .before .before .loop in
-    calls-over (givenOf (a .heads .now) (a .rows .now) (a .types) (a .book .now) (a .starts .now)) (a .w .now) (a .at) (a .base) (a .n) (varsOf (a .places .now) (a .bound)) (a .besides) (a .deep) (a .left) (i .w) (i .nodes) (i .fuel) (i .count) (i .inv .0) (c .calling .result) (c .calling .ensures) (c .before .if1 .taken)
+    calls-over (givenOf (a .heads .now) (a .rows .now) (a .types) (a .book .now) (a .starts .now)) (a .w .now) (a .at) (a .base) (a .n) (varsOf (a .places .now) (a .bound)) (a .besides) (a .deep) (a .left) (i .w) (i .nodes) (i .fuel) (i .count) (i .from) (i .inv .0) (c .calling .result) (c .calling .ensures) (c .before .if1 .taken)
 
-pub call-mul-t30 : (t : ℕ) → call-lts.Need-mul-t30 (call-claims t) (call-at t) call.Post call-Inv-loop call-μ-loop
-call-mul-t30 t c = search needs
+pub call-mul-t32 : (t : ℕ) → call-lts.Need-mul-t32 (call-claims t) (call-at t) call.Post call-Inv-loop call-μ-loop
+call-mul-t32 t c = search needs
 
-pub call-add-t31 : (t : ℕ) → call-lts.Need-add-t31 (call-claims t) (call-at t) call.Post call-Inv-loop call-μ-loop
-call-add-t31 t c = search needs
+pub call-add-t33 : (t : ℕ) → call-lts.Need-add-t33 (call-claims t) (call-at t) call.Post call-Inv-loop call-μ-loop
+call-add-t33 t c = search needs
 
 pub call-seek-requires : (t : ℕ) → call-lts.Need-seek-requires (call-claims t) (call-at t) call.Post call-Inv-loop call-μ-loop
 call-seek-requires t c κs = search needs
@@ -71,7 +77,7 @@ call-searched : (t : ℕ) (c : call-lts.After-seek (call-claims t) (call-at t) c
 call-searched t c =
     let a = c .before .before .before .before .before .before .before .before .before .args in
     let i = c .before .before .before .before .loop in
-    searched (givenOf (a .heads .now) (a .rows .now) (a .types) (a .book .now) (a .starts .now)) (a .w .now) (a .at) (a .base) (a .n) (varsOf (a .places .now) (a .bound)) (a .besides) (a .deep) (a .left) (i .w) (i .nodes) (i .fuel) (i .count) (i .inv .0) (c .before .before .before .if1 .left) (c .before .before .before .before .before .before .plan-of .result) (c .before .before .before .before .before .before .plan-of .ensures .1) (c .seek .last .1 .1 .1 .1 .1 .0) _ (seeks-still (varsOf (a .places .now) (a .bound)) (varsOf (i .places) (a .bound)) refl (i .inv .1 .1) (c .seek .ensures))
+    searched (givenOf (a .heads .now) (a .rows .now) (a .types) (a .book .now) (a .starts .now)) (a .w .now) (a .at) (a .base) (a .n) (varsOf (a .places .now) (a .bound)) (a .besides) (a .deep) (a .left) (i .w) (i .nodes) (i .fuel) (i .count) (i .from) (i .inv .0) (c .before .before .before .if1 .left) (c .before .before .before .before .before .before .plan-of .result) (c .before .before .before .before .before .before .plan-of .ensures .1) (c .seek .last .1 .1 .1 .1 .1 .0) _ (seeks-still (varsOf (a .places .now) (a .bound)) (varsOf (i .places) (a .bound)) refl (i .inv .1 .1) (c .seek .ensures))
 
 pub call-enum-told : (t : ℕ) → call-lts.Need-enum-told (call-claims t) (call-at t) call.Post call-Inv-loop call-μ-loop
 call-enum-told t c = search needs
@@ -112,12 +118,12 @@ call-replace-requires t c κs =
 call-placed : (t : ℕ) (c : call-lts.After-replace (call-claims t) (call-at t) call.Post call-Inv-loop call-μ-loop)
     → let a = c .before .before .before .before .before .before .before .before .before .before .before .before .before .before .before .before .before .before .args in
     let i = c .before .before .before .before .before .before .before .before .before .before .before .before .before .loop in
-    Placed (givenOf (a .heads .now) (a .rows .now) (a .types) (a .book .now) (a .starts .now)) (a .w .now) (a .at) (a .base) (a .n) (varsOf (a .places .now) (a .bound)) (a .besides) (a .deep) (a .left) (i .nodes) (i .fuel) (i .count) (c .before .before .before .before .before .before .before .before .before .before .before .before .before .before .again .result) (c .replace .last .1 .1 .1 .1 .1 .0) (c .replace .result)
+    Placed (givenOf (a .heads .now) (a .rows .now) (a .types) (a .book .now) (a .starts .now)) (a .w .now) (a .at) (a .base) (a .n) (varsOf (a .places .now) (a .bound)) (a .besides) (a .deep) (a .left) (c .before .before .before .before .before .before .before .before .before .before .before .before .before .before .before .plan-of .result) (i .nodes) (i .fuel) (i .count) (c .before .before .before .before .before .before .before .before .before .before .before .before .before .before .again .result) (c .before .before .before .before .before .found2 .given .0 .0) (c .replace .last .1 .1 .1 .1 .1 .0) (c .replace .result)
 call-placed t c =
     let a = c .before .before .before .before .before .before .before .before .before .before .before .before .before .before .before .before .before .before .args in
     let i = c .before .before .before .before .before .before .before .before .before .before .before .before .before .loop in
     let s = c .before .before .before .before .before .before .before .before .before .seek in
-    placed (givenOf (a .heads .now) (a .rows .now) (a .types) (a .book .now) (a .starts .now)) (a .w .now) (a .at) (a .base) (a .n) (varsOf (a .places .now) (a .bound)) (a .besides) (a .deep) (a .left) (i .w) (i .nodes) (i .fuel) (i .count) (i .inv .0) (c .before .before .before .before .before .before .before .before .before .before .before .before .if1 .left) (c .before .before .before .before .before .before .before .before .before .before .before .before .before .before .before .plan-of .result) (c .before .before .before .before .before .before .before .before .before .before .before .before .before .before .before .plan-of .ensures .1) (s .last .1 .1 .1 .1 .1 .0) _ (seeks-still (varsOf (a .places .now) (a .bound)) (varsOf (i .places) (a .bound)) refl (i .inv .1 .1) (s .ensures))
+    placed (givenOf (a .heads .now) (a .rows .now) (a .types) (a .book .now) (a .starts .now)) (a .w .now) (a .at) (a .base) (a .n) (varsOf (a .places .now) (a .bound)) (a .besides) (a .deep) (a .left) (i .w) (i .nodes) (i .fuel) (i .count) (i .from) (i .inv .0) (c .before .before .before .before .before .before .before .before .before .before .before .before .if1 .left) (c .before .before .before .before .before .before .before .before .before .before .before .before .before .before .before .plan-of .result) (c .before .before .before .before .before .before .before .before .before .before .before .before .before .before .before .plan-of .ensures .1) (s .last .1 .1 .1 .1 .1 .0) _ (seeks-still (varsOf (a .places .now) (a .bound)) (varsOf (i .places) (a .bound)) refl (i .inv .1 .1) (s .ensures))
     (c .before .before .before .before .before .found2 .given .0 .0) (c .before .before .before .before .before .found2 .given .1) (c .replace .last .1 .1 .1 .1 .1 .0) (c .replace .result) (c .replace .ensures) (c .before .before .before .before .before .before .before .before .before .before .before .before .before .before .again .result) (c .before .before .before .before .before .before .before .before .before .before .before .before .before .before .again .ensures)
 
 pub call-calling-requires-4 : (t : ℕ) → call-lts.Need-calling-requires-4 (call-claims t) (call-at t) call.Post call-Inv-loop call-μ-loop
@@ -144,8 +150,30 @@ call-same-length-5 t c = call-placed t (c .before .before .before .before .befor
 pub call-returns-5 : (t : ℕ) → call-lts.Need-returns-5 (call-claims t) (call-at t) call.Post call-Inv-loop call-μ-loop
 call-returns-5 t c = call-placed t (c .before .before .before .before .before .before .before) .last (c .calling5 .result) (c .before .before .before .if2 .left) (c .before .if3 .taken) (c .calling5 .ensures)
 
+pub call-mul-word : (t : ℕ) → call-lts.Need-mul-word (call-claims t) (call-at t) call.Post call-Inv-loop call-μ-loop
+call-mul-word t c = omega (arith, call-searched t (c .before .before .before .before .before .before .before .before .before .before .before .before .before .before .before .before) .place (c .before .before .before .before .before .before .before .before .before .before .before .before .found2 .given .0 .0) (c .before .before .before .before .before .before .before .before .before .before .before .before .found2 .given .1) .0, c .before .before .before .before .before .before .before .before .before .before .before .before .before .before .before .before .before .before .before .before .loop .inv .0 .few, c .before .before .before .before .before .before .before .before .before .before .before .before .before .before .before .before .before .before .before .before .before .before .before .before .before .pre .1 .3)
+
+pub call-add-word : (t : ℕ) → call-lts.Need-add-word (call-claims t) (call-at t) call.Post call-Inv-loop call-μ-loop
+call-add-word t c = omega (arith, call-searched t (c .before .before .before .before .before .before .before .before .before .before .before .before .before .before .before .before) .place (c .before .before .before .before .before .before .before .before .before .before .before .before .found2 .given .0 .0) (c .before .before .before .before .before .before .before .before .before .before .before .before .found2 .given .1) .0, c .before .before .before .before .before .before .before .before .before .before .before .before .before .before .before .before .before .before .before .before .loop .inv .0 .few, c .before .before .before .before .before .before .before .before .before .before .before .before .before .before .before .before .before .before .before .before .before .before .before .before .before .pre .1 .3)
+
+pub call-word-requires : (t : ℕ) → call-lts.Need-word-requires (call-claims t) (call-at t) call.Post call-Inv-loop call-μ-loop
+call-word-requires t c κs = search needs
+
+pub call-size-in-requires : (t : ℕ) → call-lts.Need-size-in-requires (call-claims t) (call-at t) call.Post call-Inv-loop call-μ-loop
+call-size-in-requires t c κs = search needs
+
+pub call-onward-requires : (t : ℕ) → call-lts.Need-onward-requires (call-claims t) (call-at t) call.Post call-Inv-loop call-μ-loop
+call-onward-requires t c κs = (omega (arith, call-searched t (c .before .before .before .before .before .before .before .before .before .before .before .before .before .before .before .before .before .before) .place (c .before .before .before .before .before .before .before .before .before .before .before .before .before .before .found2 .given .0 .0) (c .before .before .before .before .before .before .before .before .before .before .before .before .before .before .found2 .given .1) .0, c .before .before .before .before .before .before .before .before .before .before .before .before .before .before .before .before .before .before .before .before .before .before .loop .inv .0 .few), c .size-in .ensures .1)
+
+-- where the search goes on
+call-goes-on : (t : ℕ) (c : call-lts.After-onward (call-claims t) (call-at t) call.Post call-Inv-loop call-μ-loop)
+    → c .onward .result ≡ onwardOf (c .before .before .before .before .before .before .before .before .before .before .before .before .before .before .before .before .before .before .before .before .before .before .before .before .before .plan-of .result .strategy) (c .before .before .before .before .before .before .before .before .before .before .before .before .before .before .before .found2 .given .0 .0) (sizeIn (getD (c .before .before .before .before .before .before .before .before .before .before .replace .last .1 .1 .1 .1 .1 .0) (c .before .before .before .before .before .before .before .before .before .before .before .before .before .before .before .before .before .before .before .before .before .before .before .before .before .before .before .before .args .base + 2 * c .before .before .before .before .before .before .before .before .before .before .before .before .before .before .before .found2 .given .0 .0) 0))
+call-goes-on t c = c .onward .ensures ∙ ap (onwardOf (c .before .before .before .before .before .before .before .before .before .before .before .before .before .before .before .before .before .before .before .before .before .before .before .before .before .plan-of .result .strategy) (c .before .before .before .before .before .before .before .before .before .before .before .before .before .before .before .found2 .given .0 .0)) (c .before .size-in .ensures .0 ∙ ap sizeIn (c .before .before .word .ensures))
+
 pub call-loop-less : (t : ℕ) → call-lts.Need-loop-less (call-claims t) (call-at t) call.Post call-Inv-loop call-μ-loop
-call-loop-less t c = call-placed t (c .before .before .before .before .before .before) .spent
+call-loop-less t c = call-placed t (c .before .before .before .before .before .before .before .before .before .before) .spent
 
 pub call-loop-again : (t : ℕ) → call-lts.Need-loop-again (call-claims t) (call-at t) call.Post call-Inv-loop call-μ-loop
-call-loop-again t c = let g = c .before .before .before .before .before .before .before .before .before .before .before .before .before .before .before .seek .ensures .grown in (call-placed t (c .before .before .before .before .before .before) .again (c .before .before .if2 .left) (c .if3 .left), still-after (c .before .before .before .before .before .before .before .before .before .before .before .before .before .before .before .before .before .before .before .loop .inv .1) (g .sound) (g .kept))
+call-loop-again t c =
+    let g = c .before .before .before .before .before .before .before .before .before .before .before .before .before .before .before .before .before .before .before .seek .ensures .grown in
+    (rw (call-goes-on t c) (call-placed t (c .before .before .before .before .before .before .before .before .before .before) .again (c .before .before .before .before .before .before .if2 .left) (c .before .before .before .before .if3 .left)), still-after (c .before .before .before .before .before .before .before .before .before .before .before .before .before .before .before .before .before .before .before .before .before .before .before .loop .inv .1) (g .sound) (g .kept))

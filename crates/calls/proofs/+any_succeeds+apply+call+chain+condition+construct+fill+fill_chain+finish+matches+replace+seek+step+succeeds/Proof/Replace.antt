@@ -28,7 +28,7 @@ replace-returns t c =
     let a = c .before .before .before .before .before .before .before .before .before .args in
     let f = c .before .before .before .before .before .finish in
     replaces-stopped (givenOf (a .heads .now) (a .rows .now) (a .types) (a .book .now) (a .starts .now)) (a .w .now) (f .last .1 .1 .1 .1 .1 .0) (a .at) (a .base) (a .n) (a .i) (openOf (a .places .now) (a .frame)) (a .deep) (a .left) (f .result) (c .building .result)
-    (c .before .before .before .before .before .before .before .before .before .pre .1 .4) (f .ensures) (c .before .if1 .taken) (c .building .ensures)
+    (c .before .before .before .before .before .before .before .before .before .pre .1 .2) (c .before .before .before .before .before .before .before .before .before .pre .1 .4) (f .ensures) (c .before .if1 .taken) (c .building .ensures)
 
 pub replace-replace-tree-requires : (t : ℕ) → replace-lts.Need-replace-tree-requires (replace-claims t) (replace-at t) replace.Post
 replace-replace-tree-requires t c κs =
@@ -49,4 +49,4 @@ replace-returns-2 t c =
     let f = c .before .before .before .before .before .before .before .before .before .finish in
     let p = c .before .before .before .replace-tree in
     replaces-put (givenOf (a .heads .now) (a .rows .now) (a .types) (a .book .now) (a .starts .now)) (a .w .now) (f .last .1 .1 .1 .1 .1 .0) (a .at) (a .base) (a .n) (a .i) (openOf (a .places .now) (a .frame)) (a .deep) (a .left) (f .result) (c .building2 .result)
-    (c .before .before .before .before .before .before .before .before .before .before .before .before .before .pre .1 .4) (f .ensures) (p .last .1 .1 .0) (p .result) (c .before .before .before .before .before .before .before .before .before .before .before .before .before .pre .1 .3) (c .before .before .before .before .before .if1 .left) (p .ensures) (c .building2 .ensures)
+    (c .before .before .before .before .before .before .before .before .before .before .before .before .before .pre .1 .2) (c .before .before .before .before .before .before .before .before .before .before .before .before .before .pre .1 .4) (f .ensures) (p .last .1 .1 .0) (p .result) (c .before .before .before .before .before .before .before .before .before .before .before .before .before .pre .1 .3) (c .before .before .before .before .before .if1 .left) (p .ensures) (c .building2 .ensures)
