@@ -11,7 +11,7 @@ use lib.Seq.{drop-drop, getD-take, getD-drop, take-take}
 use lib.Dec.{eqb}
 use borrow.Author.Tests.{eq-eqb, ne-eqb}
 use Rattle.words.specs.Reader.{Words, or, value, many}
-use Rattle.words.proofs.Laws.{many-suc, many-none}
+use Rattle.words.proofs.Laws.{many-suc, many-none, or-true}
 use Rattle.grammar.specs.Grammar.{Grammar}
 use Rattle.grammar.specs.Limits.{mostTypes}
 use Rattle.grammar.specs.Kinds.{children}
@@ -76,12 +76,8 @@ tried-here onePass n (suc i) h = rw (ne-eqb (2 * suc i) 0 (λ e. omega arith))
 begins-here : {rule : Rule} {n start : ℕ} → Begins rule n start → or (eqb (2 * start) 0) (searches (rule .strategy)) ≡ true
 begins-here {rule} {n} {start} x = go (searches (rule .strategy)) (x .root)
   where
-    true-or : (b : Bool) → or b true ≡ true
-    true-or true = refl
-    true-or false = refl
-
     go : (s : Bool) → (s ≡ false → start ≡ 0) → or (eqb (2 * start) 0) s ≡ true
-    go true h = true-or (eqb (2 * start) 0)
+    go true h = or-true (eqb (2 * start) 0)
     go false h = rw (h refl)
 
 -- past the last there is none, or none that is tried

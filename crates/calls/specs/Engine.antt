@@ -345,7 +345,7 @@ module _ (given : Given) (w w′ : Words) where
   Finishes at frame deep left r =
       (u : ℕ) → Fresh frame left r (λ g ws. Standing g w′ (frame .top) (r .nodes) u ws) (λ g rules b. M.finish true g rules (calls true g rules deep) u (pieces (pairsAt (given .book) at)) b)
 
-  -- the scope of n nodes at base after a replacement, or as it was
+  -- the scope of n nodes at base after a replacement, in which i is still a node, or as it was
   pub record Replaces (at base n i : ℕ) (frame : Open) (deep : ℕ) (left : State) (r : Built) : Type 0 where
     pub few : r .stop ≡ 0 → r .nodes ≤ mostNodes
     pub fits : r .stop ≡ 0 → frame .live + r .nodes ≤ mostLive + n

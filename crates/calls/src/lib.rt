@@ -369,8 +369,8 @@ fn step(
     }
 }
 
-// The first node of the scope, n nodes from base on, at which an attempt matches, from the node `from` on. Document 01's nested loops over nodes and parts: left by a label at the first
-// match, yielding its position by `break`.
+// The first node of the scope, n nodes from base on, at which an attempt matches, sought from the node `from` on. Document 01's nested loops over nodes and
+// parts: left by a label at the first match, yielding its position by `break`.
 fn seek(
     heads: &[u32; HEADS],
     rows: &[u8; ROWS],
@@ -1130,7 +1130,7 @@ pub fn call(
                 if !repeats {
                     return calling(0, nodes, fuel, count);
                 }
-                let put = marks::size_in(words::word(w, base + 2 * i));
+                let put = marks::size_at(w, base + 2 * i);
                 from = rules::onward(strategy, i, put);
             }
         }

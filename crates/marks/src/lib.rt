@@ -5,7 +5,7 @@ ghost use mathlib.Core.Path.{_≡_};
 ghost use Prim.Native.Nat.{_+_, _-_, _*_, _%_, _<_, _≤_, _^_, max};
 ghost use Rattle.words.specs.Reader.{pick, and};
 ghost use lib.Dec.{eqb};
-ghost use lib.ListN.{length};
+ghost use lib.ListN.{length, getD};
 ghost use Rattle.marks.specs.Marked.{mark, typeIn, sizeIn, nestingIn};
 ghost use Rattle.marks.specs.Post.{MarkMade, NodeMarked, TreeMarked, AboveMarked, Resized, InPlace, NestingOf, Written, SameTree, HoldsBlank};
 
@@ -21,6 +21,13 @@ pub fn size_in(w: u32) -> usize
     ensures { λ r. ⌜ (r ≡ sizeIn w) × (r < 4096) ⌝ }
 {
     words::wide(w / 64 % 4096)
+}
+
+// How many nodes the tree has whose marked node stands at `at`.
+pub fn size_at(w: &[u32], at: usize) -> usize
+    ensures { λ r. ⌜ (r ≡ sizeIn (getD (now (w .entry)) at 0)) × (r < 4096) ⌝ }
+{
+    size_in(words::word(w, at))
 }
 
 // How deep the tree of a marked node nests.

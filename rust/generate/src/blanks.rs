@@ -122,7 +122,7 @@ fn search(searched: u32, variable: u32, pattern: &[Pair]) -> PartText {
 fn marking(random: &mut Random, pattern: Vec<Pair>, parts: Vec<PartText>) -> RuleText {
     RuleText {
         target: TRANSFER,
-        reach: random.pick(&[1, 2]),
+        reach: random.pick(&[1, 2, 3]),
         pattern,
         parts,
         replacement: Some(vec![(TRANSFER, 1), (VARIABLE, 0)]),
@@ -172,13 +172,13 @@ fn with_a_parameter(random: &mut Random) -> Vec<RuleText> {
         marking(random, both(), vec![test])
     } else {
         let mut rule = marking(random, both(), vec![]);
-        rule.reach = 1;
+        rule.reach = random.pick(&[1, 3]);
         rule.replacement = Some([vec![(TRANSFER, 1)], chain].concat());
         rule
     };
     let same = RuleText {
         target: FIELD,
-        reach: random.pick(&[0, 0, 1]),
+        reach: random.pick(&[0, 0, 1, 3]),
         parameters: vec![FIELD],
         pattern: vec![(VARIABLE, 0)],
         replacement: Some(vec![(FIELD, 6)]),

@@ -67,7 +67,7 @@ pub fn calls_near_limit(seed: u64) -> Input {
     let numbers = random.between(28, 34);
     let head_and_rest = RuleText {
         target: 1,
-        reach: random.pick(&[1, 1, 2]),
+        reach: random.pick(&[1, 1, 2, 3]),
         pattern: vec![(1, 0), (64, 2), (64, 1)],
         ..RuleText::default()
     };
@@ -76,7 +76,7 @@ pub fn calls_near_limit(seed: u64) -> Input {
         0 => {
             let rule = RuleText {
                 replacement: Some(vec![(1, 0), (2, 7), (66, 1), (1, 0), (0, 0)]),
-                reach: 1,
+                reach: random.pick(&[1, 3]),
                 ..head_and_rest
             };
             let tree = list(random, numbers);
@@ -132,7 +132,7 @@ pub fn nodes_near_limit(seed: u64) -> Input {
             replacement.push((65, 0));
             let rule = RuleText {
                 target: 1,
-                reach: random.pick(&[1, 2]),
+                reach: random.pick(&[1, 2, 3]),
                 pattern: vec![(64, 1)],
                 replacement: Some(replacement),
                 ..RuleText::default()
@@ -144,7 +144,7 @@ pub fn nodes_near_limit(seed: u64) -> Input {
         // The whole tree twice.
         1 => {
             let mut rule = whole(&[(0, 2), (65, 0), (65, 0)]);
-            rule.reach = random.pick(&[0, 2]);
+            rule.reach = random.pick(&[0, 2, 3]);
             let numbers = random.pick(&[510, 511, 255, 254, 600]);
             let tree = deep(random, 0, numbers);
             input(DEEP, &[rule], tree, budget)
@@ -167,7 +167,7 @@ pub fn nodes_near_limit(seed: u64) -> Input {
         // A part of the tree that grows in place.
         3 => {
             let main = RuleText {
-                reach: 1,
+                reach: random.pick(&[1, 3]),
                 pattern: vec![(0, 1), (64, 1)],
                 replacement: Some(vec![(0, 2), (0, 1), (65, 0), (0, 1), (1, 1)]),
                 ..RuleText::default()
@@ -201,7 +201,7 @@ pub fn nesting_near_limit(seed: u64) -> Input {
         // Deeper at the root.
         0 => {
             let mut rule = whole(&deeper);
-            rule.reach = random.pick(&[0, 1, 2]);
+            rule.reach = random.pick(&[0, 1, 2, 3]);
             let tree = deep(random, levels, numbers);
             input(DEEP, &[rule], tree, budget)
         }
@@ -220,7 +220,7 @@ pub fn nesting_near_limit(seed: u64) -> Input {
         // One of two trees gets deeper in place, near 2,048 nodes.
         2 | 3 => {
             let rule = RuleText {
-                reach: random.pick(&[1, 2]),
+                reach: random.pick(&[1, 2, 3]),
                 pattern: vec![(0, 0), (64, 0)],
                 replacement: Some([vec![(0, 0)], deeper].concat()),
                 ..RuleText::default()
@@ -415,7 +415,7 @@ pub fn searches(seed: u64) -> Input {
         };
         let rule = RuleText {
             target: 1,
-            reach: random.pick(&[1, 2]),
+            reach: random.pick(&[1, 2, 3]),
             pattern,
             replacement: Some(replacement),
             ..RuleText::default()
@@ -480,7 +480,7 @@ pub fn conditions(seed: u64) -> Input {
         };
         rules.push(RuleText {
             target: 2,
-            reach: random.pick(&[1, 1, 2]),
+            reach: random.pick(&[1, 1, 2, 3]),
             pattern: vec![pattern],
             parts,
             replacement,
@@ -687,7 +687,7 @@ pub fn operations_near_limit(seed: u64) -> Input {
     };
     let rule = RuleText {
         target: 1,
-        reach: random.pick(&[1, 2, 2]),
+        reach: random.pick(&[1, 2, 2, 3]),
         pattern: vec![(1, 0), (64, 2), (1, 0), (64, 2), (64, 1)],
         parts,
         replacement: Some(replacement),
@@ -707,7 +707,7 @@ pub fn rounding(seed: u64) -> Input {
     };
     let rule = RuleText {
         target: 2,
-        reach: 2,
+        reach: random.pick(&[2, 3]),
         pattern: vec![(64, 2)],
         parts: vec![
             construct(2, &[(66, 0), (1, 0), (1_005, 0)]),

@@ -9,6 +9,7 @@ use reference::{run, Outcome};
 use crate::blanks;
 use crate::families;
 use crate::grammars::{any_grammar, damaged_grammar, grammar, long_grammar};
+use crate::one_pass;
 use crate::random::Random;
 use crate::rulebooks::{damaged_rules, rules};
 use crate::sequences;
@@ -78,10 +79,11 @@ pub fn check_input(seed: u64) -> Input {
 /// An input of a family that is rich in chains, with one word of its rules
 /// changed.
 fn damaged_family(random: &mut Random, seed: u64) -> Input {
-    let mut input = match random.below(6) {
+    let mut input = match random.below(7) {
         0 => families::conditions(seed),
         1 => families::calls_near_limit(seed),
         2 | 3 => sequences::sequence_operations(seed),
+        4 => one_pass::one_pass(seed),
         _ => families::operations_near_limit(seed),
     };
     let position = random.below(input.rules.len());
@@ -99,7 +101,7 @@ fn damaged_family(random: &mut Random, seed: u64) -> Input {
 pub fn run_input(seed: u64) -> Input {
     let mut random = Random::new(seed);
     let seed = u64::from(random.word());
-    let input = match random.below(26) {
+    let input = match random.below(28) {
         0 | 1 => families::calls_near_limit(seed),
         2 => families::nodes_near_limit(seed),
         3 | 4 => families::nesting_near_limit(seed),
@@ -112,6 +114,7 @@ pub fn run_input(seed: u64) -> Input {
         11 | 12 => sequences::sequence_operations(seed),
         13 => sequences::sequences_near_limit(seed),
         14 | 15 => blanks::blank_fields(seed),
+        16 | 17 => one_pass::one_pass(seed),
         _ => typed_input(seed),
     };
     if random.chance(50) {
@@ -208,7 +211,7 @@ pub fn with_budget_near_need(seed: u64, mut input: Input) -> Input {
 }
 
 /// Runs an input on the reference with another budget.
-fn run_with(input: &Input, budget: u32) -> Outcome {
+pub(crate) fn run_with(input: &Input, budget: u32) -> Outcome {
     run(
         &input.grammar,
         &input.rules,

@@ -8,6 +8,7 @@ mod grammars;
 mod inputs;
 mod labeled;
 mod lists;
+mod one_pass;
 mod random;
 mod rulebooks;
 mod sequences;
@@ -26,6 +27,7 @@ pub use inputs::{
     with_budget_near_need, with_large_budget,
 };
 pub use lists::{run_list, RunList};
+pub use one_pass::one_pass;
 pub use random::Random;
 pub use reference::bench::Input;
 pub use rulebooks::{damaged_rules, rules};

@@ -222,6 +222,11 @@ pub fn damaged_rules(seed: u64, grammar: &Grammar, tree: &Tree) -> Vec<u32> {
             words.resize(limits::RULES_WORDS + random.below(3), 0);
             return words;
         }
+        12 => {
+            if let Some(words) = with_wrong_reach(&mut random, &rules) {
+                return words;
+            }
+        }
         _ => {}
     }
     // Chains have the most ways to be wrong, so they are often aimed at.
@@ -235,6 +240,14 @@ pub fn damaged_rules(seed: u64, grammar: &Grammar, tree: &Tree) -> Vec<u32> {
     }
     damage_one_word(&mut random, grammar, &mut text, aimed);
     text.words
+}
+
+/// Rules with one reach just outside its limits, if a rule has one.
+fn with_wrong_reach(random: &mut Random, rules: &[RuleText]) -> Option<Vec<u32>> {
+    let mut text = write(rules);
+    let (position, _) = text.position_where(random, |field| field == Field::Reach)?;
+    text.words[position] = random.pick(&[0, 4]);
+    Some(text.words)
 }
 
 fn damage_one_word(
@@ -268,7 +281,7 @@ fn damage_one_word(
             _ => u32::MAX,
         },
         Field::Type => random.pick(&[types, 64, any_type, any_type, u32::MAX]),
-        Field::Reach => random.pick(&[0, 1, 2, 3, u32::MAX]),
+        Field::Reach => random.pick(&[0, 1, 2, 3, 4, u32::MAX]),
         Field::ParameterCount => wrong_count(random, word, limits::PARAMETERS),
         Field::PairCount => wrong_count(random, word, limits::PAIRS),
         Field::PartCount => wrong_count(random, word, limits::PARTS),
@@ -527,7 +540,7 @@ pub fn random_rules(random: &mut Random, shapes: &Shapes, tree: &Tree) -> Vec<Ru
 }
 
 fn random_signature(random: &mut Random, samples: &Samples, main: bool) -> Signature {
-    let reach = random.pick(&[0, 0, 1, 1, 1, 2, 2]);
+    let reach = random.pick(&[0, 0, 1, 1, 1, 2, 2, 3, 3]);
     let target = if main && reach == 0 {
         0
     } else {

@@ -210,7 +210,7 @@ pub fn sequence_operations(seed: u64) -> Input {
     };
     let hundreds = RuleText {
         target: NUMBER,
-        reach: random.pick(&[1, 2]),
+        reach: random.pick(&[1, 2, 3]),
         pattern: vec![(NUMBER, 100)],
         replacement: Some(vec![(NUMBER, 200)]),
         ..RuleText::default()

@@ -4,12 +4,13 @@ use std::collections::BTreeMap;
 
 use generate::{
     calls_near_limit, check_input, counting_down, live_nodes_at_limit, live_nodes_near_limit,
-    nesting_near_limit, nodes_near_limit, operations_near_limit, reference_outcome, rounding,
-    run_input, run_list, sequence_operations, shrink, to_bench, typed_input, Input,
+    nesting_near_limit, nodes_near_limit, one_pass, operations_near_limit, reference_outcome,
+    rounding, run_input, run_list, sequence_operations, shrink, to_bench, typed_input, Input,
 };
 use reference::bench;
 use reference::grammar::Grammar;
 use reference::limits;
+use reference::rules::{read_layout, Reach};
 use reference::tree::Tree;
 use reference::{check_grammar, check_rules, check_tree, Outcome};
 
@@ -163,18 +164,19 @@ fn shrinking_keeps_the_failure_and_makes_it_small() {
             Outcome::Ended { stop: Some(45), .. }
         )
     };
-    let found = (0..INPUTS).map(run_input).find(stops_45);
-    let input = found.expect("some run stops with 45");
-    let small = shrink(input.clone(), stops_45);
-    assert!(stops_45(&small));
     let words = |input: &Input| input.grammar.len() + input.rules.len() + input.tree.len();
-    println!(
-        "{} words shrink to {}: {}",
-        words(&input),
-        words(&small),
-        to_bench(&small)
-    );
-    assert!(words(&small) <= words(&input) && words(&small) < 60);
+    // Some families have a grammar that nothing can be taken out of.
+    let found = (0..INPUTS).map(run_input).filter(stops_45).take(16);
+    let mut sizes = Vec::new();
+    for input in found {
+        let small = shrink(input.clone(), stops_45);
+        assert!(stops_45(&small));
+        assert!(words(&small) <= words(&input));
+        sizes.push((words(&input), words(&small)));
+    }
+    println!("words of inputs, and how many they shrink to: {sizes:?}");
+    let made_small = sizes.iter().filter(|(_, small)| *small < 60).count();
+    assert!(sizes.len() == 16 && made_small >= 8);
 }
 
 #[test]
@@ -353,4 +355,65 @@ fn operations_on_sequences_are_never_refused() {
     }
     println!("of 2000 runs with operations on sequences {done} are done, {stopped} stopped");
     assert!(done >= 1_000);
+}
+
+/// Whether a word of rules is a reach: the only one for which 1 to 3 are allowed
+/// and 0 and 4 are not.
+fn is_reach(input: &Input, position: usize) -> bool {
+    let allowed = |word| {
+        let mut rules = input.rules.clone();
+        rules[position] = word;
+        let refusal = check_rules(&input.grammar, &rules).err();
+        refusal.is_none_or(|refusal| (refusal.number, refusal.position) != (21, position))
+    };
+    (1..=3).all(allowed) && !allowed(0) && !allowed(4)
+}
+
+#[test]
+fn every_reach_passes_and_those_just_outside_are_refused() {
+    let mut passed = [0; 3];
+    let mut refused: BTreeMap<u32, u32> = BTreeMap::new();
+    for seed in 0..INPUTS {
+        let input = check_input(seed);
+        let Ok(grammar) = Grammar::read(&input.grammar) else {
+            continue;
+        };
+        match check_rules(&input.grammar, &input.rules) {
+            Ok(()) => {
+                let rules = read_layout(&grammar, &input.rules).expect("rules that pass");
+                let reaches = [Reach::FirstMatch, Reach::Exhaustive, Reach::OnePass];
+                for (count, reach) in passed.iter_mut().zip(reaches) {
+                    *count += u32::from(rules.iter().any(|rule| rule.reach == reach));
+                }
+            }
+            Err(refusal) if refusal.number == 21 && refusal.position < input.rules.len() => {
+                if is_reach(&input, refusal.position) {
+                    let word = input.rules[refusal.position];
+                    *refused.entry(word).or_default() += 1;
+                }
+            }
+            Err(_) => {}
+        }
+    }
+    println!("rules that pass with reach 1, 2 and 3: {passed:?}; reaches refused: {refused:?}");
+    assert!(passed.iter().all(|&count| count >= 1_000));
+    for word in [0, 4, u32::MAX] {
+        let count = refused.get(&word).copied().unwrap_or(0);
+        let least = if word == u32::MAX { LEAST / 10 } else { LEAST };
+        assert!(count >= least, "reach {word} is refused {count} times");
+    }
+}
+
+#[test]
+fn one_pass_runs_are_never_refused() {
+    let (mut done, mut stopped) = (0, 0);
+    for seed in 0..2_000 {
+        match reference_outcome(&one_pass(seed)) {
+            Outcome::Ended { stop: None, .. } => done += 1,
+            Outcome::Ended { .. } => stopped += 1,
+            Outcome::Refused(refusal) => panic!("{seed}: {refusal:?}"),
+        }
+    }
+    println!("of 2000 one-pass runs {done} are done, {stopped} stopped");
+    assert!(done >= 1_000 && stopped >= 500);
 }

@@ -79,6 +79,24 @@ fn reach_one_no_numbers_and_a_rule_without_end() {
 }
 
 #[test]
+fn reach_three_tries_each_number_once() {
+    let mut rules = RULES;
+    rules[3] = 3;
+    for budget in [2, 3] {
+        let once = run_dirty(&GRAMMAR, &rules, &TREE, budget);
+        assert_eq!(once, ended(None, 2, 1, &REWRITTEN));
+    }
+    let short = run_dirty(&GRAMMAR, &rules, &TREE, 1);
+    assert_eq!(short, ended(Some(Stop::BudgetSpent), 1, 1, &REWRITTEN));
+    // Without end under reach 2.
+    rules[9] = 200;
+    let same = run_dirty(&GRAMMAR, &rules, &TREE, 7);
+    assert_eq!(same, ended(None, 2, 1, &TREE));
+    rules[3] = 4;
+    assert_eq!(run_dirty(&GRAMMAR, &rules, &TREE, 7), refused(21, 3));
+}
+
+#[test]
 fn grammar_rules_and_tree_are_refused_in_a_run() {
     let mut rules = RULES;
     rules[8..].copy_from_slice(&[1, 1]);

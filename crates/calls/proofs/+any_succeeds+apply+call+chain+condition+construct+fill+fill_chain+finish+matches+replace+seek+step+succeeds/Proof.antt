@@ -47,7 +47,7 @@ use Rattle.calls.proofs.+any_succeeds+apply+call+chain+condition+constr
 use Rattle.calls.proofs.+any_succeeds+apply+call+chain+condition+construct+fill+fill_chain+finish+matches+replace+seek+step+succeeds.Proof.Common.{μ-any-succeeds, μ-apply, μ-call, μ-chain, μ-condition, μ-construct, μ-fill, μ-fill-chain, μ-finish, μ-matches, μ-replace, μ-seek, μ-step, μ-succeeds, any-succeeds-at, apply-at, call-at, chain-at, condition-at, construct-at, fill-at, fill-chain-at, finish-at, matches-at, replace-at, seek-at, step-at, succeeds-at}
 use Rattle.calls.proofs.+any_succeeds+apply+call+chain+condition+construct+fill+fill_chain+finish+matches+replace+seek+step+succeeds.Proof.AnySucceeds.{any-succeeds-claims, any-succeeds-Inv-loop, any-succeeds-μ-loop, any-succeeds-chain-count-requires, any-succeeds-loop-holds, any-succeeds-succeeds-requires, any-succeeds-enum-told, any-succeeds-same-length, any-succeeds-returns, any-succeeds-enum-told-2, any-succeeds-same-length-2, any-succeeds-returns-2, any-succeeds-enum-told-3, any-succeeds-add-at, any-succeeds-add-word, any-succeeds-word-requires, any-succeeds-wide-requires, any-succeeds-mul-at, any-succeeds-add-at-2, any-succeeds-sub-k, any-succeeds-loop-less, any-succeeds-loop-again, any-succeeds-same-length-3, any-succeeds-returns-3}
 use Rattle.calls.proofs.+any_succeeds+apply+call+chain+condition+construct+fill+fill_chain+finish+matches+replace+seek+step+succeeds.Proof.Apply.{apply-claims, apply-word-requires, apply-building-requires, apply-returns, apply-add-word, apply-word-requires-2, apply-add-gather, apply-gather-requires, apply-rule-at-requires, apply-add-live, apply-sub-call, apply-call-requires, apply-building-requires-2, apply-same-length, apply-returns-2, apply-add-value-of, apply-value-of-requires, apply-compute-at-requires, apply-building-requires-3, apply-same-length-2, apply-returns-3, apply-edit-at-requires, apply-building-requires-4, apply-same-length-3, apply-returns-4}
-use Rattle.calls.proofs.+any_succeeds+apply+call+chain+condition+construct+fill+fill_chain+finish+matches+replace+seek+step+succeeds.Proof.Call.{call-claims, call-Inv-loop, call-μ-loop, call-plan-of-requires, call-again-requires, call-loop-holds, call-add-live, call-calling-requires, call-same-length, call-returns, call-mul-t32, call-add-t33, call-seek-requires, call-enum-told, call-calling-requires-2, call-same-length-2, call-returns-2, call-enum-known-found, call-calling-requires-3, call-same-length-3, call-returns-3, call-enum-known-found-2, call-replace-requires, call-calling-requires-4, call-same-length-4, call-returns-4, call-add-count, call-calling-requires-5, call-same-length-5, call-returns-5, call-mul-word, call-add-word, call-word-requires, call-size-in-requires, call-onward-requires, call-loop-less, call-loop-again}
+use Rattle.calls.proofs.+any_succeeds+apply+call+chain+condition+construct+fill+fill_chain+finish+matches+replace+seek+step+succeeds.Proof.Call.{call-claims, call-Inv-loop, call-μ-loop, call-plan-of-requires, call-again-requires, call-loop-holds, call-add-live, call-calling-requires, call-same-length, call-returns, call-mul-t32, call-add-t33, call-seek-requires, call-enum-told, call-calling-requires-2, call-same-length-2, call-returns-2, call-enum-known-found, call-calling-requires-3, call-same-length-3, call-returns-3, call-enum-known-found-2, call-replace-requires, call-calling-requires-4, call-same-length-4, call-returns-4, call-add-count, call-calling-requires-5, call-same-length-5, call-returns-5, call-mul-size-at, call-add-size-at, call-size-at-requires, call-onward-requires, call-loop-less, call-loop-again}
 use Rattle.calls.proofs.+any_succeeds+apply+call+chain+condition+construct+fill+fill_chain+finish+matches+replace+seek+step+succeeds.Proof.Chain.{chain-claims, chain-Inv-loop, chain-μ-loop, chain-chain-count-requires, chain-add-at, chain-loop-holds, chain-apply-requires, chain-same-length, chain-returns, chain-add-at-2, chain-add-word, chain-word-requires, chain-wide-requires, chain-mul-at, chain-add-at-3, chain-sub-k, chain-loop-less, chain-loop-again, chain-building-requires, chain-same-length-2, chain-returns-2}
 use Rattle.calls.proofs.+any_succeeds+apply+call+chain+condition+construct+fill+fill_chain+finish+matches+replace+seek+step+succeeds.Proof.Condition.{condition-claims, condition-pairs-of-requires, condition-word-requires, condition-start-in-requires, condition-nodes-at-requires, condition-add-if1, condition-taking-requires, condition-same-length, condition-returns, condition-any-succeeds-requires, condition-turned-requires, condition-taking-requires-2, condition-same-length-2, condition-returns-2}
 use Rattle.calls.proofs.+any_succeeds+apply+call+chain+condition+construct+fill+fill_chain+finish+matches+replace+seek+step+succeeds.Proof.Construct.{construct-claims, construct-finish-requires, construct-taking-requires, construct-same-length, construct-returns, construct-bind-requires, construct-constructed-requires, construct-taking-requires-2, construct-same-length-2, construct-returns-2}
@@ -79,7 +79,7 @@ pub +any-succeeds+apply+call+chain+condition+construct+fill+fill-chain+finish+ma
     μ-succeeds
     (λ t. any-succeeds-lts.spec (any-succeeds-claims t) (any-succeeds-at t) any-succeeds.Post any-succeeds-Inv-loop any-succeeds-μ-loop (any-succeeds-chain-count-requires t) (any-succeeds-loop-holds t) (any-succeeds-succeeds-requires t) (any-succeeds-enum-told t) (any-succeeds-same-length t) (any-succeeds-returns t) (any-succeeds-enum-told-2 t) (any-succeeds-same-length-2 t) (any-succeeds-returns-2 t) (any-succeeds-enum-told-3 t) (any-succeeds-add-at t) (any-succeeds-add-word t) (any-succeeds-word-requires t) (any-succeeds-wide-requires t) (any-succeeds-mul-at t) (any-succeeds-add-at-2 t) (any-succeeds-sub-k t) (any-succeeds-loop-less t) (any-succeeds-loop-again t) (any-succeeds-same-length-3 t) (any-succeeds-returns-3 t))
     (λ t. apply-lts.spec (apply-claims t) (apply-at t) apply.Post (apply-word-requires t) (apply-building-requires t) (apply-returns t) (apply-add-word t) (apply-word-requires-2 t) (apply-add-gather t) (apply-gather-requires t) (apply-rule-at-requires t) (apply-add-live t) (apply-sub-call t) (apply-call-requires t) (apply-building-requires-2 t) (apply-same-length t) (apply-returns-2 t) (apply-add-value-of t) (apply-value-of-requires t) (apply-compute-at-requires t) (apply-building-requires-3 t) (apply-same-length-2 t) (apply-returns-3 t) (apply-edit-at-requires t) (apply-building-requires-4 t) (apply-same-length-3 t) (apply-returns-4 t))
-    (λ t. call-lts.spec (call-claims t) (call-at t) call.Post call-Inv-loop call-μ-loop (call-plan-of-requires t) (call-again-requires t) (call-loop-holds t) (call-add-live t) (call-calling-requires t) (call-same-length t) (call-returns t) (call-mul-t32 t) (call-add-t33 t) (call-seek-requires t) (call-enum-told t) (call-calling-requires-2 t) (call-same-length-2 t) (call-returns-2 t) (call-enum-known-found t) (call-calling-requires-3 t) (call-same-length-3 t) (call-returns-3 t) (call-enum-known-found-2 t) (call-replace-requires t) (call-calling-requires-4 t) (call-same-length-4 t) (call-returns-4 t) (call-add-count t) (call-calling-requires-5 t) (call-same-length-5 t) (call-returns-5 t) (call-mul-word t) (call-add-word t) (call-word-requires t) (call-size-in-requires t) (call-onward-requires t) (call-loop-less t) (call-loop-again t))
+    (λ t. call-lts.spec (call-claims t) (call-at t) call.Post call-Inv-loop call-μ-loop (call-plan-of-requires t) (call-again-requires t) (call-loop-holds t) (call-add-live t) (call-calling-requires t) (call-same-length t) (call-returns t) (call-mul-t32 t) (call-add-t33 t) (call-seek-requires t) (call-enum-told t) (call-calling-requires-2 t) (call-same-length-2 t) (call-returns-2 t) (call-enum-known-found t) (call-calling-requires-3 t) (call-same-length-3 t) (call-returns-3 t) (call-enum-known-found-2 t) (call-replace-requires t) (call-calling-requires-4 t) (call-same-length-4 t) (call-returns-4 t) (call-add-count t) (call-calling-requires-5 t) (call-same-length-5 t) (call-returns-5 t) (call-mul-size-at t) (call-add-size-at t) (call-size-at-requires t) (call-onward-requires t) (call-loop-less t) (call-loop-again t))
     (λ t. chain-lts.spec (chain-claims t) (chain-at t) chain.Post chain-Inv-loop chain-μ-loop (chain-chain-count-requires t) (chain-add-at t) (chain-loop-holds t) (chain-apply-requires t) (chain-same-length t) (chain-returns t) (chain-add-at-2 t) (chain-add-word t) (chain-word-requires t) (chain-wide-requires t) (chain-mul-at t) (chain-add-at-3 t) (chain-sub-k t) (chain-loop-less t) (chain-loop-again t) (chain-building-requires t) (chain-same-length-2 t) (chain-returns-2 t))
     (λ t. condition-lts.spec (condition-claims t) (condition-at t) condition.Post (condition-pairs-of-requires t) (condition-word-requires t) (condition-start-in-requires t) (condition-nodes-at-requires t) (condition-add-if1 t) (condition-taking-requires t) (condition-same-length t) (condition-returns t) (condition-any-succeeds-requires t) (condition-turned-requires t) (condition-taking-requires-2 t) (condition-same-length-2 t) (condition-returns-2 t))
     (λ t. construct-lts.spec (construct-claims t) (construct-at t) construct.Post (construct-finish-requires t) (construct-taking-requires t) (construct-same-length t) (construct-returns t) (construct-bind-requires t) (construct-constructed-requires t) (construct-taking-requires-2 t) (construct-same-length-2 t) (construct-returns-2 t))

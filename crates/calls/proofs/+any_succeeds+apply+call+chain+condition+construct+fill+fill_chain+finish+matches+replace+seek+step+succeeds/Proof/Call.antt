@@ -20,12 +20,11 @@ use Rattle.rules.proofs.again.Reads as again-reads
 use Rattle.calls.proofs.calling.Reads as calling-reads
 use Rattle.rules.proofs.plan_of.Reads as plan-of-reads
 use Rattle.rules.proofs.onward.Reads as onward-reads
-use Rattle.words.proofs.word.Reads as word-reads
-use Rattle.marks.proofs.size_in.Reads as size-in-reads
+use Rattle.marks.proofs.size_at.Reads as size-at-reads
 use Rattle.calls.proofs.+any_succeeds+apply+call+chain+condition+construct+fill+fill_chain+finish+matches+replace+seek+step+succeeds.Proof.Common.{call-at, replace-below, seek-below}
 
 abbrev pub call-claims : ℕ → call-lts.Claims
-call-claims t = (plan-of-reads.Asked, plan-of-reads.Learnt, again-reads.Asked, again-reads.Learnt, calling-reads.Asked, calling-reads.Learnt, seek-below t, seek.Post, replace-below t, replace.Post, word-reads.Asked, word-reads.Learnt, size-in-reads.Asked, size-in-reads.Learnt, onward-reads.Asked, onward-reads.Learnt)
+call-claims t = (plan-of-reads.Asked, plan-of-reads.Learnt, again-reads.Asked, again-reads.Learnt, calling-reads.Asked, calling-reads.Learnt, seek-below t, seek.Post, replace-below t, replace.Post, size-at-reads.Asked, size-at-reads.Learnt, onward-reads.Asked, onward-reads.Learnt)
 
 abbrev pub call-Inv-loop : call-lts.InvT-loop
 call-Inv-loop heads rows types book starts w₀ at base n places₀ bound besides deep plan strategy repeats nodes₀ fuel₀ count₀ from₀ w places nodes fuel count from =
@@ -150,30 +149,27 @@ call-same-length-5 t c = call-placed t (c .before .before .before .before .befor
 pub call-returns-5 : (t : ℕ) → call-lts.Need-returns-5 (call-claims t) (call-at t) call.Post call-Inv-loop call-μ-loop
 call-returns-5 t c = call-placed t (c .before .before .before .before .before .before .before) .last (c .calling5 .result) (c .before .before .before .if2 .left) (c .before .if3 .taken) (c .calling5 .ensures)
 
-pub call-mul-word : (t : ℕ) → call-lts.Need-mul-word (call-claims t) (call-at t) call.Post call-Inv-loop call-μ-loop
-call-mul-word t c = omega (arith, call-searched t (c .before .before .before .before .before .before .before .before .before .before .before .before .before .before .before .before) .place (c .before .before .before .before .before .before .before .before .before .before .before .before .found2 .given .0 .0) (c .before .before .before .before .before .before .before .before .before .before .before .before .found2 .given .1) .0, c .before .before .before .before .before .before .before .before .before .before .before .before .before .before .before .before .before .before .before .before .loop .inv .0 .few, c .before .before .before .before .before .before .before .before .before .before .before .before .before .before .before .before .before .before .before .before .before .before .before .before .before .pre .1 .3)
+pub call-mul-size-at : (t : ℕ) → call-lts.Need-mul-size-at (call-claims t) (call-at t) call.Post call-Inv-loop call-μ-loop
+call-mul-size-at t c = omega (arith, call-searched t (c .before .before .before .before .before .before .before .before .before .before .before .before .before .before .before .before) .place (c .before .before .before .before .before .before .before .before .before .before .before .before .found2 .given .0 .0) (c .before .before .before .before .before .before .before .before .before .before .before .before .found2 .given .1) .0, c .before .before .before .before .before .before .before .before .before .before .before .before .before .before .before .before .before .before .before .before .loop .inv .0 .few)
 
-pub call-add-word : (t : ℕ) → call-lts.Need-add-word (call-claims t) (call-at t) call.Post call-Inv-loop call-μ-loop
-call-add-word t c = omega (arith, call-searched t (c .before .before .before .before .before .before .before .before .before .before .before .before .before .before .before .before) .place (c .before .before .before .before .before .before .before .before .before .before .before .before .found2 .given .0 .0) (c .before .before .before .before .before .before .before .before .before .before .before .before .found2 .given .1) .0, c .before .before .before .before .before .before .before .before .before .before .before .before .before .before .before .before .before .before .before .before .loop .inv .0 .few, c .before .before .before .before .before .before .before .before .before .before .before .before .before .before .before .before .before .before .before .before .before .before .before .before .before .pre .1 .3)
+pub call-add-size-at : (t : ℕ) → call-lts.Need-add-size-at (call-claims t) (call-at t) call.Post call-Inv-loop call-μ-loop
+call-add-size-at t c = omega (arith, call-searched t (c .before .before .before .before .before .before .before .before .before .before .before .before .before .before .before .before) .place (c .before .before .before .before .before .before .before .before .before .before .before .before .found2 .given .0 .0) (c .before .before .before .before .before .before .before .before .before .before .before .before .found2 .given .1) .0, c .before .before .before .before .before .before .before .before .before .before .before .before .before .before .before .before .before .before .before .before .loop .inv .0 .few, c .before .before .before .before .before .before .before .before .before .before .before .before .before .before .before .before .before .before .before .before .before .before .before .before .before .pre .1 .3)
 
-pub call-word-requires : (t : ℕ) → call-lts.Need-word-requires (call-claims t) (call-at t) call.Post call-Inv-loop call-μ-loop
-call-word-requires t c κs = search needs
-
-pub call-size-in-requires : (t : ℕ) → call-lts.Need-size-in-requires (call-claims t) (call-at t) call.Post call-Inv-loop call-μ-loop
-call-size-in-requires t c κs = search needs
+pub call-size-at-requires : (t : ℕ) → call-lts.Need-size-at-requires (call-claims t) (call-at t) call.Post call-Inv-loop call-μ-loop
+call-size-at-requires t c κs = search needs
 
 pub call-onward-requires : (t : ℕ) → call-lts.Need-onward-requires (call-claims t) (call-at t) call.Post call-Inv-loop call-μ-loop
-call-onward-requires t c κs = (omega (arith, call-searched t (c .before .before .before .before .before .before .before .before .before .before .before .before .before .before .before .before .before .before) .place (c .before .before .before .before .before .before .before .before .before .before .before .before .before .before .found2 .given .0 .0) (c .before .before .before .before .before .before .before .before .before .before .before .before .before .before .found2 .given .1) .0, c .before .before .before .before .before .before .before .before .before .before .before .before .before .before .before .before .before .before .before .before .before .before .loop .inv .0 .few), c .size-in .ensures .1)
+call-onward-requires t c κs = (omega (arith, call-searched t (c .before .before .before .before .before .before .before .before .before .before .before .before .before .before .before .before .before) .place (c .before .before .before .before .before .before .before .before .before .before .before .before .before .found2 .given .0 .0) (c .before .before .before .before .before .before .before .before .before .before .before .before .before .found2 .given .1) .0, c .before .before .before .before .before .before .before .before .before .before .before .before .before .before .before .before .before .before .before .before .before .loop .inv .0 .few), c .size-at .ensures .1)
 
 -- where the search goes on
 call-goes-on : (t : ℕ) (c : call-lts.After-onward (call-claims t) (call-at t) call.Post call-Inv-loop call-μ-loop)
-    → c .onward .result ≡ onwardOf (c .before .before .before .before .before .before .before .before .before .before .before .before .before .before .before .before .before .before .before .before .before .before .before .before .before .plan-of .result .strategy) (c .before .before .before .before .before .before .before .before .before .before .before .before .before .before .before .found2 .given .0 .0) (sizeIn (getD (c .before .before .before .before .before .before .before .before .before .before .replace .last .1 .1 .1 .1 .1 .0) (c .before .before .before .before .before .before .before .before .before .before .before .before .before .before .before .before .before .before .before .before .before .before .before .before .before .before .before .before .args .base + 2 * c .before .before .before .before .before .before .before .before .before .before .before .before .before .before .before .found2 .given .0 .0) 0))
-call-goes-on t c = c .onward .ensures ∙ ap (onwardOf (c .before .before .before .before .before .before .before .before .before .before .before .before .before .before .before .before .before .before .before .before .before .before .before .before .before .plan-of .result .strategy) (c .before .before .before .before .before .before .before .before .before .before .before .before .before .before .before .found2 .given .0 .0)) (c .before .size-in .ensures .0 ∙ ap sizeIn (c .before .before .word .ensures))
+    → c .onward .result ≡ onwardOf (c .before .before .before .before .before .before .before .before .before .before .before .before .before .before .before .before .before .before .before .before .before .before .before .before .plan-of .result .strategy) (c .before .before .before .before .before .before .before .before .before .before .before .before .before .before .found2 .given .0 .0) (sizeIn (getD (c .before .before .before .before .before .before .before .before .before .replace .last .1 .1 .1 .1 .1 .0) (c .before .before .before .before .before .before .before .before .before .before .before .before .before .before .before .before .before .before .before .before .before .before .before .before .before .before .before .args .base + 2 * c .before .before .before .before .before .before .before .before .before .before .before .before .before .before .found2 .given .0 .0) 0))
+call-goes-on t c = c .onward .ensures ∙ ap (onwardOf (c .before .before .before .before .before .before .before .before .before .before .before .before .before .before .before .before .before .before .before .before .before .before .before .before .plan-of .result .strategy) (c .before .before .before .before .before .before .before .before .before .before .before .before .before .before .found2 .given .0 .0)) (c .before .size-at .ensures .0)
 
 pub call-loop-less : (t : ℕ) → call-lts.Need-loop-less (call-claims t) (call-at t) call.Post call-Inv-loop call-μ-loop
-call-loop-less t c = call-placed t (c .before .before .before .before .before .before .before .before .before .before) .spent
+call-loop-less t c = call-placed t (c .before .before .before .before .before .before .before .before .before) .spent
 
 pub call-loop-again : (t : ℕ) → call-lts.Need-loop-again (call-claims t) (call-at t) call.Post call-Inv-loop call-μ-loop
 call-loop-again t c =
-    let g = c .before .before .before .before .before .before .before .before .before .before .before .before .before .before .before .before .before .before .before .seek .ensures .grown in
-    (rw (call-goes-on t c) (call-placed t (c .before .before .before .before .before .before .before .before .before .before) .again (c .before .before .before .before .before .before .if2 .left) (c .before .before .before .before .if3 .left)), still-after (c .before .before .before .before .before .before .before .before .before .before .before .before .before .before .before .before .before .before .before .before .before .before .before .loop .inv .1) (g .sound) (g .kept))
+    let g = c .before .before .before .before .before .before .before .before .before .before .before .before .before .before .before .before .before .before .seek .ensures .grown in
+    (rw (call-goes-on t c) (call-placed t (c .before .before .before .before .before .before .before .before .before) .again (c .before .before .before .before .before .if2 .left) (c .before .before .before .if3 .left)), still-after (c .before .before .before .before .before .before .before .before .before .before .before .before .before .before .before .before .before .before .before .before .before .before .loop .inv .1) (g .sound) (g .kept))
