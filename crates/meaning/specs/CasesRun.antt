@@ -445,6 +445,9 @@ table =
     -- "a matched tree is replaced", at once: a stop in the second replacement keeps the first; 45, and 42 over the scope as it then is
     ∷ case 9 numbers (1 ∷ 9 ∷ 2 ∷ 3 ∷ 1 ∷ 64 ∷ 2 ∷ 4 ∷ 66 ∷ 0 ∷ 1 ∷ 0 ∷ 1002 ∷ 1 ∷ 65 ∷ 0 ∷ []) (list (3 ∷ 0 ∷ 5 ∷ [])) (ended (stopped 45) 2 1 (list (100 ∷ 0 ∷ 5 ∷ [])))
     ∷ case 999 prefixes (prefixing 3) (slip (replicate 681 (1 ∷ []))) (ended (stopped 42) 2 1 (slip ((9 ∷ 1 ∷ []) ∷ replicate 680 (1 ∷ []))))
+    -- .. and 43: a field with 59 prefixes takes one more, one with 60 does not
+    ∷ case 9 prefixes (prefixing 3) (slip ((1 ∷ []) ∷ replicate 60 5 ∷ [])) (ended done 2 2 (slip ((9 ∷ 1 ∷ []) ∷ (9 ∷ replicate 60 5) ∷ [])))
+    ∷ case 9 prefixes (prefixing 3) (slip ((1 ∷ []) ∷ replicate 61 5 ∷ [])) (ended (stopped 43) 2 1 (slip ((9 ∷ 1 ∷ []) ∷ replicate 61 5 ∷ [])))
     -- "Conditions may have it too and then act as reach 1": a condition, and a rule with a replacement that acts as one
     ∷ case 9 numbers (2 ∷ 12 ∷ 0 ∷ 1 ∷ 64 ∷ 0 ∷ 1 ∷ 8 ∷ 3 ∷ 66 ∷ 0 ∷ 1 ∷ 0 ∷ 1 ∷ 0 ∷ 2 ∷ 0 ∷ 0 ∷ 1 ∷ 1 ∷ 1 ∷ 2 ∷ 3 ∷ 1 ∷ 2 ∷ 5 ∷ []) (list (4 ∷ 5 ∷ 5 ∷ [])) (ended done 3 1 (list []))
     ∷ case 9 numbers (2 ∷ 12 ∷ 0 ∷ 1 ∷ 64 ∷ 0 ∷ 1 ∷ 8 ∷ 3 ∷ 66 ∷ 0 ∷ 1 ∷ 0 ∷ 1 ∷ 0 ∷ 2 ∷ 0 ∷ 0 ∷ 1 ∷ 1 ∷ 9 ∷ 2 ∷ 3 ∷ 1 ∷ 2 ∷ 5 ∷ 1 ∷ 2 ∷ 5 ∷ []) (list (4 ∷ 5 ∷ 5 ∷ [])) (ended done 3 1 (list []))
