@@ -92,10 +92,10 @@ parts-answer ns g r t e before after o out out′ n ran long put =
 pub parts-none : (ns : Words) (p : Parts) → Parted ns p → p ≡ Parts.Unread → input ns ≡ none
 parts-none ns p x e = sym (rw e at (x .same))
 
-pub parts-some : (ns : Words) (p : Parts) (l : Lengths) → Parted ns p → p ≡ Parts.Read l → input ns ≡ some (partsAt ns (l .grammar) (l .rules) (l .tree))
+pub parts-some : (ns : Words) (p : Parts) (l : Lengths) → Parted ns p → p ≡ Parts.Read l → input ns ≡ some (partsAt ns (l .grammar) (l .rules) (l .slip))
 parts-some ns p l x e = sym (rw e at (x .same))
 
-pub parts-fit : (ns : Words) (p : Parts) (l : Lengths) → Parted ns p → p ≡ Parts.Read l → 4 + l .grammar + l .rules + l .tree ≡ length ns
+pub parts-fit : (ns : Words) (p : Parts) (l : Lengths) → Parted ns p → p ≡ Parts.Read l → 4 + l .grammar + l .rules + l .slip ≡ length ns
 parts-fit ns p l x e = rw e at (x .fit)
 
 -- THE NUMBERS OF A TEXT
@@ -113,7 +113,7 @@ within-input p v ns e = rw e
 pub whole-part : {t : Bytes} (r : ℕ) (out : Bytes) → Whole t r out → r ≡ length (take r out)
 whole-part r out x = sym (length-take-le r out (x .fits))
 
-pub answers-whole : (x : Option Inputs) (before after : Memories) (out out′ : Bytes) (r : ℕ) → length (before .result) ≡ leastResult → length (before .work) ≡ leastWork → length out ≡ 86200
+pub answers-whole : (x : Option Inputs) (before after : Memories) (out out′ : Bytes) (r : ℕ) → length (before .result) ≡ leastResult → length (before .work) ≡ leastWork → length out ≡ 129200
     → Answers x before out r after out′ → Whole (answerTo leastResult leastWork x) r out′
 answers-whole x before after out out′ r a b n y =
     let h : 21 * length (before .result) + 100 ≤ length out = omega (arith, a, n) in

@@ -18,14 +18,14 @@ use decimal::numbers::Reading;
 use tamarind::Outcome;
 
 // A budget, three lengths, and one word past each limit.
-const NUMBERS: usize = 24583;
+const NUMBERS: usize = 26631;
 
-const RESULT: usize = 4096;
+const RESULT: usize = 6144;
 
 const WORK: usize = 16384;
 
 // Room for the longest answer: a full result, each word with at most 20 digits and a blank, and the line before it.
-const OUT: usize = 86200;
+const OUT: usize = 129200;
 
 // What is printed of an outcome.
 fn print_outcome(outcome: Outcome, result: &[u32], out: &mut [u8]) -> usize
@@ -66,17 +66,17 @@ fn run_parts(
     work: &mut [u32],
     out: &mut [u8],
 ) -> usize
-    requires { ⌜ 4 + lengths .grammar + lengths .rules + lengths .tree ≡ length (now numbers) ⌝ }
-    ensures { λ r. ⌜ Answers (some (partsAt (now (numbers .entry)) (lengths .grammar) (lengths .rules) (lengths .tree))) (memories (now (result .entry)) (now (work .entry))) (now (out .entry)) r (memories (now (result .exit)) (now (work .exit))) (now (out .exit)) ⌝ }
+    requires { ⌜ 4 + lengths .grammar + lengths .rules + lengths .slip ≡ length (now numbers) ⌝ }
+    ensures { λ r. ⌜ Answers (some (partsAt (now (numbers .entry)) (lengths .grammar) (lengths .rules) (lengths .slip))) (memories (now (result .entry)) (now (work .entry))) (now (out .entry)) r (memories (now (result .exit)) (now (work .exit))) (now (out .exit)) ⌝ }
 {
     let grammar_end = 2 + lengths.grammar;
     let rules_start = grammar_end + 1;
     let rules_end = rules_start + lengths.rules;
-    let tree_start = rules_end + 1;
+    let slip_start = rules_end + 1;
     let outcome = tamarind::run(
         &numbers[2..grammar_end],
         &numbers[rules_start..rules_end],
-        &numbers[tree_start..],
+        &numbers[slip_start..],
         numbers[0],
         result,
         work,

@@ -13,7 +13,7 @@ use borrow.Author.Tests.{lt-ltb, le-ltb, le-leb, lt-leb, ltb-true, ltb-false, le
 use Rattle.words.specs.Reader.{Words, pick, and}
 use Rattle.words.proofs.Laws.{and-both}
 use Rattle.meaning.specs.Outcome.{Inputs}
-use Rattle.decimal.specs.Input.{counted, whole, input, lengthAt, partsAt, mostGrammar, mostRules, mostTree, Parted}
+use Rattle.decimal.specs.Input.{counted, whole, input, lengthAt, partsAt, mostGrammar, mostRules, mostSlip, Parted}
 use Rattle.decimal.specs.declared.input.Parts.{Parts}
 use Rattle.decimal.specs.declared.input.Parts.the-variants as Parts
 use Rattle.decimal.specs.declared.input.Found.{Found}
@@ -89,18 +89,18 @@ module _ (most : ℕ) (ns : Words) (at : ℕ) where
 
 -- THE PARTS
 
-after-budget : (ns : Words) → input ns ≡ counted mostGrammar (drop 1 ns) (λ grammar more. counted mostRules more (λ rules more. counted mostTree more (λ tree. whole (record { budget = getD ns 0 0; grammar = grammar; rules = rules; tree = tree }))))
+after-budget : (ns : Words) → input ns ≡ counted mostGrammar (drop 1 ns) (λ grammar more. counted mostRules more (λ rules more. counted mostSlip more (λ slip. whole (record { budget = getD ns 0 0; grammar = grammar; rules = rules; slip = slip }))))
 unfolding input counted
 after-budget [] = refl
 after-budget (n ∷ ns) = refl
 
 module _ (ns : Words) where
   -- what is made of each part
-  abbrev withTree : Words → Words → Words → Words → Option Inputs
-  withTree grammar rules tree = whole (record { budget = getD ns 0 0; grammar = grammar; rules = rules; tree = tree })
+  abbrev withSlip : Words → Words → Words → Words → Option Inputs
+  withSlip grammar rules slip = whole (record { budget = getD ns 0 0; grammar = grammar; rules = rules; slip = slip })
 
   abbrev withRules : Words → Words → Words → Option Inputs
-  withRules grammar rules more = counted mostTree more (withTree grammar rules)
+  withRules grammar rules more = counted mostSlip more (withSlip grammar rules)
 
   abbrev withGrammar : Words → Words → Option Inputs
   withGrammar grammar more = counted mostRules more (withRules grammar)
@@ -119,24 +119,24 @@ module _ (ns : Words) where
     no-rules b d e = record { same = sym (from-rules ∙ counted-none mostRules ns (2 + g) (withRules (take g (drop 2 ns))) b d e); fit = tt }
 
     module _ (r : ℕ) (y : Counted mostRules ns (2 + g) r) where
-      from-tree : input ns ≡ counted mostTree (drop (3 + g + r) ns) (withTree (take g (drop 2 ns)) (take r (drop (3 + g) ns)))
-      from-tree =
+      from-slip : input ns ≡ counted mostSlip (drop (3 + g + r) ns) (withSlip (take g (drop 2 ns)) (take r (drop (3 + g) ns)))
+      from-slip =
           let i : 2 + g + 1 ≡ 3 + g = omega arith in
           from-rules ∙ rw i at (counted-found mostRules ns (2 + g) (withRules (take g (drop 2 ns))) y)
 
-      pub no-tree : (q : Found) → q ≡ lengthAt mostTree ns (3 + g + r) → q ≡ Nothing → Parted ns Parts.Unread
-      no-tree q d e = record { same = sym (from-tree ∙ counted-none mostTree ns (3 + g + r) (withTree (take g (drop 2 ns)) (take r (drop (3 + g) ns))) q d e); fit = tt }
+      pub no-slip : (q : Found) → q ≡ lengthAt mostSlip ns (3 + g + r) → q ≡ Nothing → Parted ns Parts.Unread
+      no-slip q d e = record { same = sym (from-slip ∙ counted-none mostSlip ns (3 + g + r) (withSlip (take g (drop 2 ns)) (take r (drop (3 + g) ns))) q d e); fit = tt }
 
-      module _ (t : ℕ) (z : Counted mostTree ns (3 + g + r) t) where
+      module _ (t : ℕ) (z : Counted mostSlip ns (3 + g + r) t) where
         from-end : input ns ≡ whole (partsAt ns g r t) (drop (4 + g + r + t) ns)
         from-end =
             let i : 3 + g + r + 1 ≡ 4 + g + r = omega arith in
-            from-tree ∙ rw i at (counted-found mostTree ns (3 + g + r) (withTree (take g (drop 2 ns)) (take r (drop (3 + g) ns))) z)
+            from-slip ∙ rw i at (counted-found mostSlip ns (3 + g + r) (withSlip (take g (drop 2 ns)) (take r (drop (3 + g) ns))) z)
 
         pub left-over : 4 + g + r + t < length ns → Parted ns Parts.Unread
         unfolding whole
         left-over h = record { same = sym (from-end ∙ rw (drop-cons ns (4 + g + r + t) 0 h)); fit = tt }
 
-        pub all-parts : length ns ≤ 4 + g + r + t → Parted ns (Parts.Read (record { grammar = g; rules = r; tree = t }))
+        pub all-parts : length ns ≤ 4 + g + r + t → Parted ns (Parts.Read (record { grammar = g; rules = r; slip = t }))
         unfolding whole
         all-parts h = record { same = sym (from-end ∙ rw (drop-of-length-le ns {i = 4 + g + r + t} h)); fit = omega (arith, z .there) }

@@ -14,7 +14,7 @@ use Rattle.words.specs.Reader.{Words, pick, and}
 use Rattle.meaning.specs.Meaning.{done, stopped, cannotGoOn}
 use Rattle.meaning.specs.Outcome.{Inputs, Outcome, refused, ended, filledBy}
 use Rattle.decimal.specs.Numbers.{Bytes, isDigit, isWhite, Numbers, at, grown, added, byteAt, byte, bytes, lastAt, last, start, numbers}
-use Rattle.decimal.specs.Input.{counted, whole, input, inputAt, inputOf, mostNumbers, inputFrom, mostGrammar, mostRules, mostTree}
+use Rattle.decimal.specs.Input.{counted, whole, input, inputAt, inputOf, mostNumbers, inputFrom, mostGrammar, mostRules, mostSlip}
 use Rattle.decimal.specs.Printed.{digits, allSpaced, line, counts, printed, Put}
 use Rattle.decimal.proofs.Reading.{added-least, byte-least}
 use Rattle.decimal.specs.declared.numbers.Place.{Place}
@@ -84,9 +84,9 @@ pub few-numbers : (ns : Words) (x : Inputs) → input ns ≡ some x → length n
 unfolding input
 few-numbers [] x e = let z : _≡_ {A = ℕ} 0 1 = cc in absurd (omega arith)
 few-numbers (b ∷ ns) x e =
-    let l = counted-few mostGrammar (1 + mostRules + (1 + mostTree + 0)) ns _ x (λ g ms.
-    counted-few mostRules (1 + mostTree + 0) ms _ x (λ r ks.
-    counted-few mostTree 0 ks _ x (λ t js. whole-few _ x js))) e in
+    let l = counted-few mostGrammar (1 + mostRules + (1 + mostSlip + 0)) ns _ x (λ g ms.
+    counted-few mostRules (1 + mostSlip + 0) ms _ x (λ r ks.
+    counted-few mostSlip 0 ks _ x (λ t js. whole-few _ x js))) e in
     omega (arith, l)
 
 -- SO IT DOES NOT MATTER HOW MUCH ROOM THERE IS BEYOND THAT

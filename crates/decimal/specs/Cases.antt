@@ -91,14 +91,14 @@ pieces-text = refl
 -- THE PARTS OF AN INPUT
 
 abbrev one : ℕ → Words → Words → Words → Option Inputs
-one budget grammar rules tree = some (record { budget = budget; grammar = grammar; rules = rules; tree = tree })
+one budget grammar rules slip = some (record { budget = budget; grammar = grammar; rules = rules; slip = slip })
 
 rows : List Words
 rows =
     (3 ∷ 2 ∷ 8 ∷ 1 ∷ 1 ∷ 9 ∷ 0 ∷ [])
     -- lengths of 0
     ∷ (3 ∷ 0 ∷ 0 ∷ 0 ∷ [])
-    -- no number; only a budget; no length of a tree; a word short; one left over
+    -- no number; only a budget; no length of a slip; a word short; one left over
     ∷ []
     ∷ (3 ∷ [])
     ∷ (3 ∷ 0 ∷ 0 ∷ [])
@@ -107,7 +107,8 @@ rows =
     -- one past each limit, and two past it
     ∷ ((3 ∷ 4097 ∷ []) ++ (replicate 4097 1 ++ (0 ∷ 0 ∷ [])))
     ∷ ((3 ∷ 4098 ∷ []) ++ (replicate 4098 1 ++ (0 ∷ 0 ∷ [])))
-    ∷ ((3 ∷ 0 ∷ 0 ∷ 4098 ∷ []) ++ replicate 4098 1)
+    ∷ ((3 ∷ 0 ∷ 0 ∷ 6146 ∷ []) ++ replicate 6146 1)
+    ∷ ((3 ∷ 0 ∷ 0 ∷ 6145 ∷ []) ++ replicate 6145 1)
     ∷ []
 
 parts : List (Option Inputs)
@@ -122,6 +123,7 @@ parts =
     ∷ one 3 (replicate 4097 1) [] []
     ∷ none
     ∷ none
+    ∷ one 3 [] [] (replicate 6145 1)
     ∷ []
 
 rows-parted : map input rows ≡ parts

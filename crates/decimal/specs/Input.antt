@@ -15,7 +15,7 @@ use Rattle.decimal.specs.declared.input.Parts.the-variants as Parts
 use Rattle.decimal.specs.declared.input.Found.{Found}
 use Rattle.decimal.specs.declared.input.Found.the-variants.{Length, Nothing}
 
--- "a length more than one past its limit" is other input: the most words of a grammar, a rule book and a tree, and one more
+-- "a length more than one past its limit" is other input: the most words of a grammar, a rule book and a slip, and one more
 abbrev pub mostGrammar : ℕ
 mostGrammar = 4097
 
@@ -23,9 +23,9 @@ mostGrammar = 4097
 abbrev pub mostRules : ℕ
 mostRules = 16385
 
--- .. of a tree
-abbrev pub mostTree : ℕ
-mostTree = 4097
+-- .. of a slip
+abbrev pub mostSlip : ℕ
+mostSlip = 6145
 
 -- a length, at most so much, and that many words; and what is made of them and of the numbers after them
 unfoldable pub counted : ℕ → Words → (Words → Words → Option Inputs) → Option Inputs
@@ -43,8 +43,8 @@ input [] = none
 input (budget ∷ ns) =
     counted mostGrammar ns (λ grammar ns.
     counted mostRules ns (λ rules ns.
-    counted mostTree ns (λ tree ns.
-    whole (record { budget = budget; grammar = grammar; rules = rules; tree = tree }) ns)))
+    counted mostSlip ns (λ slip ns.
+    whole (record { budget = budget; grammar = grammar; rules = rules; slip = slip }) ns)))
 
 -- of the numbers of a text; other bytes, or a number that is no word, are "other input"
 unfoldable pub inputAt : Place → Words → Option Inputs
@@ -58,7 +58,7 @@ inputOf s = inputAt (s .place) (s .found)
 
 -- a budget, three lengths, and the most words of each part: no input has more numbers
 abbrev pub mostNumbers : ℕ
-mostNumbers = 24583
+mostNumbers = 26631
 
 -- THE INPUT THAT A TEXT IS
 unfoldable pub inputFrom : Bytes → Option Inputs
@@ -72,17 +72,17 @@ lengthAt most ns at = pick (and (ltb at (length ns)) (and (leb (getD ns at 0) mo
 
 -- the parts at the places that the lengths give
 abbrev pub partsAt : Words → ℕ → ℕ → ℕ → Inputs
-partsAt ns g r t = record { budget = getD ns 0 0; grammar = take g (drop 2 ns); rules = take r (drop (3 + g) ns); tree = take t (drop (4 + g + r) ns) }
+partsAt ns g r s = record { budget = getD ns 0 0; grammar = take g (drop 2 ns); rules = take r (drop (3 + g) ns); slip = take s (drop (4 + g + r) ns) }
 
 -- the input by its lengths
 abbrev pub said : Parts → Words → Option Inputs
 said Parts.Unread ns = none
-said (Parts.Read l) ns = some (partsAt ns (l .grammar) (l .rules) (l .tree))
+said (Parts.Read l) ns = some (partsAt ns (l .grammar) (l .rules) (l .slip))
 
 -- the parts are all the numbers
 abbrev pub Fit : Parts → Words → Type 0
 Fit Parts.Unread ns = Unit {0}
-Fit (Parts.Read l) ns = 4 + l .grammar + l .rules + l .tree ≡ length ns
+Fit (Parts.Read l) ns = 4 + l .grammar + l .rules + l .slip ≡ length ns
 
 -- the parts are those of the input
 pub record Parted (ns : Words) (r : Parts) : Type 0 where

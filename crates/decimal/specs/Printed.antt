@@ -40,7 +40,7 @@ unfoldable pub line : Words → Bytes
 line [] = lineEnd
 line (w ∷ ws) = decimal w ++ (allSpaced ws ++ lineEnd)
 
--- "trials, replacements, words; the tree"
+-- "trials, replacements, words; the tree", with its counts
 unfoldable pub counts : ℕ → ℕ → Words → Bytes
 counts attempts replacements ws = spaced attempts ++ (spaced replacements ++ (spaced (length ws) ++ (lineEnd ++ line ws)))
 

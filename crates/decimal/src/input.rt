@@ -1,4 +1,4 @@
-// The parts of an input: budget, then length and words of grammar, rules and tree.
+// The parts of an input: budget, then length and words of grammar, rules and slip.
 ghost use mathlib.Core.Path.{_≡_};
 ghost use Rattle.decimal.specs.Input.{lengthAt, Parted};
 
@@ -7,13 +7,13 @@ const MOST_GRAMMAR: usize = 4097;
 
 const MOST_RULES: usize = 16385;
 
-const MOST_TREE: usize = 4097;
+const MOST_SLIP: usize = 6145;
 
-// How long the grammar, the rules and the tree are. The budget is number 0, and each part's length stands before it.
+// How long the grammar, the rules and the slip are. The budget is number 0, and each part's length stands before it.
 pub struct Lengths {
     pub grammar: usize,
     pub rules: usize,
-    pub tree: usize,
+    pub slip: usize,
 }
 
 // The lengths of an input's parts; or other input.
@@ -57,16 +57,16 @@ pub fn find_parts(ns: &[u32]) -> Parts
     let Found::Length(r) = b else {
         return Parts::Unread;
     };
-    let c = length_at(MOST_TREE, ns, 3 + g + r);
-    let Found::Length(t) = c else {
+    let c = length_at(MOST_SLIP, ns, 3 + g + r);
+    let Found::Length(s) = c else {
         return Parts::Unread;
     };
-    if 4 + g + r + t < ns.len() {
+    if 4 + g + r + s < ns.len() {
         return Parts::Unread;
     }
     Parts::Read(Lengths {
         grammar: g,
         rules: r,
-        tree: t,
+        slip: s,
     })
 }

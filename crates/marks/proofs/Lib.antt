@@ -8,5 +8,4 @@ pub mod Above
 pub mod Swapping
 pub mod Resizing
 pub mod Putting
-pub mod Writing
 pub mod Descent

@@ -116,11 +116,6 @@ pub record InPlace (heads rows w w′ : Words) (base place end from n : ℕ) : T
   pub in-place : (g : Grammar) (t : ℕ) (scope ws : Words) → Tables g heads rows → Ready g w base place end from n t scope ws
       → (take base w′ ≡ take base w) × (span w′ base (base + length (put g scope (place - base) ws)) ≡ marked g (put g scope (place - base) ws))
 
--- the tree of the part is written to the result, without marks; what is behind it is unchanged
-pub record Written (part r r′ : Words) : Type 0 where
-  pub long : length r′ ≡ length r
-  pub words : (half : ℕ) → length part ≡ 2 * half → r′ ≡ unmarked part ++ drop (length part) r
-
 -- r is the nesting of the node at q in the marked tree that the part is
 abbrev pub NestingOf : Words → Words → ℕ → ℕ → Type 0
 NestingOf heads part q r = (g : Grammar) (t : ℕ) (ws : Words) (half : ℕ) → Heads g heads → Trees g (t ∷ []) ws → size ws ≤ mostNodes → part ≡ marked g ws → q ≡ 2 * half → r ≡ nodeNesting g ws (1 ∷ []) q

@@ -7,7 +7,7 @@ ghost use Rattle.words.specs.Reader.{pick, and};
 ghost use lib.Dec.{eqb};
 ghost use lib.ListN.{length, getD};
 ghost use Rattle.marks.specs.Marked.{mark, typeIn, sizeIn, nestingIn};
-ghost use Rattle.marks.specs.Post.{MarkMade, NodeMarked, TreeMarked, AboveMarked, Resized, InPlace, NestingOf, Written, SameTree, HoldsBlank};
+ghost use Rattle.marks.specs.Post.{MarkMade, NodeMarked, TreeMarked, AboveMarked, Resized, InPlace, NestingOf, SameTree, HoldsBlank};
 
 // The type of a marked node.
 pub fn type_in(w: u32) -> u32
@@ -231,19 +231,6 @@ pub fn nesting_at(heads: &[u32; HEADS], part: &[u32], q: usize) -> usize
         }
     }
     above + level(sequence, i)
-}
-
-// Writes the tree of the part to the result, without marks.
-pub fn write_result(part: &[u32], result: &mut [u32])
-    requires { ⌜ length (now part) ≤ length (now result) ⌝ }
-    ensures { λ _. ⌜ Written (now (part .entry)) (now (result .entry)) (now (result .exit)) ⌝ }
-{
-    let mut i: usize = 0;
-    while 2 <= part.len() - i {
-        result[i] = type_in(part[i]);
-        result[i + 1] = part[i + 1];
-        i = i + 2;
-    }
 }
 
 // Is the tree that stands at `start` the same as that which the part begins with?

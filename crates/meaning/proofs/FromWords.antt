@@ -1,4 +1,4 @@
--- From words: what nothing refuses runs soundly, and what it leaves passes the tree's check again. Assumes nothing.
+-- From words: what nothing refuses runs soundly, and what it leaves passes the slip's check again. Assumes nothing.
 use Prim.Native.Nat.{ℕ, _-_, _≤_}
 use mathlib.Core.Path.{_≡_, refl, sym, _∙_}
 use mathlib.Core.Bool.{true, false}
@@ -10,9 +10,8 @@ use Rattle.words.specs.Reader.{Read, value, accepted}
 use Rattle.words.proofs.Laws.{then-value, require-value}
 use Rattle.grammar.specs.Grammar.{readGrammar}
 use Rattle.tree.specs.Tree.{Tree}
-use Rattle.tree.specs.Reading.{readTree}
-use Rattle.tree.proofs.Trees.{trees-even}
-use Rattle.tree.proofs.Accepted.{accepted-tree, tree-is-accepted}
+use Rattle.tree.specs.Slip.{counted, readSlip}
+use Rattle.tree.proofs.Slip.{counted-length, slip-sound, slip-accepted}
 use Rattle.judgement.specs.Typing.{readRules}
 use Rattle.judgement.specs.WellTyped.{WellTyped}
 use Rattle.judgement.proofs.Exactly.{passes-exactly}
@@ -31,10 +30,8 @@ pub record Read-all (result work : ℕ) (x : Inputs) (d : Decoded) : Type 0 wher
   pub n : ℕ
   pub grammar : readGrammar (x .grammar) ≡ value (d .grammar) m
   pub rules : readRules (d .grammar) (x .rules) ≡ value (d .rules) n
-  pub tree : accepted (readTree (d .grammar) (x .tree)) ≡ true
-
-value-accepted : {A : Type 0} {q : Read A} {a : A} {n : ℕ} → q ≡ value a n → accepted q ≡ true
-value-accepted e = rw e
+  pub k : ℕ
+  pub slip : readSlip (d .grammar) (x .slip) ≡ value (d .tree) k
 
 pub read-all : (result work : ℕ) (x : Inputs) (d : Decoded) (next : ℕ) → decode result work x ≡ value d next → Read-all result work x d
 unfolding decode callFits
@@ -44,27 +41,27 @@ read-all result work x d next e =
     let space = require-value (leb leastWork work) 2 0 0 _ (room .1) in
     let a = then-value (readGrammar (x .grammar)) _ (c .3) in
     let r = then-value (readRules (a .0) (x .rules)) _ (a .3) in
-    let t = then-value (readTree (a .0) (x .tree)) _ (r .3) in
-    let same : _≡_ {A = Decoded} (record { grammar = a .0; rules = r .0 }) d = cc (t .3) in
-    rw (← same) (record { room = leb-true leastResult result (room .0); space = leb-true leastWork work (space .0); m = a .1; n = r .1; grammar = a .2; rules = r .2; tree = value-accepted (t .2) })
+    let t = then-value (readSlip (a .0) (x .slip)) _ (r .3) in
+    let same : _≡_ {A = Decoded} (record { grammar = a .0; rules = r .0; tree = t .0 }) d = cc (t .3) in
+    rw (← same) (record { room = leb-true leastResult result (room .0); space = leb-true leastWork work (space .0); m = a .1; n = r .1; grammar = a .2; rules = r .2; k = t .1; slip = t .2 })
 
 module _ (result work : ℕ) (x : Inputs) (d : Decoded) (q : Read-all result work x d) where
-  pub read-tree : Tree (d .grammar) 0 (x .tree)
-  read-tree = accepted-tree (d .grammar) 0 (x .tree) (q .tree)
+  pub read-tree : Tree (d .grammar) 0 (d .tree)
+  read-tree = slip-sound (d .grammar) (x .slip) (d .tree) (q .k) (q .slip) .0
 
   pub read-typed : WellTyped (d .grammar) (d .rules)
   read-typed = passes-exactly (x .grammar) (x .rules) (d .grammar) (q .m) (q .grammar) (d .rules) .sound (q .n, q .rules) .1
 
-  pub read-sound : Sound (d .grammar) 0 (x .budget) (run true (d .grammar) (d .rules) (x .tree) (x .budget)) (run false (d .grammar) (d .rules) (x .tree) (x .budget))
-  read-sound = soundness (d .grammar) (d .rules) read-typed (x .tree) read-tree (x .budget)
+  pub read-sound : Sound (d .grammar) 0 (x .budget) (run true (d .grammar) (d .rules) (d .tree) (x .budget)) (run false (d .grammar) (d .rules) (d .tree) (x .budget))
+  read-sound = soundness (d .grammar) (d .rules) read-typed (d .tree) read-tree (x .budget)
 
-went : (result work : ℕ) (x : Inputs) (d : Decoded) (next : ℕ) → decode result work x ≡ value d next → (c : Called) → c ≡ run false (d .grammar) (d .rules) (x .tree) (x .budget)
-    → Went result work x (c .ending) (x .budget - c .left .attempts) (c .replacements) (c .scope)
+went : (result work : ℕ) (x : Inputs) (d : Decoded) (next : ℕ) → decode result work x ≡ value d next → (c : Called) → c ≡ run false (d .grammar) (d .rules) (d .tree) (x .budget)
+    → Went result work x (c .ending) (x .budget - c .left .attempts) (c .replacements) (counted (d .grammar) (c .scope))
 unfolding endedAs
 went result work x d next e c is =
     let q = read-all result work x d next e in
     let s = read-sound result work x d q in
-    let same : run true (d .grammar) (d .rules) (x .tree) (x .budget) ≡ c = s .agree ∙ sym is in
+    let same : run true (d .grammar) (d .rules) (d .tree) (x .budget) ≡ c = s .agree ∙ sym is in
     let tree : Tree (d .grammar) 0 (c .scope) = rw same at (s .scope) in
     record {
       with = d;
@@ -74,8 +71,8 @@ went result work x d next e c is =
       same = rw same;
       ends = rw same at (s .ends);
       few = omega arith;
-      one = tree-is-accepted tree;
-      fits = omega (arith, q .room, trees-even (tree .typed), tree .nodes);
+      one = slip-accepted (d .grammar) (counted (d .grammar) (c .scope)) .1 (c .scope) tree refl;
+      fits = omega (arith, q .room, counted-length (d .grammar) (c .scope), tree .nodes);
     }
 
 -- EVERY OUTCOME is a refusal that the checks give, or a run that went soundly
@@ -85,4 +82,4 @@ outcome-sure result work x = go (decode result work x) refl
   where
     go : (q : Read Decoded) → decode result work x ≡ q → Sure result work x (outcomeOf x q)
     go (R.refused n p) e = e
-    go (value d next) e = went result work x d next e (run false (d .grammar) (d .rules) (x .tree) (x .budget)) refl
+    go (value d next) e = went result work x d next e (run false (d .grammar) (d .rules) (d .tree) (x .budget)) refl

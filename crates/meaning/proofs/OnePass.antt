@@ -242,10 +242,10 @@ pub one-pass-bound : OnePassBound
 unfolding run runFrom outcome outcomeOf endedAs resultOf
 one-pass-bound result work x d next r read first passes e attempts replacements ws is =
     let s = read-sound result work x d (read-all result work x d next read) in
-    let c = run true (d .grammar) (d .rules) (x .tree) (x .budget) in
-    let told : endedAs (x .budget) c ≡ ended e attempts replacements ws = rw (s .agree) (rw read at is) in
+    let c = run true (d .grammar) (d .rules) (d .tree) (x .budget) in
+    let told : endedAs (d .grammar) (x .budget) c ≡ ended e attempts replacements ws = rw (s .agree) (rw read at is) in
     let same : c .ending ≡ e = cc in
     let few : x .budget - c .left .attempts ≡ attempts = cc in
-    let costs : Ended (nodesOf (r .target) (x .tree)) (initial (x .budget)) c =
-    rw first (call-costs (d .grammar) (d .rules) (calls true (d .grammar) (d .rules) (mostCalls - 1)) r passes [] (x .tree) 0 (initial (x .budget))) in
-    rw (← same, ← few) (ending-costs (nodesOf (r .target) (x .tree)) (x .budget) c (c .ending) (s .ends) costs)
+    let costs : Ended (nodesOf (r .target) (d .tree)) (initial (x .budget)) c =
+    rw first (call-costs (d .grammar) (d .rules) (calls true (d .grammar) (d .rules) (mostCalls - 1)) r passes [] (d .tree) 0 (initial (x .budget))) in
+    rw (← same, ← few) (ending-costs (nodesOf (r .target) (d .tree)) (x .budget) c (c .ending) (s .ends) costs)

@@ -53,10 +53,10 @@ module _ (o : Outcome) (before after : Memories) (isResult : after .result ≡ r
       let r : after .result ≡ ws ++ drop (length ws) (before .result) = rw e at isResult in
       rw (r, over-word ws (before .result) i)
 
-  posts : (work : ℕ) (x : Inputs) (tree : Words) (q : Outcome) → o ≡ q → Sure (length (before .result)) work x q → output (isDone q) (length (filledBy q)) (after .result) tree ≡ pick (isDone q) (filledBy q) tree
+  posts : (work : ℕ) (x : Inputs) (slip : Words) (q : Outcome) → o ≡ q → Sure (length (before .result)) work x q → output (isDone q) (length (filledBy q)) (after .result) slip ≡ pick (isDone q) (filledBy q) slip
   unfolding output filledBy isDone
-  posts work x tree (refused n p) e h = refl
-  posts work x tree (ended s a k ws) e h =
+  posts work x slip (refused n p) e h = refl
+  posts work x slip (ended s a k ws) e h =
       let kept : length (after .result) ≡ length (before .result) = result-kept work x (ended s a k ws) e h in
       let there : leb (length ws) (length (after .result)) ≡ true = le-leb (length ws) (length (after .result)) (omega (arith, h .fits)) in
       let front : take (length ws) (after .result) ≡ ws = leaves (ended s a k ws) e .0 in
@@ -74,7 +74,7 @@ module _ (first : Memories) where
         results = result-kept o before (s .left) (ran .result) (ran .work) (length (before .work)) (s .inputs) o refl sure ∙ er;
         works = work-kept o before (s .left) (ran .result) (ran .work) o refl ∙ ew;
         leaves = leaves o before (s .left) (ran .result) (ran .work) o refl;
-        posts = posts o before (s .left) (ran .result) (ran .work) (length (before .work)) (s .inputs) (s .inputs .tree) o refl sure;
+        posts = posts o before (s .left) (ran .result) (ran .work) (length (before .work)) (s .inputs) (s .inputs .slip) o refl sure;
         sure = rw (er, ew) at sure;
       }
 

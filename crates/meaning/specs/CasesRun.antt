@@ -7,7 +7,7 @@ use lib.ListN.{replicate}
 use Rattle.words.specs.Reader.{Words}
 use Rattle.meaning.specs.Meaning.{done, stopped}
 use Rattle.meaning.specs.Outcome.{Outcome, refused, ended, outcome}
-use Rattle.meaning.specs.Cases.{Case, case, over, given, found}
+use Rattle.meaning.specs.Cases.{Case, case, over, inWords, large, given, found}
 use Rattle.words.specs.Reader as Reader
 use Rattle.words.specs.Views as Views
 use Rattle.grammar.specs.Grammar as Grammar
@@ -17,6 +17,7 @@ use Rattle.tree.specs.Blanks as Blanks
 use Rattle.tree.specs.Sequences as Sequences
 use Rattle.tree.specs.Dues as Dues
 use Rattle.tree.specs.Reading as Reading
+use Rattle.tree.specs.Slip as Slip
 use Rattle.rules.specs.Rules as Rules
 use Rattle.rules.specs.Layout as Layout
 use Rattle.judgement.specs.Wanted as Wanted
@@ -27,6 +28,7 @@ use Rattle.meaning.specs.Operations as Operations
 use Rattle.meaning.specs.Edits as Edits
 use Rattle.meaning.specs.Meaning as Meaning
 use Rattle.meaning.specs.Outcome as Outcome
+use Rattle.meaning.specs.Cases as Cases
 
 -- "Grammar 3 8 1 1 1 4 2 1 2 (program of repeat number). Book 1 9 2 2 1 2 200 1 2 4200. Slip 0 0 1 0 2 200 1 0 2 500 1 1, that is 2.00, 5.00"
 numbers : Words
@@ -357,12 +359,14 @@ table =
     ∷ case 3 (1 ∷ 8 ∷ 1 ∷ 1 ∷ 0 ∷ []) (1 ∷ 9 ∷ 9 ∷ []) (0 ∷ 0 ∷ []) (refused 12 1)
     -- layout before typing, which is at a lower word
     ∷ case 3 numbers (2 ∷ 9 ∷ 2 ∷ 2 ∷ 1 ∷ 3 ∷ 0 ∷ 1 ∷ 2 ∷ 1 ∷ 16 ∷ []) (0 ∷ 0 ∷ []) (refused 21 10)
-    -- typing before the tree
+    -- typing before the slip
     ∷ case 3 numbers (1 ∷ 9 ∷ 2 ∷ 2 ∷ 1 ∷ 3 ∷ 0 ∷ 1 ∷ 2 ∷ 1 ∷ []) (0 ∷ 0 ∷ []) (refused 23 5)
-    -- the tree: an odd count
-    ∷ case 3 numbers toFortyTwo (0 ∷ []) (refused 30 0)
-    -- the tree: its root of another type
+    -- the slip: no multiple of three
+    ∷ inWords 3 numbers toFortyTwo (0 ∷ 0 ∷ []) (refused 30 0)
+    -- the slip: its root of another type
     ∷ case 3 numbers toFortyTwo (1 ∷ 1 ∷ []) (refused 32 0)
+    -- T-07: its root's count
+    ∷ inWords 3 numbers toFortyTwo (0 ∷ 0 ∷ 3 ∷ 1 ∷ 1 ∷ 1 ∷ []) (refused 34 2)
     -- T-04
     -- a sequence joined with itself; its first element joined to its rest
     ∷ case 1 numbers (1 ∷ 8 ∷ 0 ∷ 2 ∷ 0 ∷ 0 ∷ 64 ∷ 1 ∷ 5 ∷ 0 ∷ 0 ∷ 66 ∷ 0 ∷ 1 ∷ 0 ∷ 1010 ∷ 1 ∷ 65 ∷ 0 ∷ []) twoAndFive (ended done 1 1 (list (200 ∷ 500 ∷ 200 ∷ 500 ∷ [])))
@@ -444,7 +448,7 @@ table =
     ∷ case 9 levels (1 ∷ 9 ∷ 0 ∷ 3 ∷ 2 ∷ 0 ∷ 0 ∷ 64 ∷ 0 ∷ 1 ∷ 65 ∷ 0 ∷ []) (0 ∷ 0 ∷ 0 ∷ 0 ∷ 0 ∷ 1 ∷ []) (ended done 1 1 (0 ∷ 0 ∷ 0 ∷ 1 ∷ []))
     -- "a matched tree is replaced", at once: a stop in the second replacement keeps the first; 45, and 42 over the scope as it then is
     ∷ case 9 numbers (1 ∷ 9 ∷ 2 ∷ 3 ∷ 1 ∷ 64 ∷ 2 ∷ 4 ∷ 66 ∷ 0 ∷ 1 ∷ 0 ∷ 1002 ∷ 1 ∷ 65 ∷ 0 ∷ []) (list (3 ∷ 0 ∷ 5 ∷ [])) (ended (stopped 45) 2 1 (list (100 ∷ 0 ∷ 5 ∷ [])))
-    ∷ case 999 prefixes (prefixing 3) (slip (replicate 681 (1 ∷ []))) (ended (stopped 42) 2 1 (slip ((9 ∷ 1 ∷ []) ∷ replicate 680 (1 ∷ []))))
+    ∷ large 999 prefixes (prefixing 3) (slip (replicate 681 (1 ∷ []))) (ended (stopped 42) 2 1 (slip ((9 ∷ 1 ∷ []) ∷ replicate 680 (1 ∷ []))))
     -- .. and 43: a field with 59 prefixes takes one more, one with 60 does not
     ∷ case 9 prefixes (prefixing 3) (slip ((1 ∷ []) ∷ replicate 60 5 ∷ [])) (ended done 2 2 (slip ((9 ∷ 1 ∷ []) ∷ (9 ∷ replicate 60 5) ∷ [])))
     ∷ case 9 prefixes (prefixing 3) (slip ((1 ∷ []) ∷ replicate 61 5 ∷ [])) (ended (stopped 43) 2 1 (slip ((9 ∷ 1 ∷ []) ∷ replicate 61 5 ∷ [])))
@@ -458,15 +462,15 @@ table =
     ∷ case 3 prefixes (prefixing 4) three (refused 21 3)
     ∷ case 3 prefixes (prefixing 0) three (refused 21 3)
     -- 1 to 5, in this order
-    ∷ over 4095 16383 0 [] [] [] (refused 1 0)
-    ∷ over 4096 16383 0 [] [] [] (refused 2 0)
-    ∷ over 4096 16384 0 (replicate 4097 0) [] [] (refused 3 0)
-    ∷ over 4096 16384 1 (replicate 4097 0) (replicate 16385 0) [] (refused 4 0)
-    ∷ over 4096 16384 1 [] (replicate 16385 0) [] (refused 5 0)
+    ∷ over 6143 16383 0 [] [] [] (refused 1 0)
+    ∷ over 6144 16383 0 [] [] [] (refused 2 0)
+    ∷ over 6144 16384 0 (replicate 4097 0) [] [] (refused 3 0)
+    ∷ over 6144 16384 1 (replicate 4097 0) (replicate 16385 0) [] (refused 4 0)
+    ∷ over 6144 16384 1 [] (replicate 16385 0) [] (refused 5 0)
     -- longer memories change nothing
-    ∷ over 5000 20000 3 numbers toFortyTwo twoAndFive (ended done 3 1 (list (4200 ∷ 500 ∷ [])))
+    ∷ over 7000 20000 3 numbers toFortyTwo twoAndFive (ended done 3 1 (list (4200 ∷ 500 ∷ [])))
     ∷ []
 
 right : found table ≡ given table
-unfolding given found Reader.word Reader.wordIn Reader.many Reader.end Views.equalWords Grammar.typesOf Grammar.field Grammar.element Grammar.form Grammar.kind Grammar.grammar Grammar.allKnown Grammar.anyFormKnown Grammar.finishes Grammar.round Grammar.rounds Grammar.finite Grammar.finiteRecords Grammar.readGrammar Grammar.grammarFits Kinds.kindOf Kinds.allows Kinds.allowed Kinds.childrenOf Kinds.children Kinds.isSequenceKind Kinds.isSequence Kinds.isNumberKind Kinds.isNumber Kinds.isTextKind Kinds.isText Tree.size Tree.levelsOf Tree.levels Tree.nestingFrom Tree.nesting Tree.areTrees Tree.isTree Tree.first Tree.after Tree.typeOf Tree.put Blanks.isBlank Blanks.holdsBlank Sequences.elementOf Sequences.spine Sequences.sequenceOf Sequences.elementsIn Sequences.elements Sequences.takenFrom Dues.pairs Dues.whole Reading.duesOf Reading.meetsNode Reading.readTreeOf Rules.operations Rules.applied Rules.shapes Rules.arguments Rules.applications Rules.pairsIn Rules.argumentsWritten Rules.applicationsWritten Rules.chainWritten Rules.unreadable Rules.chainOf Rules.conditionOf Rules.piecesAfter Rules.pieces Layout.strategyOf Layout.stretch Layout.field Layout.pairs Layout.variableAt Layout.deconstructFields Layout.conditionFields Layout.partOf Layout.reach Layout.replacement Layout.mainFits Layout.mainBits Layout.typeField Layout.searchFields Layout.constructFields Layout.partAt Layout.part Layout.parameters Layout.headFields Layout.head Layout.parts Layout.rule Layout.layout Layout.readLayout Layout.rulesFit Wanted.wants Typing.mayStand Typing.isSome Typing.appliesRule Typing.appliesOperation Typing.fitsScope Typing.operatesOn Typing.usable Typing.wantedByEdit Typing.wantedByOperation Typing.wantedBy Typing.newVariable Typing.variable Typing.chain Typing.node Typing.meets Typing.typed Typing.variableThere Typing.partTyped Typing.partsTyped Typing.ruleTyped Typing.mainTarget Typing.rulesTyped Typing.readRules Computation.thenOf Computation.spendOf Computation.spend Computation.stopUnless Computation.surely Computation.check Computation.present Computation.choose Computation.whether Computation.nodesWithin Computation.nestingWithin Computation.liveWithin Rounding.halfEven Operations.rounded Operations.truncated Operations.inRange Operations.divisor Operations.withOne Operations.withNone Operations.compute Operations.compare Operations.valueOf Operations.valuesOf Operations.withValue Operations.isNumberToken Operations.areNumberTokens Edits.position Edits.selected Edits.joined Edits.withOne Edits.withTwo Edits.edited Edits.isSequenceTree Edits.each Edits.editFits Edits.edit Meaning.total Meaning.variable Meaning.variables Meaning.sameTree Meaning.bind Meaning.match Meaning.matchFirst Meaning.areTreesOf Meaning.fits Meaning.begin Meaning.resultAs Meaning.resultOf Meaning.opened Meaning.afterRound Meaning.apply Meaning.applyChain Meaning.fill Meaning.finish Meaning.succeeds Meaning.anySucceeds Meaning.part Meaning.parts Meaning.attempt Meaning.seek Meaning.replace Meaning.turn Meaning.rounds Meaning.callWith Meaning.call Meaning.callMatches Meaning.calls Meaning.runFrom Meaning.run Outcome.callFits Outcome.decode Outcome.endedAs Outcome.outcomeOf Outcome.outcome numbers toFortyTwo twoAndFive elements list lists sequences levels times fields names ownAccount both alike blank prefixes prefixed rows slip prefixing three eachOnce doubling shortening table
+unfolding Reader.word Reader.wordIn Reader.many Reader.end Views.equalWords Grammar.typesOf Grammar.field Grammar.element Grammar.form Grammar.kind Grammar.grammar Grammar.allKnown Grammar.anyFormKnown Grammar.finishes Grammar.round Grammar.rounds Grammar.finite Grammar.finiteRecords Grammar.readGrammar Grammar.grammarFits Kinds.kindOf Kinds.allows Kinds.allowed Kinds.childrenOf Kinds.children Kinds.isSequenceKind Kinds.isSequence Kinds.isNumberKind Kinds.isNumber Kinds.isTextKind Kinds.isText Tree.size Tree.levelsOf Tree.levels Tree.nestingFrom Tree.nesting Tree.areTrees Tree.isTree Tree.first Tree.after Tree.typeOf Tree.put Blanks.isBlank Blanks.holdsBlank Sequences.elementOf Sequences.spine Sequences.sequenceOf Sequences.elementsIn Sequences.elements Sequences.takenFrom Dues.pairs Dues.whole Reading.duesOf Reading.meetsNode Reading.readTreeOf Slip.uncounted Slip.counted Slip.placeIn Slip.inSlip Slip.rightCounts Slip.readSlip Rules.operations Rules.applied Rules.shapes Rules.arguments Rules.applications Rules.pairsIn Rules.argumentsWritten Rules.applicationsWritten Rules.chainWritten Rules.unreadable Rules.chainOf Rules.conditionOf Rules.piecesAfter Rules.pieces Layout.strategyOf Layout.stretch Layout.field Layout.pairs Layout.variableAt Layout.deconstructFields Layout.conditionFields Layout.partOf Layout.reach Layout.replacement Layout.mainFits Layout.mainBits Layout.typeField Layout.searchFields Layout.constructFields Layout.partAt Layout.part Layout.parameters Layout.headFields Layout.head Layout.parts Layout.rule Layout.layout Layout.readLayout Layout.rulesFit Wanted.wants Typing.mayStand Typing.isSome Typing.appliesRule Typing.appliesOperation Typing.fitsScope Typing.operatesOn Typing.usable Typing.wantedByEdit Typing.wantedByOperation Typing.wantedBy Typing.newVariable Typing.variable Typing.chain Typing.node Typing.meets Typing.typed Typing.variableThere Typing.partTyped Typing.partsTyped Typing.ruleTyped Typing.mainTarget Typing.rulesTyped Typing.readRules Computation.thenOf Computation.spendOf Computation.spend Computation.stopUnless Computation.surely Computation.check Computation.present Computation.choose Computation.whether Computation.nodesWithin Computation.nestingWithin Computation.liveWithin Rounding.halfEven Operations.rounded Operations.truncated Operations.inRange Operations.divisor Operations.withOne Operations.withNone Operations.compute Operations.compare Operations.valueOf Operations.valuesOf Operations.withValue Operations.isNumberToken Operations.areNumberTokens Edits.position Edits.selected Edits.joined Edits.withOne Edits.withTwo Edits.edited Edits.isSequenceTree Edits.each Edits.editFits Edits.edit Meaning.total Meaning.variable Meaning.variables Meaning.sameTree Meaning.bind Meaning.match Meaning.matchFirst Meaning.areTreesOf Meaning.fits Meaning.begin Meaning.resultAs Meaning.resultOf Meaning.opened Meaning.afterRound Meaning.apply Meaning.applyChain Meaning.fill Meaning.finish Meaning.succeeds Meaning.anySucceeds Meaning.part Meaning.parts Meaning.attempt Meaning.seek Meaning.replace Meaning.turn Meaning.rounds Meaning.callWith Meaning.call Meaning.callMatches Meaning.calls Meaning.runFrom Meaning.run Outcome.callFits Outcome.decode Outcome.endedAs Outcome.outcomeOf Outcome.outcome Cases.counting Cases.countingIn Cases.plainOf Cases.plainly Cases.given Cases.found numbers toFortyTwo twoAndFive elements list lists sequences levels times fields names ownAccount both alike blank prefixes prefixed rows slip prefixing three eachOnce doubling shortening table
 right = refl

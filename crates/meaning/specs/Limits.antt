@@ -13,9 +13,9 @@ mostLive = 6144
 abbrev pub mostBudget : ℕ
 mostBudget = 1000000
 
--- 1: "result under 4,096 words"
+-- 1: "result under 4,096 words"; T-07: "the result needs 6,144"
 abbrev pub leastResult : ℕ
-leastResult = 4096
+leastResult = 6144
 
 -- 2: "work under 16,384 words"
 abbrev pub leastWork : ℕ

@@ -47,4 +47,4 @@ pub record PassesAlone (r : Rule) : Type 0 where
 abbrev pub OnePassBound : Type 0
 OnePassBound = (result work : ℕ) (x : Inputs) (d : Decoded) (next : ℕ) (r : Rule) → decode result work x ≡ value d next → getElem? (d .rules) 0 ≡ some r → PassesAlone r
     → (e : Ending) (attempts replacements : ℕ) (ws : Words) → outcome result work x ≡ ended e attempts replacements ws
-    → (attempts ≤ nodesOf (r .target) (x .tree)) × (nodesOf (r .target) (x .tree) ≤ x .budget → e ≡ stopped 40 → ⊥)
+    → (attempts ≤ nodesOf (r .target) (d .tree)) × (nodesOf (r .target) (d .tree) ≤ x .budget → e ≡ stopped 40 → ⊥)

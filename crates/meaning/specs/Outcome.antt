@@ -8,7 +8,7 @@ use lib.Dec.{leb}
 use Rattle.words.specs.Reader as R
 use Rattle.words.specs.Reader.{Words, pick, and, between, Read, value, Reader, andThen, _>>_, return, require}
 use Rattle.grammar.specs.Grammar.{Grammar, grammarFits, readGrammar}
-use Rattle.tree.specs.Reading.{readTree}
+use Rattle.tree.specs.Slip.{counted, readSlip}
 use Rattle.rules.specs.Rules.{Rules}
 use Rattle.rules.specs.Layout.{rulesFit}
 use Rattle.judgement.specs.Typing.{readRules}
@@ -20,7 +20,7 @@ pub record Inputs : Type 0 where
   pub budget : ℕ
   pub grammar : Words
   pub rules : Words
-  pub tree : Words
+  pub slip : Words
 
 -- "ending or refusal, number, position, trials, replacements, filled count and filled words, as far as an outcome has them"
 pub data Outcome : Type 0 where
@@ -29,7 +29,7 @@ pub data Outcome : Type 0 where
   -- the ending, "all trials, that call's replacements put in place, and words filled"
   ended : Ending → ℕ → ℕ → Words → Outcome
 
--- "call": 1 "result under 4,096 words", 2 "work under 16,384 words", 3 "budget 0 or over 1,000,000", "4, 5: grammar, book too long"; "0 for call refusals"
+-- "call": 1 "result under 4,096 words", by T-07 under 6,144, 2 "work under 16,384 words", 3 "budget 0 or over 1,000,000", "4, 5: grammar, book too long"; "0 for call refusals"
 unfoldable pub callFits : ℕ → ℕ → Inputs → Reader (Unit {0})
 callFits result work x = do
   require (leb leastResult result) 1 0
@@ -38,10 +38,11 @@ callFits result work x = do
   grammarFits (x .grammar)
   rulesFit (x .rules)
 
--- what an accepted run works with
+-- what an accepted run works with: the slip's tree is without its counts
 pub record Decoded : Type 0 where
   pub grammar : Grammar
   pub rules : Rules
+  pub tree : Words
 
 -- "Places go from the top": call, grammar, book layout, book typing, slip
 unfoldable pub decode : ℕ → ℕ → Inputs → Read Decoded
@@ -49,17 +50,18 @@ decode result work x =
     andThen (callFits result work x 0) (λ u next.
     andThen (readGrammar (x .grammar)) (λ g next.
     andThen (readRules g (x .rules)) (λ rules next.
-    andThen (readTree g (x .tree)) (λ u.
-    return (record { grammar = g; rules = rules })))))
+    andThen (readSlip g (x .slip)) (λ tree.
+    return (record { grammar = g; rules = rules; tree = tree })))))
 
--- "Done or stopped, the result holds the slip as left by the last replacement that the first call .. put in place"
-unfoldable pub endedAs : ℕ → Called → Outcome
-endedAs budget c = ended (c .ending) (budget - c .left .attempts) (c .replacements) (c .scope)
+-- "Done or stopped, the result holds the slip as left by the last replacement that the first call .. put in place"; T-07: "Each node of a slip and of a result
+-- becomes three words"
+unfoldable pub endedAs : Grammar → ℕ → Called → Outcome
+endedAs g budget c = ended (c .ending) (budget - c .left .attempts) (c .replacements) (counted g (c .scope))
 
 -- what comes of inputs as they are read
 unfoldable pub outcomeOf : Inputs → Read Decoded → Outcome
 outcomeOf x (R.refused n p) = refused n p
-outcomeOf x (value d next) = endedAs (x .budget) (run false (d .grammar) (d .rules) (x .tree) (x .budget))
+outcomeOf x (value d next) = endedAs (d .grammar) (x .budget) (run false (d .grammar) (d .rules) (d .tree) (x .budget))
 
 -- THE OUTCOME, with a result and a work memory of these lengths
 unfoldable pub outcome : ℕ → ℕ → Inputs → Outcome
@@ -79,7 +81,7 @@ workAfter (ended e a k ws) work = replicate (length work) 0
 
 -- THE WORDS TO POST: "the filled part of the result if the run was done, else the slip itself; a filled count past the result's end also gives the slip"
 unfoldable pub output : Bool → ℕ → Words → Words → Words
-output wasDone filled result tree = pick (and wasDone (leb filled (length result))) (take filled result) tree
+output wasDone filled result slip = pick (and wasDone (leb filled (length result))) (take filled result) slip
 
 -- was the run done?
 unfoldable pub isDone : Outcome → Bool

@@ -8,7 +8,7 @@ use lib.ListN.{length, getD, take, drop, replicate}
 use lib.Dec.{ltb}
 use Rattle.words.specs.Reader as R
 use Rattle.words.specs.Reader.{Words, pick, value, accepted}
-use Rattle.tree.specs.Reading.{readTree}
+use Rattle.tree.specs.Slip.{readSlip}
 use Rattle.meaning.specs.Meaning.{Ending, run}
 use Rattle.meaning.specs.Outcome.{Inputs, Outcome, refused, ended, Decoded, decode, endedAs, outcome, resultAfter, workAfter, output, isDone, filledBy}
 use Rattle.meaning.specs.Sound.{WellEnded, Sound}
@@ -61,13 +61,14 @@ pub record Went (result work : ℕ) (x : Inputs) (e : Ending) (attempts replacem
   pub read : decode result work x ≡ value with next
   -- "At each step of the meaning every variable read is bound, every rule or operation applied is there and fits as under Typing, and a next step, the end
   -- or a stop 40 to 45 follows"
-  pub sound : Sound (with .grammar) 0 (x .budget) (run true (with .grammar) (with .rules) (x .tree) (x .budget)) (run false (with .grammar) (with .rules) (x .tree) (x .budget))
+  pub sound : Sound (with .grammar) 0 (x .budget) (run true (with .grammar) (with .rules) (with .tree) (x .budget)) (run false (with .grammar) (with .rules) (with .tree) (x .budget))
   -- the outcome is the strict run's
-  pub same : endedAs (x .budget) (run true (with .grammar) (with .rules) (x .tree) (x .budget)) ≡ ended e attempts replacements ws
+  pub same : endedAs (with .grammar) (x .budget) (run true (with .grammar) (with .rules) (with .tree) (x .budget)) ≡ ended e attempts replacements ws
   pub ends : WellEnded e
   pub few : attempts ≤ x .budget
-  -- "The filled words .. are one tree, in which the slip's rows above find nothing", and they fit in the result
-  pub one : accepted (readTree (with .grammar) ws) ≡ true
+  -- "The filled words .. are one tree, in which the slip's rows above find nothing", T-07: "What is found after a run now includes that every count is right";
+  -- and they fit in the result
+  pub one : accepted (readSlip (with .grammar) ws) ≡ true
   pub fits : length ws ≤ result
 
 -- an outcome is a refusal that the checks give, or such a run
@@ -89,7 +90,7 @@ pub record Fine (first before : Memories) (s : Step) : Type 0 where
   pub works : length (s .left .work) ≡ length (first .work)
   pub leaves : Leaves before (s .outcome) (s .left)
   -- "The words to post are the filled part of the result if the run was done, else the slip itself"
-  pub posts : output (isDone (s .outcome)) (length (filledBy (s .outcome))) (s .left .result) (s .inputs .tree) ≡ pick (isDone (s .outcome)) (filledBy (s .outcome)) (s .inputs .tree)
+  pub posts : output (isDone (s .outcome)) (length (filledBy (s .outcome))) (s .left .result) (s .inputs .slip) ≡ pick (isDone (s .outcome)) (filledBy (s .outcome)) (s .inputs .slip)
   pub sure : Sure (length (first .result)) (length (first .work)) (s .inputs) (s .outcome)
 
 -- word i after the outcomes, if it was w before: "each result word is as the last accepted run that filled it left it, or as at first"

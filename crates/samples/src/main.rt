@@ -1,4 +1,4 @@
-// Runs the checks of a grammar, a tree and a rule book on document 01's examples and on damaged ones, and prints each answer on a line.
+// Runs the checks of a grammar, a slip and a rule book on document 01's examples and on damaged ones, and prints each answer on a line.
 use words::Check;
 
 // `accepted`, or `refused`, the number and the position.
@@ -41,33 +41,60 @@ fn others() {
     check_grammar(&long);
 }
 
-// A tree of the paper's grammar.
-fn check_tree(ws: &[u32]) {
-    let c = tree::check_tree(&[3, 8, 1, 1, 1, 4, 2, 1, 2], ws);
+// A slip of the paper's grammar.
+fn check_slip(ws: &[u32]) {
+    let c = slips::check_slip(&[3, 8, 1, 1, 1, 4, 2, 1, 2], ws);
     print_answer(c);
 }
 
-// The paper's trees, and its variants of them.
-fn trees() {
-    check_tree(&[0, 0, 1, 0, 2, 200, 1, 0, 2, 500, 1, 1]);
-    check_tree(&[0, 0, 1, 1]);
-    check_tree(&[0, 0]);
-    check_tree(&[0, 0, 1, 0, 2, 200, 1, 0, 2, 500, 1, 1, 1, 1]);
-    check_tree(&[0, 0, 1, 0, 2, 4000000000, 1, 1]);
-    check_tree(&[0, 0, 1, 0, 2, 4000000001, 1, 1]);
-    check_tree(&[0, 0, 1, 2]);
-    check_tree(&[]);
+// The paper's slips, and its variants of them; wrong counts.
+fn papers_slips() {
+    check_slip(&[0, 0, 6, 1, 0, 5, 2, 200, 1, 1, 0, 3, 2, 500, 1, 1, 1, 1]);
+    check_slip(&[0, 0, 2, 1, 1, 1]);
+    check_slip(&[0, 0, 1]);
+    check_slip(
+        &[
+            0,
+            0,
+            6,
+            1,
+            0,
+            5,
+            2,
+            200,
+            1,
+            1,
+            0,
+            3,
+            2,
+            500,
+            1,
+            1,
+            1,
+            1,
+            1,
+            1,
+            1,
+        ],
+    );
+    check_slip(&[0, 0, 4, 1, 0, 3, 2, 4000000000, 1, 1, 1, 1]);
+    check_slip(&[0, 0, 4, 1, 0, 3, 2, 4000000001, 1, 1, 1, 1]);
+    check_slip(&[0, 0, 2, 1, 2, 1]);
+    check_slip(&[]);
+    check_slip(&[0, 0, 1, 1]);
+    check_slip(&[0, 0, 3, 1, 1, 1]);
+    check_slip(&[0, 0, 4, 1, 0, 2, 2, 200, 1, 1, 1, 0]);
 }
 
-// Opt in opt: a tree of 64 nodes is as deep as a tree may be, one of 65 is deeper.
+// Opt in opt, all counts 0: a slip of 64 nodes is as deep as a slip may be, so its first count is told; one of 65 is deeper, which is told before any count.
 fn nested() {
-    let mut ws = [0u32; 128];
-    ws[127] = 1;
-    let c = tree::check_tree(&[1, 2, 0], &ws);
+    let mut ws = [0u32; 192];
+    ws[190] = 1;
+    let c = slips::check_slip(&[1, 2, 0], &ws);
     print_answer(c);
-    let mut deeper = [0u32; 130];
-    deeper[129] = 1;
-    let d = tree::check_tree(&[1, 2, 0], &deeper);
+    let mut deeper = [0u32; 195];
+    deeper[193] = 1;
+    let d = slips::check_slip(&[1, 2, 0], &deeper);
     print_answer(d);
 }
 
@@ -92,7 +119,7 @@ fn books() {
 fn main() {
     paper();
     others();
-    trees();
+    papers_slips();
     nested();
     books();
 }

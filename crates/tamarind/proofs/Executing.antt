@@ -1,7 +1,7 @@
 -- A run that nothing refuses: what it leaves is what the meaning says. Assumes nothing.
 use Prim.Native.Nat.{ℕ, zero, suc, _-_, _*_, _/_, _≤_}
 use mathlib.Core.Path.{_≡_, refl, sym, ap, _∙_}
-use mathlib.Core.List.{[], _++_}
+use mathlib.Core.List.{[], _∷_, _++_}
 use mathlib.Core.Bool.{true, false}
 use native.Mathlib.Omega.{arith}
 use lib.ListN.{length, getD, take, drop, replicate}
@@ -9,8 +9,8 @@ use lib.Seq.{sets, take-at, length-take-le}
 use Rattle.words.specs.Reader.{Words, many, accepted}
 use Rattle.grammar.specs.Grammar.{Grammar, readGrammar}
 use Rattle.tables.specs.Tables.{readOf}
-use Rattle.tree.specs.Tree as Trees
-use Rattle.tree.proofs.Trees.{trees-even}
+use Rattle.tree.specs.Slip.{counted}
+use Rattle.tree.proofs.Slip.{counted-length}
 use Rattle.rules.specs.Rules.{Rules}
 use Rattle.rules.specs.Layout.{rule}
 use Rattle.typing.specs.Views.{positions}
@@ -20,18 +20,15 @@ use Rattle.meaning.specs.Meaning as M
 use Rattle.meaning.specs.Meaning.{Ending, done, stopped, cannotGoOn, total, calls, runFrom, run}
 use Rattle.meaning.specs.Outcome.{Inputs, ended, endedAs, outcomeOf, outcome, resultAfter, workAfter, filledBy}
 use Rattle.meaning.specs.Sound.{WellEnded, Sound}
-use Rattle.meaning.proofs.FromWords.{Read-all, read-all, read-tree, read-typed, read-sound}
-use Rattle.marks.specs.Marked.{marked, unmarked}
-use Rattle.marks.specs.Post.{Written}
-use Rattle.marks.proofs.Marks.{marked-length}
-use Rattle.marks.proofs.Same.{unmark}
+use Rattle.meaning.proofs.FromWords.{Read-all, read-all, read-typed, read-sound}
+use Rattle.slips.specs.Slips.{SlipWritten}
 use Rattle.rewrite.specs.Vars.{Vars, EnvAt, startsOf}
 use Rattle.calls.specs.Engine.{givenOf, Setting, EndedAs, Tree, Left, Calls}
 use Rattle.calls.specs.declared.Called.{Called}
 use Rattle.tamarind.specs.declared.Stop.{Stop}
 use Rattle.tamarind.specs.declared.Outcome as Code
 use Rattle.tamarind.specs.declared.Outcome.the-variants.{Done, Stopped}
-use Rattle.tamarind.specs.Run.{numberOf, said, memories, Runs, Named, Laid, Answered, Accepted}
+use Rattle.tamarind.specs.Run.{numberOf, said, memories, RunsOver, Named, Answered, Accepted}
 
 -- THE ANSWER
 
@@ -64,36 +61,30 @@ no-variables g w vars e = rw e tt
 never-stuck : (e : Ending) → WellEnded e → e ≡ cannotGoOn → ⊥
 never-stuck e well z = rw z at well
 
-module _ (x : Inputs) (result work heads rows : Words) (a : Accepted x (length result) (length work) heads rows) where
+module _ (x : Inputs) (result w heads rows : Words) (a : Accepted x (length result) w heads rows) where
   abbrev g : Grammar
   g = a .with .grammar
 
   abbrev rules : Rules
   rules = a .with .rules
 
-  all : Read-all (length result) (length work) x (a .with)
-  all = read-all (length result) (length work) x (a .with) (a .next) (a .read)
-
-  tree : Trees.Tree g 0 (x .tree)
-  tree = read-tree (length result) (length work) x (a .with) all
+  all : Read-all (length result) (length w) x (a .with)
+  all = read-all (length result) (length w) x (a .with) (a .next) (a .read)
 
   -- the strict run, which is never stuck
   abbrev meant : M.Called
-  meant = run true g rules (x .tree) (x .budget)
+  meant = run true g rules (a .with .tree) (x .budget)
 
-  sound : Sound g 0 (x .budget) meant (run false g rules (x .tree) (x .budget))
-  sound = read-sound (length result) (length work) x (a .with) all
+  sound : Sound g 0 (x .budget) meant (run false g rules (a .with .tree) (x .budget))
+  sound = read-sound (length result) (length w) x (a .with) all
 
-  pub tree-fits : length (x .tree) ≤ length work
-  tree-fits = omega (arith, all .space, trees-even (tree .typed), tree .nodes)
+  pub tree-small : length (x .slip) / 3 ≤ 2048
+  tree-small = omega (arith, a .stands .nodes, a .stands .tree .nodes)
 
-  pub tree-small : length (x .tree) / 2 ≤ 2048
-  tree-small = omega (arith, trees-even (tree .typed), tree .nodes)
-
-  pub work-long : 16384 ≤ length work
+  pub work-long : 16384 ≤ length w
   work-long = all .space
 
-  pub result-long : 4096 ≤ length result
+  pub result-long : 6144 ≤ length result
   result-long = all .room
 
   module _ {types : ℕ} (et : types ≡ getD (x .grammar) 0 0) where
@@ -117,19 +108,19 @@ module _ (x : Inputs) (result work heads rows : Words) (a : Accepted x (length r
         setting = record { tables = a .tables; few = omega (arith, types-are .0, a .tables .rows-of .types); placed = read-placed g types (x .rules) rules (all .n) (types-are .0) (all .rules) en es }
 
         -- THE FIRST CALL is the strict run
-        module _ {w w′ : Words} (l : Laid heads rows (x .tree) work w) {vars : Vars} (none : vars .n ≡ 0) (c : Called) (k : Calls (givenOf heads rows types (x .rules) starts) w w′ main 0 (length (x .tree) / 2) vars 0 31 (initial (x .budget)) c) where
+        module _ {w′ : Words} {vars : Vars} (none : vars .n ≡ 0) (c : Called) (k : Calls (givenOf heads rows types (x .rules) starts) w w′ main 0 (length (x .slip) / 3) vars 0 31 (initial (x .budget)) c) where
           left : Left (givenOf heads rows types (x .rules) starts) w w′ g 0 c meant
           unfolding run runFrom total
           left =
-              let typed = read-typed (length result) (length work) x (a .with) all in
+              let typed = read-typed (length result) (length w) x (a .with) all in
               let p = setting .placed 0 (typed .first) (typed .there) .1 in
-              let same : meant ≡ M.call true g rules (calls true g rules 31) (typed .first) [] (x .tree) 0 (initial (x .budget)) = rw (typed .there) in
+              let same : meant ≡ M.call true g rules (calls true g rules 31) (typed .first) [] (a .with .tree) 0 (initial (x .budget)) = rw (typed .there) in
               let at : rule types (x .rules) main ≡ _ = ap (rule types (x .rules)) em ∙ p .1 in
-              let fine : M.call true g rules (calls true g rules 31) (typed .first) [] (x .tree) 0 (initial (x .budget)) .ending ≡ cannotGoOn → ⊥ = never-stuck _ (rw same at (sound .ends)) in
-              rw same (k .meant g rules (typed .first) (p .0) [] (x .tree) 0 setting at (no-variables g (take 0 w) vars none) refl (0, l .stands g 0 (a .tables) tree) fine .1)
+              let fine : M.call true g rules (calls true g rules 31) (typed .first) [] (a .with .tree) 0 (initial (x .budget)) .ending ≡ cannotGoOn → ⊥ = never-stuck _ (rw same at (sound .ends)) in
+              rw same (k .meant g rules (typed .first) (p .0) [] (a .with .tree) 0 setting at (no-variables g (take 0 w) vars none) refl (0, a .stands) fine .1)
 
-          pub call-long : length w′ ≡ length work
-          call-long = k .long ∙ l .long
+          pub call-long : length w′ ≡ length w
+          call-long = k .long
 
           filled-fits : 2 * c .nodes ≤ length w′
           filled-fits = omega (arith, k .few, call-long, work-long)
@@ -137,35 +128,33 @@ module _ (x : Inputs) (result work heads rows : Words) (a : Accepted x (length r
           pub part-long : 2 * c .nodes ≡ length (take (2 * c .nodes) w′)
           part-long = sym (length-take-le (2 * c .nodes) w′ filled-fits)
 
-          pub part-fits : length (take (2 * c .nodes) w′) ≤ length result
+          pub part-fits : 3 * (length (take (2 * c .nodes) w′) / 2) ≤ length result
           part-fits = omega (arith, part-long, k .few, result-long)
 
-          -- what stands there is written to the result
-          module _ {result′ work′ : Words} (written : Written (take (2 * c .nodes) w′) result result′) (cleared : work′ ≡ replicate (length w′) 0) where
-            scope-long : length (meant .scope) ≡ 2 * c .nodes
-            scope-long = let s = left .3 .1 in omega (arith, trees-even (s .tree .typed), s .nodes)
+          -- what stands there is written to the result, with its counts
+          module _ {result′ work′ : Words} (written : SlipWritten (take (2 * c .nodes) w′) result result′) (cleared : work′ ≡ replicate (length w′) 0) where
+            abbrev filled : Words
+            filled = counted g (meant .scope)
 
-            result-is : result′ ≡ meant .scope ++ drop (length (meant .scope)) result
-            result-is =
-                let s = left .3 .1 in
-                let part : take (2 * c .nodes) w′ ≡ marked g (meant .scope) = s .words in
-                let long : length (take (2 * c .nodes) w′) ≡ length (meant .scope) = ap length part ∙ marked-length g (meant .scope) in
-                written .words (c .nodes) (long ∙ scope-long) ∙ ap (λ i. unmarked i ++ drop (length (take (2 * c .nodes) w′)) result) part
-                ∙ ap (λ i. i ++ drop (length (take (2 * c .nodes) w′)) result) (unmark (a .tables .rows-of .types) (s .tree .typed)) ∙ ap (λ i. meant .scope ++ drop i result) long
+            filled-long : length filled ≡ 3 * c .nodes
+            filled-long = let s = left .3 .1 in counted-length g (meant .scope) ∙ ap (λ i. 3 * i) (s .nodes)
 
-            filled-is : take (2 * c .nodes) result′ ≡ meant .scope
-            filled-is = ap (take (2 * c .nodes)) result-is ∙ take-at (meant .scope) (drop (length (meant .scope)) result) (2 * c .nodes) scope-long
+            result-is : result′ ≡ filled ++ drop (length filled) result
+            result-is = let s = left .3 .1 in written .words g (left .3 .0 ∷ []) (meant .scope) (a .tables .rows-of .types) (s .tree .typed) (s .tree .nodes) (s .words)
 
-            pub executed : {r : Code.Outcome} → Answered c (x .budget) (2 * c .nodes) r → Runs x (memories result work) r (memories result′ work′)
+            filled-is : take (3 * c .nodes) result′ ≡ filled
+            filled-is = ap (take (3 * c .nodes)) result-is ∙ take-at filled (drop (length filled) result) (3 * c .nodes) filled-long
+
+            pub executed : {r : Code.Outcome} → Answered c (x .budget) (3 * c .nodes) r → RunsOver x result (length w) r (memories result′ work′)
             unfolding outcome outcomeOf endedAs resultAfter workAfter filledBy
-            executed {r} h =
-                let e : said r result′ ≡ endedAs (x .budget) meant =
+            executed {r} h work same =
+                let e : said r result′ ≡ endedAs g (x .budget) meant =
                 h .says (meant .ending) result′ (left .0) (sound .ends) ∙ rw (left .1, left .2, filled-is) in
                 record {
                   ran = record {
-                    outcome = e ∙ rw (a .read, sound .agree);
+                    outcome = e ∙ rw (same, a .read, sound .agree);
                     result = rw e result-is;
-                    work = rw e (cleared ∙ ap (λ i. replicate i 0) call-long);
+                    work = rw e (cleared ∙ ap (λ i. replicate i 0) (call-long ∙ sym same));
                   };
-                  filled = h .filled-is ∙ sym scope-long ∙ rw e;
+                  filled = h .filled-is ∙ sym filled-long ∙ rw e;
                 }

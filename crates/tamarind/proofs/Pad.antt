@@ -92,8 +92,8 @@ module _ (o : Meant.Outcome) (r : RunAnswer) (is : r ≡ exportedRun o) where
     filled-is : filledWords r after ≡ filledBy o
     filled-is = rw (is, filled-count o, leaves) (filled-from o (before .result))
 
-    posts : (tree : Words) → output (isDone o) (length (filledBy o)) (after .result) tree ≡ pick (isDone o) (filledBy o) tree → output (wasDone r) (r .filled) (after .result) tree ≡ pick (wasDone r) (filledWords r after) tree
-    posts tree e = rw (filled-is, is, done-exactly o, filled-count o) e
+    posts : (slip : Words) → output (isDone o) (length (filledBy o)) (after .result) slip ≡ pick (isDone o) (filledBy o) slip → output (wasDone r) (r .filled) (after .result) slip ≡ pick (wasDone r) (filledWords r after) slip
+    posts slip e = rw (filled-is, is, done-exactly o, filled-count o) e
 
 -- ONE RUN
 
@@ -132,7 +132,7 @@ own first before r h fine =
     record {
       alone = alone (r .by) (r .inputs) first before (r .answer) (r .left) h fine;
       ends = ends o a is (length (first .result)) (length (first .work)) (r .inputs) (fine .sure);
-      posts = posts o a is before (r .left) (ran (r .by) (r .inputs) before (r .answer) (r .left) h .result) (r .inputs .tree) (fine .posts);
+      posts = posts o a is before (r .left) (ran (r .by) (r .inputs) before (r .answer) (r .left) h .result) (r .inputs .slip) (fine .posts);
     }
 
 -- THE LIST

@@ -1,4 +1,4 @@
--- THE WORDS TO POST: the choice between the result and the tree is one test, and what a posting names is what `words_to_post` hands back. Assumes nothing.
+-- THE WORDS TO POST: the choice between the result and the slip is one test, and what a posting names is what `words_to_post` hands back. Assumes nothing.
 use Prim.Native.Nat.{ℕ, _≤_}
 use mathlib.Core.Path.{_≡_, refl, sym, _∙_}
 use mathlib.Core.Bool.{Bool, true, false}
@@ -30,31 +30,31 @@ module _ (wasDone : Bool) (filled resultLength : ℕ) where
 -- THE WORDS, by the test
 
 module _ (wasDone : Bool) (filled : ℕ) (result : Words) {b : Bool} (is : b ≡ postsResult wasDone filled (length result)) where
-  pub result-posted : (tree : Words) → b ≡ true → take filled result ≡ output wasDone filled result tree
+  pub result-posted : (slip : Words) → b ≡ true → take filled result ≡ output wasDone filled result slip
   unfolding output postsResult
-  result-posted tree t = rw (sym is ∙ t)
+  result-posted slip t = rw (sym is ∙ t)
 
-  pub tree-posted : (tree : Words) → b ≡ false → tree ≡ output wasDone filled result tree
+  pub slip-posted : (slip : Words) → b ≡ false → slip ≡ output wasDone filled result slip
   unfolding output postsResult
-  tree-posted tree f = rw (sym is ∙ f)
+  slip-posted slip f = rw (sym is ∙ f)
 
 -- WHERE THEY STAND, by the test
 
-module _ (ending filled resultLength treeLength : ℕ) {b : Bool} (is : b ≡ postsResult (eqb ending 0) filled resultLength) where
-  pub names-result : b ≡ true → record { source = 1; words = filled } ≡ posting ending filled resultLength treeLength
+module _ (ending filled resultLength slipLength : ℕ) {b : Bool} (is : b ≡ postsResult (eqb ending 0) filled resultLength) where
+  pub names-result : b ≡ true → record { source = 1; words = filled } ≡ posting ending filled resultLength slipLength
   unfolding posting
   names-result t = rw (sym is ∙ t)
 
-  pub names-tree : b ≡ false → record { source = 0; words = treeLength } ≡ posting ending filled resultLength treeLength
+  pub names-slip : b ≡ false → record { source = 0; words = slipLength } ≡ posting ending filled resultLength slipLength
   unfolding posting
-  names-tree f = rw (sym is ∙ f)
+  names-slip f = rw (sym is ∙ f)
 
-module _ (ending filled : ℕ) (result tree : Words) where
-  by-test : (b : Bool) → b ≡ postsResult (eqb ending 0) filled (length result) → Posts ending filled result tree (pick b (record { source = 1; words = filled }) (record { source = 0; words = length tree }))
-  by-test true is = record { there = result-there (eqb ending 0) filled (length result) is refl; posted = result-posted (eqb ending 0) filled result is tree refl }
-  by-test false is = record { there = omega arith; posted = take-length tree ∙ tree-posted (eqb ending 0) filled result is tree refl }
+module _ (ending filled : ℕ) (result slip : Words) where
+  by-test : (b : Bool) → b ≡ postsResult (eqb ending 0) filled (length result) → Posts ending filled result slip (pick b (record { source = 1; words = filled }) (record { source = 0; words = length slip }))
+  by-test true is = record { there = result-there (eqb ending 0) filled (length result) is refl; posted = result-posted (eqb ending 0) filled result is slip refl }
+  by-test false is = record { there = omega arith; posted = take-length slip ∙ slip-posted (eqb ending 0) filled result is slip refl }
 
 -- THE LAW: they are the same words
 pub posts-output : PostsOutput
 unfolding posting
-posts-output ending filled result tree = by-test ending filled result tree (postsResult (eqb ending 0) filled (length result)) refl
+posts-output ending filled result slip = by-test ending filled result slip (postsResult (eqb ending 0) filled (length result)) refl

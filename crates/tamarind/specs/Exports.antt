@@ -69,24 +69,25 @@ unfoldable pub postsResult : Bool → ℕ → ℕ → Bool
 postsResult wasDone filled resultLength = and wasDone (leb filled resultLength)
 
 -- "The words to post are the filled part of the result if the run was done, else the slip itself; a filled count past the result's end also gives the slip", from
--- the ending, the filled count and the lengths of the result and the tree: the source is 1 for the result and 0 for the tree, and so many of its words from word 0
+-- the ending, the filled count and the lengths of the result and the slip: the source is 1 for the result and 0 for the slip, and so many of its words from word 0
 unfoldable pub posting : ℕ → ℕ → ℕ → ℕ → Posting
-posting ending filled resultLength treeLength =
-    pick (postsResult (eqb ending 0) filled resultLength) (record { source = 1; words = filled }) (record { source = 0; words = treeLength })
+posting ending filled resultLength slipLength =
+    pick (postsResult (eqb ending 0) filled resultLength) (record { source = 1; words = filled }) (record { source = 0; words = slipLength })
 
 -- the memory that a posting's source names
 abbrev pub sourceOf : Posting → Words → Words → Words
-sourceOf p result tree = pick (eqb (p .source) 1) result tree
+sourceOf p result slip = pick (eqb (p .source) 1) result slip
 
 -- all the words that a posting names are there, and they are those that `words_to_post` hands back
-pub record Posts (ending filled : ℕ) (result tree : Words) (p : Posting) : Type 0 where
-  pub there : p .words ≤ length (sourceOf p result tree)
-  pub posted : take (p .words) (sourceOf p result tree) ≡ output (eqb ending 0) filled result tree
+pub record Posts (ending filled : ℕ) (result slip : Words) (p : Posting) : Type 0 where
+  pub there : p .words ≤ length (sourceOf p result slip)
+  pub posted : take (p .words) (sourceOf p result slip) ≡ output (eqb ending 0) filled result slip
 
--- THE LAW of `posting`, given the lengths of a result and a tree; proofs/Posted.antt proves it
+-- THE LAW of `posting`, given the lengths of a result and a slip; proofs/Posted.antt proves it
 abbrev pub PostsOutput : Type 0
-PostsOutput = (ending filled : ℕ) (result tree : Words) → Posts ending filled result tree (posting ending filled (length result) (length tree))
+PostsOutput = (ending filled : ℕ) (result slip : Words) → Posts ending filled result slip (posting ending filled (length result) (length slip))
 
--- THE EDITION of the exported functions: 0 is document 01, and a change request that a caller can see sets its own number: 1 is T-01, 2 is T-02, 4 is T-04, 5 is T-05
+-- THE EDITION of the exported functions: 0 is document 01, and a change request that a caller can see sets its own number: 1 is T-01, 2 is T-02, 4 is T-04, 5 is T-05,
+-- 6 is T-06, 7 is T-07
 abbrev pub edition : ℕ
-edition = 6
+edition = 7

@@ -69,7 +69,7 @@ pub record Own (first before : Memories) (r : PadRun) : Type 0 where
   -- done, stopped or refused: the ending 3, of a step that the meaning cannot continue, never stands
   pub ends : fields (r .by) (r .answer) .ending ≤ 2
   -- what `words_to_post` hands back and `tamarind_words_to_post` names (Exports.antt, `PostsOutput`): "the filled part of the result if the run was done, else the slip itself"
-  pub posts : let a = fields (r .by) (r .answer) in output (wasDone a) (a .filled) (r .left .result) (r .inputs .tree) ≡ pick (wasDone a) (filledWords a (r .left)) (r .inputs .tree)
+  pub posts : let a = fields (r .by) (r .answer) in output (wasDone a) (a .filled) (r .left .result) (r .inputs .slip) ≡ pick (wasDone a) (filledWords a (r .left)) (r .inputs .slip)
 
 -- a run as a step of the meaning's list
 abbrev pub stepFor : PadRun → Step

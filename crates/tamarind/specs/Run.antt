@@ -6,10 +6,11 @@ use lib.ListN.{length, take}
 use Rattle.words.specs.Reader.{Words, Read, value, andThen, return, accepted}
 use Rattle.words.specs.Views.{answer}
 use Rattle.words.specs.declared.Check.{Check}
+use Rattle.words.specs.declared.Check.the-variants as Check
 use Rattle.grammar.specs.Grammar.{Grammar, readGrammar}
 use Rattle.tables.specs.Tables.{Tables, readOf}
-use Rattle.tree.specs.Tree.{Tree}
-use Rattle.tree.specs.Reading.{readTree}
+use Rattle.tree.specs.Slip.{readSlip}
+use Rattle.tree.specs.Views.{InTables}
 use Rattle.judgement.specs.Typing.{readRules}
 use Rattle.meaning.specs.Meaning.{Ending, done, stopped}
 use Rattle.meaning.specs.Sound.{WellEnded}
@@ -56,7 +57,7 @@ filledOf (Stopped s c) = c .filled
 
 -- "a budget and a grammar, book and slip"
 abbrev pub inputsOf : ℕ → Words → Words → Words → Inputs
-inputsOf budget grammar rules tree = record { budget = budget; grammar = grammar; rules = rules; tree = tree }
+inputsOf budget grammar rules slip = record { budget = budget; grammar = grammar; rules = rules; slip = slip }
 
 -- the two memories
 abbrev pub memories : Words → Words → Memories
@@ -81,30 +82,40 @@ Named n s = 40 ≤ n → n ≤ 45 → numberOf s ≡ n
 
 -- "Places go from the top": after the call's own row the grammar, the book and the slip
 abbrev pub readInputs : Words → Words → Words → Read Decoded
-readInputs grammar rules tree =
+readInputs grammar rules slip =
     andThen (readGrammar grammar) (λ g next.
     andThen (readRules g rules) (λ rs next.
-    andThen (readTree g tree) (λ u.
-    return (record { grammar = g; rules = rs }))))
+    andThen (readSlip g slip) (λ tree.
+    return (record { grammar = g; rules = rs; tree = tree }))))
 
--- all three are read, and where nothing is refused the tables are the grammar's
-pub record InputsRead (grammar rules tree heads rows : Words) (r : Check) : Type 0 where
-  pub answered : r ≡ answer (readInputs grammar rules tree)
-  pub tables : accepted (readInputs grammar rules tree) ≡ true → Tables (readOf (readGrammar grammar)) heads rows
-
--- the tree stands at the bottom of work memory, marked
-pub record Laid (heads rows tree w w′ : Words) : Type 0 where
+-- the slip is read; where nothing is refused its tree stands at the bottom of work memory, marked, and a refusal changes nothing
+pub record SlipLaid (heads rows slip w w′ : Words) (r : Check) : Type 0 where
+  pub answered : InTables heads rows (λ g. r ≡ answer (readSlip g slip))
   pub long : length w′ ≡ length w
-  pub stands : (g : Grammar) (t : ℕ) → Tables g heads rows → Tree g t tree → Standing g w′ 0 (length tree / 2) t tree
+  pub kept : {n p : ℕ} → r ≡ Check.Refused n p → w′ ≡ w
+  pub stands : (g : Grammar) (tree : Words) (next : ℕ) → Tables g heads rows → readSlip g slip ≡ value tree next → Standing g w′ 0 (length slip / 3) 0 tree
+
+-- all three are read; where nothing is refused the tables are the grammar's and the slip's tree is laid, and a refusal changes nothing
+pub record InputsRead (grammar rules slip heads rows w w′ : Words) (r : Check) : Type 0 where
+  pub answered : r ≡ answer (readInputs grammar rules slip)
+  pub long : length w′ ≡ length w
+  pub kept : {n p : ℕ} → r ≡ Check.Refused n p → w′ ≡ w
+  pub tables : (d : Decoded) (next : ℕ) → readInputs grammar rules slip ≡ value d next → Tables (d .grammar) heads rows
+  pub stands : (d : Decoded) (next : ℕ) → readInputs grammar rules slip ≡ value d next → Standing (d .grammar) w′ 0 (length slip / 3) 0 (d .tree)
 
 -- the answer says how the first call ended, and what it counted
 pub record Answered (c : Called) (budget filled : ℕ) (r : Code.Outcome) : Type 0 where
   pub says : (e : Ending) (result : Words) → EndedAs (c .stop) e → WellEnded e → said r result ≡ ended e (budget - c .left .attempts) (c .replacements) (take filled result)
   pub filled-is : filledOf r ≡ filled
 
--- nothing is refused, and these are the grammar's tables
-pub record Accepted (x : Inputs) (result work : ℕ) (heads rows : Words) : Type 0 where
+-- nothing is refused, these are the grammar's tables, and the slip's tree stands at the bottom of the work memory w
+pub record Accepted (x : Inputs) (result : ℕ) (w heads rows : Words) : Type 0 where
   pub with : Decoded
   pub next : ℕ
-  pub read : decode result work x ≡ value with next
+  pub read : decode result (length w) x ≡ value with next
   pub tables : Tables (with .grammar) heads rows
+  pub stands : Standing (with .grammar) w 0 (length (x .slip) / 3) 0 (with .tree)
+
+-- the run, whatever a work memory of that length held before the tree was laid there
+abbrev pub RunsOver : Inputs → Words → ℕ → Code.Outcome → Memories → Type 0
+RunsOver x result n r after = (work : Words) → length work ≡ n → Runs x (memories result work) r after

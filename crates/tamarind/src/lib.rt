@@ -4,6 +4,7 @@ use meaning::State;
 use rules::limits::MOST_VARIABLES;
 use tables::HEADS;
 use tables::ROWS;
+use tree::limits::MOST_WORDS;
 use words::Check;
 ghost use mathlib.Core.Path.{_≡_};
 ghost use mathlib.Core.List.{_++_};
@@ -12,10 +13,13 @@ ghost use lib.ListN.{length, drop, replicate};
 ghost use Rattle.words.specs.Reader.{Words};
 ghost use Rattle.words.specs.Views.{answer};
 ghost use Rattle.grammar.specs.Grammar.{checkGrammar};
-ghost use Rattle.tree.specs.Reading.{checkTree};
+ghost use Rattle.tree.specs.Slip.{checkSlip};
+ghost use Rattle.tree.specs.Limits.{mostTreeWords};
+ghost use Rattle.tree.specs.Views.{AreTables};
 ghost use Rattle.judgement.specs.Typing.{checkRules};
+ghost use Rattle.meaning.specs.Limits.{leastWork};
 ghost use Rattle.meaning.specs.Outcome.{callFits, output};
-ghost use Rattle.tamarind.specs.Run.{numberOf, inputsOf, memories, Runs, Named, InputsRead, Laid, Answered, Accepted};
+ghost use Rattle.tamarind.specs.Run.{numberOf, inputsOf, memories, Runs, RunsOver, Named, SlipLaid, InputsRead, Answered, Accepted};
 ghost use Rattle.tamarind.specs.Exports.{exported, exportedCheck, exportedCounts, exportedOutcome, RunExported, postsResult, posting, edition};
 
 // A single check's answer: the number of the refusal and its position; 0 and 0 where nothing is refused.
@@ -50,12 +54,12 @@ pub extern "C" fn tamarind_check_grammar(grammar: &[u32]) -> Answer
     export(c)
 }
 
-// The single check of a tree, given its grammar.
+// The single check of a slip, given its grammar.
 #[no_mangle]
-pub extern "C" fn tamarind_check_tree(grammar: &[u32], tree: &[u32]) -> Answer
-    ensures { λ r. ⌜ r ≡ exported (checkTree (now (grammar .entry)) (now (tree .entry))) ⌝ }
+pub extern "C" fn tamarind_check_slip(grammar: &[u32], slip: &[u32]) -> Answer
+    ensures { λ r. ⌜ r ≡ exported (checkSlip (now (grammar .entry)) (now (slip .entry))) ⌝ }
 {
-    let c = tree::check_tree(grammar, tree);
+    let c = slips::check_slip(grammar, slip);
     export(c)
 }
 
@@ -68,7 +72,7 @@ pub extern "C" fn tamarind_check_rules(grammar: &[u32], rules: &[u32]) -> Answer
     export(c)
 }
 
-const LEAST_RESULT: usize = 4096;
+const LEAST_RESULT: usize = 6144;
 
 const LEAST_WORK: usize = 16384;
 
@@ -130,7 +134,7 @@ fn cause(number: u32) -> Stop
 
 // The check of the call itself: 1 to 5.
 fn call_fits(result: usize, work: usize, budget: u32, grammar: &[u32], rules: &[u32]) -> Check
-    ensures { λ r. ⌜ ((tree : Words) → r ≡ answer (callFits result work (inputsOf budget (now (grammar .entry)) (now (rules .entry)) tree) 0)) ⌝ }
+    ensures { λ r. ⌜ ((slip : Words) → r ≡ answer (callFits result work (inputsOf budget (now (grammar .entry)) (now (rules .entry)) slip) 0)) ⌝ }
 {
     if result < LEAST_RESULT {
         return Check::Refused(1, 0);
@@ -153,32 +157,6 @@ fn call_fits(result: usize, work: usize, budget: u32, grammar: &[u32], rules: &[
     Check::Passed(0)
 }
 
-// The checks of the grammar, the rules and the tree, in this order; the grammar's tables are filled on the way.
-fn read_inputs(
-    grammar: &[u32],
-    rules: &[u32],
-    tree: &[u32],
-    heads: &mut [u32; HEADS],
-    rows: &mut [u8; ROWS],
-) -> Check
-    requires { ⌜ (now heads ≡ replicate 128 0) × (now rows ≡ replicate 9216 0) × (length (now rules) < 2 ^ 32) ⌝ }
-    ensures { λ r. ⌜ InputsRead (now (grammar .entry)) (now (rules .entry)) (now (tree .entry)) (now (heads .exit)) (now (rows .exit)) r ⌝ }
-{
-    let c = grammar::read_grammar(grammar);
-    match c {
-        Check::Refused(no, p) => Check::Refused(no, p),
-        Check::Passed(_) => {
-            tables::fill(grammar, heads, rows);
-            let types = words::word(grammar, 0);
-            let d = typing::read_rules(heads, rows, types, rules);
-            match d {
-                Check::Refused(no, p) => Check::Refused(no, p),
-                Check::Passed(_) => tree::read_tree(heads, rows, tree),
-            }
-        }
-    }
-}
-
 // Copies the tree to the bottom of work memory.
 fn load(tree: &[u32], work: &mut [u32])
     requires { ⌜ length (now tree) ≤ length (now work) ⌝ }
@@ -191,14 +169,50 @@ fn load(tree: &[u32], work: &mut [u32])
     }
 }
 
-// Puts the tree at the bottom of work memory, marked.
-fn lay_tree(heads: &[u32; HEADS], rows: &[u8; ROWS], tree: &[u32], work: &mut [u32])
-    requires { ⌜ length (now tree) ≤ length (now work) ⌝ }
-    ensures { λ _. ⌜ Laid (now (heads .entry)) (now (rows .entry)) (now (tree .entry)) (now (work .entry)) (now (work .exit)) ⌝ }
+// The check of the slip. Where nothing is refused, its tree stands at the bottom of work memory, marked; a refusal changes nothing, so the tree is read beside it.
+// The buffer is gone before the first call, whose stack is the run's.
+fn lay_slip(heads: &[u32; HEADS], rows: &[u8; ROWS], slip: &[u32], work: &mut [u32]) -> Check
+    requires { ⌜ AreTables (now heads) (now rows) × (mostTreeWords ≤ length (now work)) ⌝ }
+    ensures { λ r. ⌜ SlipLaid (now (heads .entry)) (now (rows .entry)) (now (slip .entry)) (now (work .entry)) (now (work .exit)) r ⌝ }
 {
-    let end = tree.len();
-    load(tree, work);
-    marks::mark_tree(heads, rows, work, 0, end);
+    let mut buffer = [0u32; MOST_WORDS];
+    let c = slips::read_slip(heads, rows, slip, &mut buffer);
+    match c {
+        Check::Refused(no, p) => Check::Refused(no, p),
+        Check::Passed(p) => {
+            let end = 2 * (slip.len() / 3);
+            let tree = &buffer[..];
+            load(&tree[..end], work);
+            Check::Passed(p)
+        }
+    }
+}
+
+// The checks of the grammar, the rules and the slip, in this order. The grammar's tables are filled on the way, and the slip's tree is laid at the last.
+fn read_inputs(
+    grammar: &[u32],
+    rules: &[u32],
+    slip: &[u32],
+    heads: &mut [u32; HEADS],
+    rows: &mut [u8; ROWS],
+    work: &mut [u32],
+) -> Check
+    requires { ⌜ (now heads ≡ replicate 128 0) × (now rows ≡ replicate 9216 0) × (length (now rules) < 2 ^ 32) × (leastWork ≤ length (now work)) ⌝ }
+    ensures { λ r. ⌜ InputsRead (now (grammar .entry)) (now (rules .entry)) (now (slip .entry)) (now (heads .exit)) (now (rows .exit)) (now (work .entry)) (now (work .exit)) r ⌝ }
+{
+    let c = grammar::read_grammar(grammar);
+    match c {
+        Check::Refused(no, p) => Check::Refused(no, p),
+        Check::Passed(_) => {
+            tables::fill(grammar, heads, rows);
+            let types = words::word(grammar, 0);
+            let d = typing::read_rules(heads, rows, types, rules);
+            match d {
+                Check::Refused(no, p) => Check::Refused(no, p),
+                Check::Passed(_) => lay_slip(heads, rows, slip, work),
+            }
+        }
+    }
 }
 
 // The answer that the first call gives, with so many words filled.
@@ -218,26 +232,25 @@ fn answer_of(c: Called, budget: u32, filled: usize) -> Outcome
     Outcome::Stopped(cause(c.stop), counts)
 }
 
-// Runs what nothing refuses: the main rule on the tree.
+// Runs what nothing refuses: the main rule on the slip's tree, which stands at the bottom of work memory.
 fn execute(
     grammar: &[u32],
     heads: &[u32; HEADS],
     rows: &[u8; ROWS],
     rules: &[u32],
-    tree: &[u32],
+    slip: &[u32],
     budget: u32,
     result: &mut [u32],
     work: &mut [u32],
 ) -> Outcome
-    requires { ⌜ Accepted (inputsOf budget (now grammar) (now rules) (now tree)) (length (now result)) (length (now work)) (now heads) (now rows) ⌝ }
-    ensures { λ r. ⌜ Runs (inputsOf budget (now (grammar .entry)) (now (rules .entry)) (now (tree .entry))) (memories (now (result .entry)) (now (work .entry))) r (memories (now (result .exit)) (now (work .exit))) ⌝ }
+    requires { ⌜ Accepted (inputsOf budget (now grammar) (now rules) (now slip)) (length (now result)) (now work) (now heads) (now rows) ⌝ }
+    ensures { λ r. ⌜ RunsOver (inputsOf budget (now (grammar .entry)) (now (rules .entry)) (now (slip .entry))) (now (result .entry)) (length (now (work .entry))) r (memories (now (result .exit)) (now (work .exit))) ⌝ }
 {
     let types = words::word(grammar, 0);
     let starts = typing::rule_starts(types, rules, words::word(rules, 0));
     let main = rules::rule_at(&starts, 0);
     // The main rule has no arguments.
     let mut places = [0u32; MOST_VARIABLES];
-    lay_tree(heads, rows, tree, work);
     let left = State { attempts: budget };
     let c = calls::call(
         heads,
@@ -248,30 +261,31 @@ fn execute(
         work,
         main,
         0,
-        tree.len() / 2,
+        slip.len() / 3,
         &mut places,
         0,
         0,
         MOST_CALLS - 1,
         left,
     );
-    let filled = 2 * c.nodes;
+    let end = 2 * c.nodes;
+    let filled = 3 * c.nodes;
     let scope = &work[..];
-    marks::write_result(&scope[..filled], result);
+    slips::write_slip(&scope[..end], result);
     words::clear(work);
     answer_of(c, budget, filled)
 }
 
-// A run: every check, then the main rule on the tree.
+// A run: every check, then the main rule on the slip's tree.
 pub fn run(
     grammar: &[u32],
     rules: &[u32],
-    tree: &[u32],
+    slip: &[u32],
     budget: u32,
     result: &mut [u32],
     work: &mut [u32],
 ) -> Outcome
-    ensures { λ r. ⌜ Runs (inputsOf budget (now (grammar .entry)) (now (rules .entry)) (now (tree .entry))) (memories (now (result .entry)) (now (work .entry))) r (memories (now (result .exit)) (now (work .exit))) ⌝ }
+    ensures { λ r. ⌜ Runs (inputsOf budget (now (grammar .entry)) (now (rules .entry)) (now (slip .entry))) (memories (now (result .entry)) (now (work .entry))) r (memories (now (result .exit)) (now (work .exit))) ⌝ }
 {
     let f = call_fits(result.len(), work.len(), budget, grammar, rules);
     match f {
@@ -279,11 +293,11 @@ pub fn run(
         Check::Passed(_) => {
             let mut heads = [0u32; HEADS];
             let mut rows = [0u8; ROWS];
-            let c = read_inputs(grammar, rules, tree, &mut heads, &mut rows);
+            let c = read_inputs(grammar, rules, slip, &mut heads, &mut rows, work);
             match c {
                 Check::Refused(no, p) => Outcome::Refused(no, p),
                 Check::Passed(_) => {
-                    execute(grammar, &heads, &rows, rules, tree, budget, result, work)
+                    execute(grammar, &heads, &rows, rules, slip, budget, result, work)
                 }
             }
         }
@@ -300,18 +314,18 @@ fn posts_result(done: bool, filled: usize, result_len: usize) -> bool
     false
 }
 
-// The words to post: the filled part of the result if the run was done, else the tree; the tree also where the count lies past the result's end.
-pub fn words_to_post<'a>(done: bool, filled: usize, result: &'a [u32], tree: &'a [u32]) -> &'a [u32]
-    ensures { λ r. ⌜ now r ≡ output done filled (now (result .entry)) (now (tree .entry)) ⌝ }
+// The words to post: the filled part of the result if the run was done, else the slip; the slip also where the count lies past the result's end.
+pub fn words_to_post<'a>(done: bool, filled: usize, result: &'a [u32], slip: &'a [u32]) -> &'a [u32]
+    ensures { λ r. ⌜ now r ≡ output done filled (now (result .entry)) (now (slip .entry)) ⌝ }
 {
     if posts_result(done, filled, result.len()) {
         return &result[..filled];
     }
-    tree
+    slip
 }
 
 // The sources of a posting.
-const POST_TREE: u32 = 0;
+const POST_SLIP: u32 = 0;
 
 const POST_RESULT: u32 = 1;
 
@@ -328,9 +342,9 @@ pub extern "C" fn tamarind_words_to_post(
     ending: u32,
     filled: usize,
     result_len: usize,
-    tree_len: usize,
+    slip_len: usize,
 ) -> Posting
-    ensures { λ r. ⌜ r ≡ posting ending filled «result_len» «tree_len» ⌝ }
+    ensures { λ r. ⌜ r ≡ posting ending filled «result_len» «slip_len» ⌝ }
 {
     if posts_result(ending == 0, filled, result_len) {
         return Posting {
@@ -339,8 +353,8 @@ pub extern "C" fn tamarind_words_to_post(
         };
     }
     Posting {
-        source: POST_TREE,
-        words: tree_len,
+        source: POST_SLIP,
+        words: slip_len,
     }
 }
 
@@ -406,19 +420,19 @@ fn export_run(outcome: Outcome) -> RunAnswer
 pub extern "C" fn tamarind_run(
     grammar: &[u32],
     rules: &[u32],
-    tree: &[u32],
+    slip: &[u32],
     budget: u32,
     result: &mut [u32],
     work: &mut [u32],
 ) -> RunAnswer
-    ensures { λ r. ⌜ RunExported (inputsOf budget (now (grammar .entry)) (now (rules .entry)) (now (tree .entry))) (memories (now (result .entry)) (now (work .entry))) r (memories (now (result .exit)) (now (work .exit))) ⌝ }
+    ensures { λ r. ⌜ RunExported (inputsOf budget (now (grammar .entry)) (now (rules .entry)) (now (slip .entry))) (memories (now (result .entry)) (now (work .entry))) r (memories (now (result .exit)) (now (work .exit))) ⌝ }
 {
-    let r = run(grammar, rules, tree, budget, result, work);
+    let r = run(grammar, rules, slip, budget, result, work);
     export_run(r)
 }
 
 // The number of the last change request that a caller can see.
-const EDITION: u32 = 6;
+const EDITION: u32 = 7;
 
 // The edition of these functions: a caller asks whether it was written for this one.
 #[no_mangle]

@@ -6,17 +6,18 @@ use mathlib.Core.Bool.{Bool, true, false}
 use mathlib.Core.Option.{Option, none, some}
 use native.Mathlib.Omega.{arith}
 use lib.ListN.{length}
-use lib.Dec.{leb, eqb}
+use lib.Dec.{ltb, leb, eqb}
 use borrow.Author.Tests.{leb-true, leb-false, le-leb, lt-leb, eqb-true, eq-eqb}
 use Rattle.words.specs.Reader.{Words, pick, and, between, Read, value, refused, andThen, _>>_, require, accepted}
+use Rattle.words.proofs.Laws.{require-value}
 use Rattle.grammar.specs.Grammar.{Grammar}
 use Rattle.grammar.specs.Kinds.{allowed, children}
 use Rattle.tree.specs.Limits.{mostTreeWords, mostNodes, mostNesting}
 use Rattle.tree.specs.Tree.{levels, areTrees, nestingFrom, nesting, size, isTree, Tree}
-use Rattle.tree.specs.Dues.{firstWord, secondWord, leaves, whole}
+use Rattle.tree.specs.Dues.{Next, firstWord, secondWord, leaves, pairs, whole}
 use Rattle.tree.specs.Reading.{Due, tree, duesOf, meetsNode, readTreeOf, readTree}
 use Rattle.tree.proofs.Trees.{levels-length, more-length, trees-even, tree-some, pass-trees, tree-passes, passes-tree}
-use Rattle.tree.proofs.Dues.{plain, placed, done, bind, Steady, leaves-steady, require-steady, exact, whole-exact}
+use Rattle.tree.proofs.Dues.{plain, placed, done, bind, Steady, leaves-steady, require-steady, steady-next, exact, pairs-forward, whole-exact}
 
 -- A NODE READS ONE PAIR, the same at every position
 pub node-steady : (g : Grammar) (d : Due) (u : Unit {0}) (t v : ℕ) → Steady (meetsNode g d u t v)
@@ -126,3 +127,56 @@ accepted-tree g t ws e = passes-tree ws (sym (tree-of-accepted g t ws) ∙ e)
 
 pub tree-is-accepted : {g : Grammar} {t : ℕ} {ws : Words} → Tree g t ws → accepted (readTreeOf g t ws) ≡ true
 tree-is-accepted {g} {t} {ws} x = tree-of-accepted g t ws ∙ tree-passes x
+
+-- what is read of a tree ends with its words
+pub tree-next : (g : Grammar) (t : ℕ) (ws : Words) {a : Unit {0}} {next : ℕ} → readTreeOf g t ws ≡ value a next → next ≡ length ws
+unfolding readTreeOf
+tree-next g t ws {a} {next} e =
+    let w = require-value (countTest (length ws)) 30 0 0 (λ u. whole (meetsNode g) 31 ws (tree 1 t ∷ []) tt) e .1 in
+    go (exact (meetsNode g) ws (tree 1 t ∷ []) tt) (sym (ap plain w) ∙ whole-exact (meetsNode g) 31 (node-steady g) ws (tree 1 t ∷ []) tt 0)
+  where
+    go : (o : Option (Unit {0})) → value a next ≡ placed o (0 + length ws) → next ≡ length ws
+    go none h = let z : _≡_ {A = ℕ} 0 1 = cc in absurd (omega arith)
+    go (some b) h = let z : next ≡ 0 + length ws = cc in omega arith
+
+-- WHERE A TREE IS REFUSED: within its words, or at their end
+
+node-refused : (g : Grammar) (d : Due) (u : Unit {0}) (t v at : ℕ) {n p : ℕ} → meetsNode g d u t v at ≡ refused n p → p ≤ at + 1
+unfolding meetsNode
+node-refused g (tree k d) u t v at {n} {p} e = go (eqb t d) (leb k mostNesting) (allowed g d v) e
+  where
+    go : (a b c : Bool) → andThen (firstWord a 32 at) (λ u. _>>_ (firstWord b 33) (_>>_ (secondWord c 32) (leaves {C = Unit {0}} tt (duesOf (levels g d v k) (children g d v))))) ≡ refused n p → p ≤ at + 1
+    go true true true e = let z : _≡_ {A = ℕ} 0 1 = cc in absurd (omega arith)
+    go true true false e = let z : at + 1 ≡ p = cc in omega arith
+    go true false c e = let z : at + 0 ≡ p = cc in omega arith
+    go false b c e = let z : at + 0 ≡ p = cc in omega arith
+
+pairs-refused : (g : Grammar) (ws : Words) (ds : List Due) (u : Unit {0}) (at : ℕ) {n p : ℕ} → pairs (meetsNode g) 31 ws ds u at ≡ refused n p → p ≤ at + length ws
+unfolding pairs
+pairs-refused g [] [] u at e = let z : _≡_ {A = ℕ} 0 1 = cc in absurd (omega arith)
+pairs-refused g [] (d ∷ ds) u at {n} {p} e = let z : at ≡ p = cc in omega arith
+pairs-refused g (t ∷ []) [] u at e = let z : _≡_ {A = ℕ} 0 1 = cc in absurd (omega arith)
+pairs-refused g (t ∷ []) (d ∷ ds) u at {n} {p} e = let z : at + 1 ≡ p = cc in omega arith
+pairs-refused g (t ∷ v ∷ ws) [] u at e = let z : _≡_ {A = ℕ} 0 1 = cc in absurd (omega arith)
+pairs-refused g (t ∷ v ∷ ws) (d ∷ ds) u at {n} {p} e = go (meetsNode g d u t v at) refl e (λ es w from q. pairs-refused g ws es w from q)
+  where
+    go : (q : Read (Next Due (Unit {0}))) → meetsNode g d u t v at ≡ q → andThen q (λ s. pairs (meetsNode g) 31 ws (s .dues ++ ds) (s .known)) ≡ refused n p
+        → ((es : List Due) (w : Unit {0}) (from : ℕ) → pairs (meetsNode g) 31 ws es w from ≡ refused n p → p ≤ from + length ws) → p ≤ at + length (t ∷ v ∷ ws)
+    go (value s m) h i rest = omega (arith, steady-next (meetsNode g d u t v) (node-steady g d u t v) at s m h, rest (s .dues ++ ds) (s .known) m i)
+    go (refused o m) h i rest = let z : m ≡ p = cc in omega (arith, node-refused g d u t v at h)
+
+pub tree-refused-within : (g : Grammar) (t : ℕ) (ws : Words) {n p : ℕ} → readTreeOf g t ws ≡ refused n p → p ≤ length ws
+unfolding readTreeOf whole
+tree-refused-within g t ws {n} {p} e = counts (countTest (length ws)) e
+  where
+    left : (b : Bool) (u : Unit {0}) (next : ℕ) → next ≤ 0 + length ws → pick b (refused 31 next) (value u next) ≡ refused n p → p ≤ length ws
+    left true u next h i = let z : next ≡ p = cc in omega arith
+    left false u next h i = let z : _≡_ {A = ℕ} 0 1 = cc in absurd (omega arith)
+
+    all-of : (q : Read (Unit {0})) → pairs (meetsNode g) 31 ws (tree 1 t ∷ []) tt 0 ≡ q → andThen q (λ known next. pick (ltb next (0 + length ws)) (refused 31 next) (value known next)) ≡ refused n p → p ≤ length ws
+    all-of (value u next) h i = left (ltb next (0 + length ws)) u next (pairs-forward (meetsNode g) 31 (node-steady g) ws (tree 1 t ∷ []) tt 0 u next h .1) i
+    all-of (refused o m) h i = let z : m ≡ p = cc in omega (arith, pairs-refused g ws (tree 1 t ∷ []) tt 0 h)
+
+    counts : (b : Bool) → andThen (require b 30 0 0) (λ u. whole (meetsNode g) 31 ws (tree 1 t ∷ []) tt) ≡ refused n p → p ≤ length ws
+    counts true i = all-of (pairs (meetsNode g) 31 ws (tree 1 t ∷ []) tt 0) refl i
+    counts false i = let z : 0 + 0 ≡ p = cc in omega arith

@@ -9,5 +9,5 @@ pub mod Dues
 pub mod Accepted
 pub mod Reading
 pub mod Ends
-pub mod Check
+pub mod Slip
 pub mod Owed

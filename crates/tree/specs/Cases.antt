@@ -1,10 +1,11 @@
--- The single check's definition, run: document 01's cases of the slip's rows, each refusal's number and position, and which of two comes first.
+-- The reader of a tree, run, with the grammar's check before it: document 01's cases of the slip's rows in its own edition of two words a node, each refusal's
+-- number and position, and which of two comes first. CasesSlip.antt has those that T-07 moves, with counts.
 -- Assumes nothing.
 use mathlib.Core.Path.{_≡_, refl}
 use mathlib.Core.List.{List, [], _∷_, _++_, map}
 use Prim.Native.Nat.{ℕ, zero, suc}
 use lib.ListN.{drop}
-use Rattle.words.specs.Reader.{Words, word, wordIn, many, end}
+use Rattle.words.specs.Reader.{Words, andThen, word, wordIn, many, end}
 use Rattle.words.specs.Views.{answer}
 use Rattle.words.specs.declared.Check.{Check}
 use Rattle.words.specs.declared.Check.the-variants.{Passed, Refused}
@@ -13,7 +14,7 @@ use Rattle.grammar.specs.Kinds.{kindOf, allows, allowed, childrenOf, children}
 use Rattle.tree.specs.Tree.{levelsOf, levels}
 use Rattle.tree.specs.Dues.{pairs, whole}
 use Rattle.tree.specs.Owed.{owed}
-use Rattle.tree.specs.Reading.{duesOf, meetsNode, readTreeOf, checkTree}
+use Rattle.tree.specs.Reading.{duesOf, meetsNode, readTreeOf, readTree}
 
 -- program of repeat number
 numbers : Words
@@ -51,7 +52,7 @@ deep : ℕ → Words → Words
 deep n b = times n (0 ∷ 0 ∷ 1 ∷ 0 ∷ []) b
 
 run : Words × Words → Check
-run p = answer (checkTree (p .0) (p .1))
+run p = answer (andThen (checkGrammar (p .0)) (λ g next. readTree g (p .1)))
 
 inputs : List (Words × Words)
 inputs =
@@ -157,7 +158,7 @@ outputs =
     ∷ []
 
 right : map run inputs ≡ outputs
-unfolding word wordIn many end typesOf field element form kind grammar allKnown anyFormKnown finishes round rounds finite finiteRecords readGrammar grammarFits checkGrammar kindOf allows allowed childrenOf children levelsOf levels pairs whole duesOf meetsNode readTreeOf checkTree numbers lists listed nests itself pair twelve times deep run inputs outputs
+unfolding word wordIn many end typesOf field element form kind grammar allKnown anyFormKnown finishes round rounds finite finiteRecords readGrammar grammarFits checkGrammar kindOf allows allowed childrenOf children levelsOf levels pairs whole duesOf meetsNode readTreeOf numbers lists listed nests itself pair twelve times deep run inputs outputs
 right = refl
 
 -- THE TREES OWED after 0 to 6 nodes of the twelve-word slip, and from its second and its third node on

@@ -6,6 +6,8 @@ pub mod Sequences
 pub mod Forest
 pub mod Dues
 pub mod Reading
+pub mod Slip
 pub mod Owed
 pub mod Views
 pub mod Cases
+pub mod CasesSlip

@@ -5,6 +5,10 @@ use Prim.Native.Nat.{ℕ}
 abbrev pub mostTreeWords : ℕ
 mostTreeWords = 4096
 
+-- "The slip may have 6,144 words", with its counts
+abbrev pub mostSlipWords : ℕ
+mostSlipWords = 6144
+
 -- "A tree has 1 to 2,048 nodes"
 abbrev pub mostNodes : ℕ
 mostNodes = 2048

@@ -1,10 +1,10 @@
--- How a tree is read: its refusals (30 to 33), each with its position, and the single check. Assumes nothing: these are definitions.
+-- How a tree is read: its refusals (30 to 33), each with its position. Assumes nothing: these are definitions.
 use Prim.Native.Nat.{ℕ, _%_}
 use mathlib.Core.List.{List, [], _∷_}
 use lib.ListN.{length}
 use lib.Dec.{leb, eqb}
 use Rattle.words.specs.Reader.{Words, and, between, Read, Reader, andThen, _>>_, require}
-use Rattle.grammar.specs.Grammar.{Grammar, checkGrammar}
+use Rattle.grammar.specs.Grammar.{Grammar}
 use Rattle.grammar.specs.Kinds.{allowed, children}
 use Rattle.tree.specs.Limits.{mostTreeWords, mostNesting}
 use Rattle.tree.specs.Tree.{levels}
@@ -41,7 +41,3 @@ readTreeOf g t ws = andThen (require (and (between 1 mostTreeWords (length ws)) 
 -- the place slip: a tree of "type 0 (the root of every slip)"
 abbrev pub readTree : Grammar → Words → Read (Unit {0})
 readTree g ws = readTreeOf g 0 ws
-
--- THE SINGLE CHECK OF A TREE: 4, 10 to 12, then 30 to 33
-unfoldable pub checkTree : Words → Words → Read (Unit {0})
-checkTree gs ss = andThen (checkGrammar gs) (λ g next. readTree g ss)

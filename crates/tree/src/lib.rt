@@ -1,4 +1,4 @@
-// Trees: their check (30 to 33, each with its position), and where a tree ends.
+// Trees: how they are read (30 to 33, each with its position), and where a tree ends.
 //
 // Reading a node reads its children, and reading a child reads a node again: `node`, `sequence` and `children` call each other. Each is handed the part of
 // the words that starts at its node, with the position of that part beside it; the grammar is seen through its tables alone.
@@ -189,20 +189,4 @@ pub fn read_tree(heads: &[u32; HEADS], rows: &[u8; ROWS], s: &[u32]) -> Check
     ensures { λ r. ⌜ InTables (now (heads .entry)) (now (rows .entry)) (λ g. r ≡ answer (Reading.readTree g (now (s .entry)))) ⌝ }
 {
     read_tree_of(heads, rows, s, 0)
-}
-
-// The single check of a tree: the grammar's check, then the tree's.
-pub fn check_tree(gs: &[u32], s: &[u32]) -> Check
-    ensures { λ r. ⌜ r ≡ answer (Reading.checkTree (now (gs .entry)) (now (s .entry))) ⌝ }
-{
-    let c = grammar::check_grammar(gs);
-    match c {
-        Check::Refused(no, p) => Check::Refused(no, p),
-        Check::Passed(p) => {
-            let mut heads = [0u32; HEADS];
-            let mut rows = [0u8; ROWS];
-            tables::fill(gs, &mut heads, &mut rows);
-            read_tree(&heads, &rows, s)
-        }
-    }
 }

@@ -161,3 +161,18 @@ over-word ws r i = go (ltb i (length ws)) refl
 
 pub over-length : (ws r : List ℕ) → length ws ≤ length r → length (ws ++ drop (length ws) r) ≡ length r
 over-length ws r h = omega (arith, length-append ws (drop (length ws) r), length-drop (length ws) r)
+
+-- WORDS WRITTEN OVER OTHERS, one after the other: the first j are there
+abbrev pub over : List ℕ → List ℕ → ℕ → List ℕ
+over ws r j = take j ws ++ drop j r
+
+pub over-store : (ws r₀ r : List ℕ) (j x : ℕ) → r ≡ over ws r₀ j → x ≡ getD ws j 0 → j < length ws → j < length r₀ → set r j x ≡ over ws r₀ (j + 1)
+over-store ws r₀ r j x e ex h l =
+    let z : 0 + j ≡ j = zero-add j in
+    let y : 0 + suc j ≡ suc j = zero-add (suc j) in
+    let p : set (paste r₀ 0 ws j) (0 + j) (getD ws j 0) ≡ paste r₀ 0 ws (suc j) = paste-suc r₀ 0 ws j 0 (omega arith) h in
+    let q : set (over ws r₀ j) j (getD ws j 0) ≡ over ws r₀ (suc j) = rw (z, y) at p in
+    rw (e, ex, add-one j) q
+
+pub over-all : (ws r₀ : List ℕ) (j : ℕ) → j ≡ length ws → over ws r₀ j ≡ ws ++ drop (length ws) r₀
+over-all ws r₀ j e = rw (e, take-length ws)

@@ -1,15 +1,16 @@
 //! The bench format of document 01: decimal numbers in, one or two lines out.
+//! T-07: "The bench program reads and prints this edition", three words a node.
 
 use crate::limits;
 use crate::{run, Outcome};
 
-/// What the bench gives to the core: a budget, a grammar, rules and a tree.
+/// What the bench gives to the core: a budget, a grammar, rules and a slip.
 #[derive(Clone, Debug, PartialEq, Eq)]
 pub struct Input {
     pub budget: u32,
     pub grammar: Vec<u32>,
     pub rules: Vec<u32>,
-    pub tree: Vec<u32>,
+    pub slip: Vec<u32>,
 }
 
 /// Answers one bench input with the lines to print.
@@ -19,7 +20,7 @@ pub fn answer(text: &[u8]) -> String {
         Some(input) => print(&run(
             &input.grammar,
             &input.rules,
-            &input.tree,
+            &input.slip,
             input.budget,
             limits::RESULT_WORDS,
             limits::WORK_WORDS,
@@ -37,7 +38,7 @@ pub fn parse(text: &[u8]) -> Option<Input> {
         budget: numbers.next()??,
         grammar: parse_words(&mut numbers, limits::GRAMMAR_WORDS)?,
         rules: parse_words(&mut numbers, limits::RULES_WORDS)?,
-        tree: parse_words(&mut numbers, limits::TREE_WORDS)?,
+        slip: parse_words(&mut numbers, limits::SLIP_WORDS)?,
     };
     numbers.next().is_none().then_some(input)
 }
@@ -82,8 +83,8 @@ pub fn print(outcome: &Outcome) -> String {
                 Some(number) => format!("stopped {number}"),
             };
             let count = words.len();
-            let tree = join(words);
-            format!("{ending} {attempts} {replacements} {count}\n{tree}\n")
+            let slip = join(words);
+            format!("{ending} {attempts} {replacements} {count}\n{slip}\n")
         }
     }
 }
@@ -91,7 +92,7 @@ pub fn print(outcome: &Outcome) -> String {
 /// Writes an input the way `parse` reads it, on one line.
 pub fn write(input: &Input) -> String {
     let mut numbers = vec![input.budget];
-    for words in [&input.grammar, &input.rules, &input.tree] {
+    for words in [&input.grammar, &input.rules, &input.slip] {
         numbers.push(words.len() as u32);
         numbers.extend(words);
     }

@@ -1,13 +1,13 @@
 //! A plain implementation of the rewriting core of document 01 ("The
 //! rewriting core of the counter pad") with change requests T-01, T-02, T-04,
-//! T-05 and T-06 of document 02, written from those papers alone with real
-//! trees, to compare another core with.
+//! T-05, T-06 and T-07 of document 02, written from those papers alone with
+//! real trees, to compare another core with.
 //!
 //! Names are the field's usual ones. The paper's own words stand at each
-//! definition: a "slip" is a tree, a "rule book" the rules, a "trial" an
-//! attempt, a "group" an application chain, "held nodes" live nodes, a
-//! "repeat" or "list" a sequence, and "take apart", "build" and "test" are
-//! deconstruct, construct and condition.
+//! definition: a "slip" is a tree, or still a slip where its words are meant,
+//! a "rule book" the rules, a "trial" an attempt, a "group" an application
+//! chain, "held nodes" live nodes, a "repeat" or "list" a sequence, and "take
+//! apart", "build" and "test" are deconstruct, construct and condition.
 
 pub mod bench;
 pub mod grammar;
@@ -50,7 +50,7 @@ pub enum Outcome {
         attempts: u32,
         /// The replacements that the first call put in place.
         replacements: u32,
-        /// The filled words of the result.
+        /// The filled words of the result, three a node (T-07).
         words: Vec<u32>,
     },
 }
@@ -69,27 +69,27 @@ pub fn check_rules(grammar: &[u32], rules: &[u32]) -> Result<(), Refusal> {
     read_rules(&grammar, rules).map(|_| ())
 }
 
-/// Checks a tree against a grammar (refusals 4, 10 to 12, 30 to 33).
-pub fn check_tree(grammar: &[u32], tree: &[u32]) -> Result<(), Refusal> {
+/// Checks a slip against a grammar (refusals 4, 10 to 12, 30 to 34).
+pub fn check_slip(grammar: &[u32], slip: &[u32]) -> Result<(), Refusal> {
     check_length(grammar, limits::GRAMMAR_WORDS, 4)?;
     let grammar = Grammar::read(grammar)?;
-    Tree::read(&grammar, tree).map(|_| ())
+    Tree::read_slip(&grammar, slip).map(|_| ())
 }
 
-/// Checks everything and runs the main rule on the tree.
+/// Checks everything and runs the main rule on the slip's tree.
 ///
 /// `result_len` and `work_len` are the lengths of the two memories that the
 /// call lends; this implementation uses neither.
 pub fn run(
     grammar: &[u32],
     rules: &[u32],
-    tree: &[u32],
+    slip: &[u32],
     budget: u32,
     result_len: usize,
     work_len: usize,
 ) -> Outcome {
     let checked = check_call(grammar, rules, budget, result_len, work_len)
-        .and_then(|()| check_inputs(grammar, rules, tree));
+        .and_then(|()| check_inputs(grammar, rules, slip));
     let (grammar, program, tree) = match checked {
         Ok(checked) => checked,
         Err(refusal) => return Outcome::Refused(refusal),
@@ -99,7 +99,7 @@ pub fn run(
         stop: ending.stop.map(run::Stop::number),
         attempts: ending.attempts,
         replacements: ending.replacements,
-        words: ending.tree.words(),
+        words: ending.tree.slip(),
     }
 }
 
@@ -127,11 +127,11 @@ fn check_call(
 fn check_inputs(
     grammar: &[u32],
     rules: &[u32],
-    tree: &[u32],
+    slip: &[u32],
 ) -> Result<(Grammar, Program, Tree), Refusal> {
     let grammar = Grammar::read(grammar)?;
     let program = read_rules(&grammar, rules)?;
-    let tree = Tree::read(&grammar, tree)?;
+    let tree = Tree::read_slip(&grammar, slip)?;
     Ok((grammar, program, tree))
 }
 

@@ -1,15 +1,17 @@
 //! The limits that document 01 sets, one name each. T-02 of document 02 moves
-//! that of a number.
+//! that of a number, T-07 those of the words of a slip and of a result.
 
 /// Most words of a grammar (refusal 4).
 pub const GRAMMAR_WORDS: usize = 4_096;
 /// Most words of the rules, the paper's "rule book" (refusal 5).
 pub const RULES_WORDS: usize = 16_384;
-/// Most words of a tree, the paper's "slip" (refusal 30).
-pub const TREE_WORDS: usize = 4_096;
-/// Fewest words of result memory (refusal 1).
-pub const RESULT_WORDS: usize = 4_096;
-/// Fewest words of work memory (refusal 2).
+/// Most words of a slip (refusal 30). T-07: "The slip may have 6,144 words and
+/// a multiple of three", which are `NODES` nodes.
+pub const SLIP_WORDS: usize = 6_144;
+/// Fewest words of result memory (refusal 1). T-07: "the result needs 6,144".
+pub const RESULT_WORDS: usize = 6_144;
+/// Fewest words of work memory (refusal 2), with T-07 too: "Patterns,
+/// replacements and work memory stay at two words and at their length."
 pub const WORK_WORDS: usize = 16_384;
 /// Greatest budget (refusal 3).
 pub const BUDGET: u32 = 1_000_000;

@@ -1,5 +1,5 @@
 //! Trees, the paper's "slips" and their parts: reading them (refusals 30 to
-//! 33), writing them, and what the run needs to know of them.
+//! 34), writing them, and what the run needs to know of them.
 //!
 //! A tree is a counted reference to its root node, so that a copy of it costs
 //! nothing; a change clones only those nodes on its way that are shared. The
@@ -10,6 +10,10 @@ use std::rc::Rc;
 use crate::grammar::{Grammar, Kind, OpenPlaces, TypeNumber};
 use crate::limits;
 use crate::Refusal;
+
+/// The words of a node in a slip or a result (T-07): its type, its value and
+/// the number of nodes in its tree.
+const SLIP_NODE: usize = 3;
 
 /// A whole tree.
 #[derive(Clone, Debug)]
@@ -38,35 +42,29 @@ pub enum Piece {
 }
 
 impl Tree {
-    /// Reads a tree of type 0, the root of every tree that is given.
-    pub fn read(grammar: &Grammar, words: &[u32]) -> Result<Tree, Refusal> {
-        if words.is_empty() || words.len() % 2 == 1 || words.len() > limits::TREE_WORDS {
+    /// Reads a slip: the words of a tree of type 0, three a node. T-07: "type,
+    /// value, and the number of nodes in its tree, itself included".
+    pub fn read_slip(grammar: &Grammar, slip: &[u32]) -> Result<Tree, Refusal> {
+        let whole_nodes = slip.len().is_multiple_of(SLIP_NODE);
+        if slip.is_empty() || !whole_nodes || slip.len() > limits::SLIP_WORDS {
             return Err(Refusal::new(30, 0));
         }
-        let mut pieces = Vec::with_capacity(words.len() / 2);
-        let mut places = OpenPlaces::new(grammar, 0);
-        while let Some(place) = places.next_place() {
-            let position = 2 * pieces.len();
-            if position == words.len() {
-                return Err(Refusal::new(31, position));
-            }
-            let (ty, value) = (words[position], words[position + 1]);
-            if ty != place.ty {
-                return Err(Refusal::new(32, position));
-            }
-            if place.nesting > limits::NESTING {
-                return Err(Refusal::new(33, position));
-            }
-            if !places.fill_with_node(place, value) {
-                return Err(Refusal::new(32, position + 1));
-            }
-            pieces.push(Piece::Node { ty, value });
+        let tree = Tree::assemble(grammar, read_nodes(grammar, slip)?);
+        // T-07: 34 is "checked after 33 over the whole slip", so only now.
+        match tree.first_wrong_count(slip) {
+            Some(position) => Err(Refusal::new(34, position)),
+            None => Ok(tree),
         }
-        let end = 2 * pieces.len();
-        if end < words.len() {
-            return Err(Refusal::new(31, end));
-        }
-        Ok(Tree::assemble(grammar, pieces))
+    }
+
+    /// The lowest word of this tree's slip whose count is not the number of
+    /// nodes in its node's tree.
+    fn first_wrong_count(&self, slip: &[u32]) -> Option<usize> {
+        let counts = slip.iter().enumerate().skip(2).step_by(SLIP_NODE);
+        self.preorder()
+            .zip(counts)
+            .find(|(tree, (_, &count))| tree.size() != count as usize)
+            .map(|(_, (position, _))| position)
     }
 
     /// Puts the pieces of one tree together. They must be complete and fit
@@ -159,10 +157,18 @@ impl Tree {
             .filter_map(|rest| rest.children().first())
     }
 
-    /// The words of the tree, two a node.
+    /// The words of the tree, two a node, as they stand in patterns and
+    /// replacements.
     pub fn words(&self) -> Vec<u32> {
         self.preorder()
             .flat_map(|tree| [tree.ty(), tree.value()])
+            .collect()
+    }
+
+    /// The words of the tree as a slip or a result, three a node (T-07).
+    pub fn slip(&self) -> Vec<u32> {
+        self.preorder()
+            .flat_map(|tree| [tree.ty(), tree.value(), tree.size() as u32])
             .collect()
     }
 
@@ -196,6 +202,35 @@ impl Tree {
     pub fn set_value(&mut self, value: u32) {
         Rc::make_mut(&mut self.0).value = value;
     }
+}
+
+/// Reads the nodes of a slip (refusals 31 to 33). The grammar alone says where
+/// the tree ends; the counts are not looked at.
+fn read_nodes(grammar: &Grammar, slip: &[u32]) -> Result<Vec<Piece>, Refusal> {
+    let mut pieces = Vec::with_capacity(slip.len() / SLIP_NODE);
+    let mut places = OpenPlaces::new(grammar, 0);
+    while let Some(place) = places.next_place() {
+        let position = SLIP_NODE * pieces.len();
+        if position == slip.len() {
+            return Err(Refusal::new(31, position));
+        }
+        let (ty, value) = (slip[position], slip[position + 1]);
+        if ty != place.ty {
+            return Err(Refusal::new(32, position));
+        }
+        if place.nesting > limits::NESTING {
+            return Err(Refusal::new(33, position));
+        }
+        if !places.fill_with_node(place, value) {
+            return Err(Refusal::new(32, position + 1));
+        }
+        pieces.push(Piece::Node { ty, value });
+    }
+    let end = SLIP_NODE * pieces.len();
+    if end < slip.len() {
+        return Err(Refusal::new(31, end));
+    }
+    Ok(pieces)
 }
 
 impl Node {

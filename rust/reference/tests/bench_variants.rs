@@ -1,12 +1,12 @@
 //! Every bullet of the paper's chapter "The two-to-forty-two bench", with the
-//! examples that T-01 adds to the one on rounding, and the greatest number as
-//! T-02 moves it.
+//! examples that T-01 adds to the one on rounding, the greatest number as T-02
+//! moves it, and slips and results as T-07 writes them.
 
 mod common;
 
 use common::*;
 
-const REWRITTEN: &str = "0 0 1 0 2 4200 1 0 2 500 1 1";
+const REWRITTEN: &str = "0 0 6 1 0 5 2 4200 1 1 0 3 2 500 1 1 1 1";
 
 /// Rules that apply an operation without argument to the first number.
 fn unary(operation: u32) -> Vec<u32> {
@@ -35,19 +35,19 @@ fn binary(operation: u32) -> Vec<u32> {
 #[test]
 fn the_example_as_printed_in_the_paper() {
     let input = "3 9 3 8 1 1 1 4 2 1 2 10 1 9 2 2 1 2 200 1 2 4200 \
-                 12 0 0 1 0 2 200 1 0 2 500 1 1";
+                 18 0 0 6 1 0 5 2 200 1 1 0 3 2 500 1 1 1 1";
     assert_eq!(
         reference::bench::answer(input.as_bytes()),
-        "done 3 1 12\n0 0 1 0 2 4200 1 0 2 500 1 1\n"
+        "done 3 1 18\n0 0 6 1 0 5 2 4200 1 1 0 3 2 500 1 1 1 1\n"
     );
 }
 
 #[test]
 fn budget_3_2_and_1() {
     let with = |budget| bench(budget, GRAMMAR, RULES, TREE);
-    assert_eq!(with(3), format!("done 3 1 12\n{REWRITTEN}"));
-    assert_eq!(with(2), format!("stopped 40 2 1 12\n{REWRITTEN}"));
-    assert_eq!(with(1), format!("stopped 40 1 1 12\n{REWRITTEN}"));
+    assert_eq!(with(3), format!("done 3 1 18\n{REWRITTEN}"));
+    assert_eq!(with(2), format!("stopped 40 2 1 18\n{REWRITTEN}"));
+    assert_eq!(with(1), format!("stopped 40 1 1 18\n{REWRITTEN}"));
 }
 
 #[test]
@@ -55,11 +55,11 @@ fn reach_1_and_an_empty_sequence() {
     let reach_1 = [1, 9, 2, 1, 1, 2, 200, 1, 2, 4200];
     assert_eq!(
         bench(3, GRAMMAR, &reach_1, TREE),
-        format!("done 1 1 12\n{REWRITTEN}")
+        format!("done 1 1 18\n{REWRITTEN}")
     );
     assert_eq!(
         bench(3, GRAMMAR, RULES, &[0, 0, 1, 1]),
-        "done 0 0 4\n0 0 1 1"
+        "done 0 0 6\n0 0 2 1 1 1"
     );
 }
 
@@ -68,7 +68,7 @@ fn a_replacement_equal_to_its_match_spends_the_budget() {
     let same = [1, 9, 2, 2, 1, 2, 200, 1, 2, 200];
     assert_eq!(
         bench(7, GRAMMAR, &same, TREE),
-        "stopped 40 7 7 12\n0 0 1 0 2 200 1 0 2 500 1 1"
+        "stopped 40 7 7 18\n0 0 6 1 0 5 2 200 1 1 0 3 2 500 1 1 1 1"
     );
 }
 
@@ -76,23 +76,23 @@ fn a_replacement_equal_to_its_match_spends_the_budget() {
 fn a_replacement_of_another_type_and_an_endless_type() {
     let wrong = [1, 9, 2, 2, 1, 2, 200, 1, 1, 1];
     assert_eq!(bench(3, GRAMMAR, &wrong, TREE), "refused 23 8");
-    assert_eq!(bench(3, &[1, 8, 1, 1, 0], RULES, TREE), "refused 12 1");
+    assert_eq!(bench_slip(3, &[1, 8, 1, 1, 0], RULES, SLIP), "refused 12 1");
 }
 
 #[test]
 fn trees_short_over_and_with_great_numbers() {
-    assert_eq!(bench(3, GRAMMAR, RULES, &[0, 0]), "refused 31 2");
-    let over = [TREE, &[1, 1]].concat();
-    assert_eq!(bench(3, GRAMMAR, RULES, &over), "refused 31 12");
+    assert_eq!(bench_slip(3, GRAMMAR, RULES, &[0, 0, 1]), "refused 31 3");
+    let over = [SLIP, &[1, 1, 1]].concat();
+    assert_eq!(bench_slip(3, GRAMMAR, RULES, &over), "refused 31 18");
     for number in [999_999_999, 1_000_000_000, 4_000_000_000] {
         assert_eq!(
             bench(3, GRAMMAR, RULES, &list(&[number, 500])),
-            format!("done 2 0 12\n0 0 1 0 2 {number} 1 0 2 500 1 1")
+            format!("done 2 0 18\n0 0 6 1 0 5 2 {number} 1 1 0 3 2 500 1 1 1 1")
         );
     }
     assert_eq!(
         bench(3, GRAMMAR, RULES, &list(&[4_000_000_001, 500])),
-        "refused 32 5"
+        "refused 32 7"
     );
 }
 
@@ -104,12 +104,12 @@ fn round_and_quotient() {
     for (number, rounded) in document_01.into_iter().chain(t01).chain(t02) {
         assert_eq!(
             bench(3, GRAMMAR, &unary(1_004), &list(&[number])),
-            format!("done 1 1 8\n0 0 1 0 2 {rounded} 1 1")
+            format!("done 1 1 12\n0 0 4 1 0 3 2 {rounded} 1 1 1 1")
         );
     }
     assert_eq!(
         bench(3, GRAMMAR, &binary(1_002), &list(&[1000, 300])),
-        "done 1 1 8\n0 0 1 0 2 300 1 1"
+        "done 1 1 12\n0 0 4 1 0 3 2 300 1 1 1 1"
     );
 }
 
@@ -128,7 +128,7 @@ fn where_readers_go_astray() {
     .words()]);
     assert_eq!(
         bench(9, GRAMMAR, &rest, TREE),
-        "done 2 1 8\n0 0 1 0 2 200 1 1"
+        "done 2 1 12\n0 0 4 1 0 3 2 200 1 1 1 1"
     );
     // A failed attempt's bindings: variable 0 must be the second attempt's.
     let last = rules(&[RuleText {
@@ -141,7 +141,7 @@ fn where_readers_go_astray() {
     .words()]);
     assert_eq!(
         bench(9, GRAMMAR, &last, TREE),
-        "done 2 1 16\n0 0 1 0 2 200 1 0 2 500 1 0 2 500 1 1"
+        "done 2 1 24\n0 0 8 1 0 7 2 200 1 1 0 5 2 500 1 1 0 3 2 500 1 1 1 1"
     );
     // A sequence does not stand for its element: pattern 2 200 for type 1.
     let element = [1, 9, 1, 2, 1, 2, 200, 1, 1, 1];
@@ -150,10 +150,10 @@ fn where_readers_go_astray() {
     let once = [1, 9, 2, 1, 1, 2, 200, 1, 2, 4200];
     assert_eq!(
         bench(1, GRAMMAR, &once, TREE),
-        format!("done 1 1 12\n{REWRITTEN}")
+        format!("done 1 1 18\n{REWRITTEN}")
     );
     assert_eq!(
         bench(1, GRAMMAR, RULES, &list(&[7])),
-        "done 1 0 8\n0 0 1 0 2 7 1 1"
+        "done 1 0 12\n0 0 4 1 0 3 2 7 1 1 1 1"
     );
 }

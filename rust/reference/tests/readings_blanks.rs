@@ -18,12 +18,6 @@ fn on(grammar: &[u32], budget: u32, texts: &[RuleText], tree: &[u32]) -> String 
     bench(budget, grammar, &rules(&words), tree)
 }
 
-/// What is printed for an ending with this tree.
-fn ended(ending: &str, tree: &[u32]) -> String {
-    let words: Vec<String> = tree.iter().map(u32::to_string).collect();
-    format!("{ending} {}\n{}", words.len(), words.join(" "))
-}
-
 /// Type 0 is a transfer with a payer and a payee (form 0), or one marked "to
 /// own account" (form 1). All accounts are of type 1; the records of type 1 and
 /// on are given.
@@ -41,12 +35,14 @@ const MARKING: RuleText = RuleText {
 
 /// Whether a transfer from an account to the same account is marked.
 fn marked(types: &[&[u32]], account: &[u32]) -> bool {
+    let grammar = transfers(types);
     let tree = [&[0, 0], account, account].concat();
-    let text = on(&transfers(types), 1, &[MARKING], &tree);
-    if text == ended("done 1 0", &tree) {
+    let text = on(&grammar, 1, &[MARKING], &tree);
+    if text == ended(&grammar, "done 1 0", &tree) {
         return false;
     }
-    assert_eq!(text, ended("done 1 1", &[&[0, 1], account].concat()));
+    let marked = [&[0, 1], account].concat();
+    assert_eq!(text, ended(&grammar, "done 1 1", &marked));
     true
 }
 
@@ -55,14 +51,14 @@ fn t05_1_two_empty_fields_are_not_the_same() {
     for class in [1, 3] {
         let grammar = [2, 8, 2, 2, 1, 1, 1, 1, 1, class];
         let with = |payer, payee| on(&grammar, 1, &[MARKING], &[0, 0, 1, payer, 1, payee]);
-        assert_eq!(with(0, 0), "done 1 0 6\n0 0 1 0 1 0");
+        assert_eq!(with(0, 0), "done 1 0 9\n0 0 3 1 0 1 1 0 1");
         // Fields that are filled, as before.
-        assert_eq!(with(1, 1), "done 1 1 4\n0 1 1 1");
-        assert_eq!(with(7, 7), "done 1 1 4\n0 1 1 7");
-        assert_eq!(with(65_535, 65_535), "done 1 1 4\n0 1 1 65535");
-        assert_eq!(with(7, 8), "done 1 0 6\n0 0 1 7 1 8");
-        assert_eq!(with(0, 7), "done 1 0 6\n0 0 1 0 1 7");
-        assert_eq!(with(7, 0), "done 1 0 6\n0 0 1 7 1 0");
+        assert_eq!(with(1, 1), "done 1 1 6\n0 1 2 1 1 1");
+        assert_eq!(with(7, 7), "done 1 1 6\n0 1 2 1 7 1");
+        assert_eq!(with(65_535, 65_535), "done 1 1 6\n0 1 2 1 65535 1");
+        assert_eq!(with(7, 8), "done 1 0 9\n0 0 3 1 7 1 1 8 1");
+        assert_eq!(with(0, 7), "done 1 0 9\n0 0 3 1 0 1 1 7 1");
+        assert_eq!(with(7, 0), "done 1 0 9\n0 0 3 1 7 1 1 0 1");
     }
 }
 
@@ -145,11 +141,11 @@ fn t05_1_a_tree_with_a_blank_does_not_match_its_own_variable() {
         };
         on(&transfers(&[NAME]), 1, &[text], &[0, 0, 1, payer, 1, payee])
     };
-    assert_eq!(taken_apart(0, 0, 7), "done 1 0 6\n0 0 1 0 1 7");
-    assert_eq!(taken_apart(1, 7, 0), "done 1 0 6\n0 0 1 7 1 0");
+    assert_eq!(taken_apart(0, 0, 7), "done 1 0 9\n0 0 3 1 0 1 1 7 1");
+    assert_eq!(taken_apart(1, 7, 0), "done 1 0 9\n0 0 3 1 7 1 1 0 1");
     // The other one may be blank.
-    assert_eq!(taken_apart(0, 7, 0), "done 1 1 4\n0 1 1 7");
-    assert_eq!(taken_apart(1, 0, 7), "done 1 1 4\n0 1 1 7");
+    assert_eq!(taken_apart(0, 7, 0), "done 1 1 6\n0 1 2 1 7 1");
+    assert_eq!(taken_apart(1, 0, 7), "done 1 1 6\n0 1 2 1 7 1");
     // The whole tree, taken apart and searched.
     for part in [deconstruct(0, &[(65, 0)]), search(0, 0, &[(65, 0)])] {
         let with = |payer, payee| {
@@ -161,9 +157,9 @@ fn t05_1_a_tree_with_a_blank_does_not_match_its_own_variable() {
             };
             on(&transfers(&[NAME]), 1, &[text], &[0, 0, 1, payer, 1, payee])
         };
-        assert_eq!(with(7, 8), "done 1 1 4\n0 1 1 9");
-        assert_eq!(with(0, 8), "done 1 0 6\n0 0 1 0 1 8");
-        assert_eq!(with(7, 0), "done 1 0 6\n0 0 1 7 1 0");
+        assert_eq!(with(7, 8), "done 1 1 6\n0 1 2 1 9 1");
+        assert_eq!(with(0, 8), "done 1 0 9\n0 0 3 1 0 1 1 8 1");
+        assert_eq!(with(7, 0), "done 1 0 9\n0 0 3 1 7 1 1 0 1");
     }
 }
 
@@ -184,10 +180,10 @@ fn t05_1_a_blank_outside_the_tree_does_not_matter() {
             &[0, 0, 1, payer, 1, payee, 1, purpose],
         )
     };
-    assert_eq!(with(7, 7, 0), "done 1 1 6\n0 1 1 7 1 0");
-    assert_eq!(with(0, 0, 7), "done 1 0 8\n0 0 1 0 1 0 1 7");
-    assert_eq!(with(0, 0, 0), "done 1 0 8\n0 0 1 0 1 0 1 0");
-    assert_eq!(with(7, 7, 7), "done 1 1 6\n0 1 1 7 1 7");
+    assert_eq!(with(7, 7, 0), "done 1 1 9\n0 1 3 1 7 1 1 0 1");
+    assert_eq!(with(0, 0, 7), "done 1 0 12\n0 0 4 1 0 1 1 0 1 1 7 1");
+    assert_eq!(with(0, 0, 0), "done 1 0 12\n0 0 4 1 0 1 1 0 1 1 0 1");
+    assert_eq!(with(7, 7, 7), "done 1 1 9\n0 1 3 1 7 1 1 7 1");
 }
 
 #[test]
@@ -195,7 +191,7 @@ fn t05_2_a_number_0_is_not_blank() {
     let grammar = transfers(&[NUMBER]);
     assert_eq!(
         on(&grammar, 1, &[MARKING], &[0, 0, 1, 0, 1, 0]),
-        "done 1 1 4\n0 1 1 0"
+        "done 1 1 6\n0 1 2 1 0 1"
     );
     assert!(marked(&[&[8, 1, 2, 2, 2], NUMBER], &[1, 0, 2, 0, 2, 0]));
     assert!(marked(&[&[2, 2], NUMBER], &[1, 0, 2, 0]));
@@ -272,12 +268,12 @@ fn t05_3_in_the_pattern_of_a_rule_with_reach() {
     let tree = ledger(&[(0, 0), (7, 7), (0, 0), (8, 8)]);
     assert_eq!(
         on(LEDGER, 9, &[marking(1)], &tree),
-        "done 2 1 34\n0 0 1 0 2 0 3 0 3 0 1 0 2 1 3 7 1 0 2 0 3 0 3 0 1 0 2 0 3 8 3 8 1 1"
+        "done 2 1 51\n0 0 17 1 0 16 2 0 3 3 0 1 3 0 1 1 0 12 2 1 2 3 7 1 1 0 9 2 0 3 3 0 1 3 0 1 1 0 5 2 0 3 3 8 1 3 8 1 1 1 1"
     );
     // Two attempts, then four up to the last transfer, then four in vain.
     assert_eq!(
         on(LEDGER, 99, &[marking(2)], &tree),
-        "done 10 2 32\n0 0 1 0 2 0 3 0 3 0 1 0 2 1 3 7 1 0 2 0 3 0 3 0 1 0 2 1 3 8 1 1"
+        "done 10 2 48\n0 0 16 1 0 15 2 0 3 3 0 1 3 0 1 1 0 11 2 1 2 3 7 1 1 0 8 2 0 3 3 0 1 3 0 1 1 0 4 2 1 2 3 8 1 1 1 1"
     );
     // Put in its own place, a match is found again and again.
     let idle = || RuleText {
@@ -286,11 +282,11 @@ fn t05_3_in_the_pattern_of_a_rule_with_reach() {
     };
     assert_eq!(
         on(LEDGER, 5, &[idle()], &ledger(&[(0, 0)])),
-        "done 1 0 12\n0 0 1 0 2 0 3 0 3 0 1 1"
+        "done 1 0 18\n0 0 6 1 0 5 2 0 3 3 0 1 3 0 1 1 1 1"
     );
     assert_eq!(
         on(LEDGER, 5, &[idle()], &ledger(&[(7, 7)])),
-        "stopped 40 5 5 12\n0 0 1 0 2 0 3 7 3 7 1 1"
+        "stopped 40 5 5 18\n0 0 6 1 0 5 2 0 3 3 7 1 3 7 1 1 1 1"
     );
 }
 
@@ -311,11 +307,12 @@ fn marked_by(name: u32, pattern: &[(u32, u32)], parts: &[Vec<u32>]) -> bool {
         ..NONE
     };
     let tree = [0, 0, 1, name, 1, name];
-    let text = on(&transfers(&[NAME]), 2, &[calling, called], &tree);
-    if text == ended("done 2 1", &tree) {
+    let grammar = transfers(&[NAME]);
+    let text = on(&grammar, 2, &[calling, called], &tree);
+    if text == ended(&grammar, "done 2 1", &tree) {
         return false;
     }
-    assert_eq!(text, "done 2 1 4\n0 1 1 9");
+    assert_eq!(text, "done 2 1 6\n0 1 2 1 9 1");
     true
 }
 
@@ -386,12 +383,15 @@ fn t05_3_a_searching_part_tries_the_next_node() {
     };
     assert_eq!(
         with(&[(7, 8), (0, 0), (0, 0), (9, 9), (5, 5)]),
-        "done 1 1 10\n0 0 1 0 2 1 3 9 1 1"
+        "done 1 1 15\n0 0 5 1 0 4 2 1 2 3 9 1 1 1 1"
     );
-    assert_eq!(with(&[(4, 4), (0, 0)]), "done 1 1 10\n0 0 1 0 2 1 3 4 1 1");
+    assert_eq!(
+        with(&[(4, 4), (0, 0)]),
+        "done 1 1 15\n0 0 5 1 0 4 2 1 2 3 4 1 1 1 1"
+    );
     assert_eq!(
         with(&[(0, 0), (0, 0)]),
-        "done 1 0 20\n0 0 1 0 2 0 3 0 3 0 1 0 2 0 3 0 3 0 1 1"
+        "done 1 0 30\n0 0 10 1 0 9 2 0 3 3 0 1 3 0 1 1 0 5 2 0 3 3 0 1 3 0 1 1 1 1"
     );
 }
 
@@ -407,10 +407,16 @@ fn t05_3_a_searching_part_does_not_find_a_blank() {
         };
         on(LEDGER, 1, &[text], &ledger(transfers))
     };
-    assert_eq!(with(0, &[(0, 7)]), "done 1 0 12\n0 0 1 0 2 0 3 0 3 7 1 1");
-    assert_eq!(with(7, &[(0, 7)]), "done 1 1 4\n0 0 1 1");
-    assert_eq!(with(7, &[(0, 0), (0, 7)]), "done 1 1 4\n0 0 1 1");
-    assert_eq!(with(8, &[(0, 7)]), "done 1 0 12\n0 0 1 0 2 0 3 0 3 7 1 1");
+    assert_eq!(
+        with(0, &[(0, 7)]),
+        "done 1 0 18\n0 0 6 1 0 5 2 0 3 3 0 1 3 7 1 1 1 1"
+    );
+    assert_eq!(with(7, &[(0, 7)]), "done 1 1 6\n0 0 2 1 1 1");
+    assert_eq!(with(7, &[(0, 0), (0, 7)]), "done 1 1 6\n0 0 2 1 1 1");
+    assert_eq!(
+        with(8, &[(0, 7)]),
+        "done 1 0 18\n0 0 6 1 0 5 2 0 3 3 0 1 3 7 1 1 1 1"
+    );
 }
 
 #[test]
@@ -440,12 +446,12 @@ fn t05_3_in_the_pattern_of_a_rule_in_a_test() {
         assert_eq!(with_rule_1(part(&applied), &[(1, 9)], &tree), text);
         text
     };
-    assert_eq!(with(condition, 0, 0), "done 2 0 6\n0 0 1 0 1 0");
-    assert_eq!(with(condition, 7, 7), "done 2 1 4\n0 1 1 7");
-    assert_eq!(with(condition, 7, 8), "done 2 0 6\n0 0 1 7 1 8");
-    assert_eq!(with(not_condition, 0, 0), "done 2 1 4\n0 1 1 0");
-    assert_eq!(with(not_condition, 7, 7), "done 2 0 6\n0 0 1 7 1 7");
-    assert_eq!(with(not_condition, 7, 8), "done 2 1 4\n0 1 1 7");
+    assert_eq!(with(condition, 0, 0), "done 2 0 9\n0 0 3 1 0 1 1 0 1");
+    assert_eq!(with(condition, 7, 7), "done 2 1 6\n0 1 2 1 7 1");
+    assert_eq!(with(condition, 7, 8), "done 2 0 9\n0 0 3 1 7 1 1 8 1");
+    assert_eq!(with(not_condition, 0, 0), "done 2 1 6\n0 1 2 1 0 1");
+    assert_eq!(with(not_condition, 7, 7), "done 2 0 9\n0 0 3 1 7 1 1 7 1");
+    assert_eq!(with(not_condition, 7, 8), "done 2 1 6\n0 1 2 1 7 1");
 }
 
 /// The paper's grammar with this class for its numbers.
@@ -468,9 +474,12 @@ fn t05_3_a_blank_lets_go_of_what_its_attempt_has_bound() {
         on(&sequence_of_tokens(1), 2_000, &[text], &list(names))
     };
     let mut names = vec![0; 1_023];
-    assert_eq!(with(&names), ended("done 1024 0", &list(&names)));
+    assert_eq!(with(&names), ended(GRAMMAR, "done 1024 0", &list(&names)));
     names[1_022] = 7;
-    assert_eq!(with(&names), ended("done 1023 1", &list(&names[..1_022])));
+    assert_eq!(
+        with(&names),
+        ended(GRAMMAR, "done 1023 1", &list(&names[..1_022]))
+    );
 }
 
 #[test]
@@ -485,13 +494,16 @@ fn t05_4_a_copy_of_a_blank() {
         on(&transfers(&[NAME]), 1, &[text], &[0, 0, 1, payer, 1, payee])
     };
     let swapped = [(0, 0), (65, 1), (65, 0)];
-    assert_eq!(with(&[], &swapped, 0, 7), "done 1 1 6\n0 0 1 7 1 0");
-    assert_eq!(with(&[], &swapped, 0, 0), "done 1 1 6\n0 0 1 0 1 0");
+    assert_eq!(with(&[], &swapped, 0, 7), "done 1 1 9\n0 0 3 1 7 1 1 0 1");
+    assert_eq!(with(&[], &swapped, 0, 0), "done 1 1 9\n0 0 3 1 0 1 1 0 1");
     let twice = [(0, 0), (65, 0), (65, 0)];
-    assert_eq!(with(&[], &twice, 0, 7), "done 1 1 6\n0 0 1 0 1 0");
+    assert_eq!(with(&[], &twice, 0, 7), "done 1 1 9\n0 0 3 1 0 1 1 0 1");
     // Copied to a build.
     let built = construct(0, &[(0, 0), (65, 1), (65, 0)]);
-    assert_eq!(with(&[built], &[(65, 2)], 0, 7), "done 1 1 6\n0 0 1 7 1 0");
+    assert_eq!(
+        with(&[built], &[(65, 2)], 0, 7),
+        "done 1 1 9\n0 0 3 1 7 1 1 0 1"
+    );
 }
 
 #[test]
@@ -516,13 +528,13 @@ fn t05_4_a_blank_as_argument_and_as_scope() {
     };
     let any = [(64, 1)];
     let argument = [(65, 0)];
-    assert_eq!(with(&any, &argument, 0, 7), "done 2 1 6\n0 0 1 7 1 0");
-    assert_eq!(with(&any, &argument, 7, 0), "done 2 1 6\n0 0 1 0 1 7");
-    assert_eq!(with(&any, &argument, 0, 0), "done 2 1 6\n0 0 1 0 1 0");
+    assert_eq!(with(&any, &argument, 0, 7), "done 2 1 9\n0 0 3 1 7 1 1 0 1");
+    assert_eq!(with(&any, &argument, 7, 0), "done 2 1 9\n0 0 3 1 0 1 1 7 1");
+    assert_eq!(with(&any, &argument, 0, 0), "done 2 1 9\n0 0 3 1 0 1 1 0 1");
     // A scope that is blank, and a rule for blanks.
     let (blank, nine) = ([(1, 0)], [(1, 9)]);
-    assert_eq!(with(&blank, &nine, 0, 0), "done 2 1 6\n0 0 1 0 1 9");
-    assert_eq!(with(&blank, &nine, 0, 7), "done 2 1 6\n0 0 1 7 1 7");
+    assert_eq!(with(&blank, &nine, 0, 0), "done 2 1 9\n0 0 3 1 0 1 1 9 1");
+    assert_eq!(with(&blank, &nine, 0, 7), "done 2 1 9\n0 0 3 1 7 1 1 7 1");
 }
 
 #[test]
@@ -543,11 +555,14 @@ fn t05_4_a_test_of_a_blank() {
         on(&transfers(&[NAME]), 2, &[main, tested], &tree)
     };
     let (any, blank) = ([(64, 1)], [(1, 0)]);
-    assert_eq!(with(condition, &any, 0), "done 2 1 4\n0 1 1 0");
-    assert_eq!(with(not_condition, &any, 0), "done 2 0 6\n0 0 1 0 1 8");
-    assert_eq!(with(condition, &blank, 0), "done 2 1 4\n0 1 1 0");
-    assert_eq!(with(condition, &blank, 7), "done 2 0 6\n0 0 1 7 1 8");
-    assert_eq!(with(not_condition, &blank, 7), "done 2 1 4\n0 1 1 7");
+    assert_eq!(with(condition, &any, 0), "done 2 1 6\n0 1 2 1 0 1");
+    assert_eq!(
+        with(not_condition, &any, 0),
+        "done 2 0 9\n0 0 3 1 0 1 1 8 1"
+    );
+    assert_eq!(with(condition, &blank, 0), "done 2 1 6\n0 1 2 1 0 1");
+    assert_eq!(with(condition, &blank, 7), "done 2 0 9\n0 0 3 1 7 1 1 8 1");
+    assert_eq!(with(not_condition, &blank, 7), "done 2 1 6\n0 1 2 1 7 1");
 }
 
 #[test]
@@ -567,8 +582,8 @@ fn t05_4_equal_numbers() {
             &[0, 0, 1, payer, 1, payee],
         )
     };
-    assert_eq!(with(0, 0), "done 1 1 4\n0 1 1 0");
-    assert_eq!(with(0, 1), "done 1 0 6\n0 0 1 0 1 1");
+    assert_eq!(with(0, 0), "done 1 1 6\n0 1 2 1 0 1");
+    assert_eq!(with(0, 1), "done 1 0 9\n0 0 3 1 0 1 1 1 1");
     // Accounts of a number and a name, which is blank.
     let account = [(1, 0), (64, 2), (64, 3)];
     let text = RuleText {
@@ -581,7 +596,7 @@ fn t05_4_equal_numbers() {
     let tree = [0, 0, 1, 0, 2, 5, 3, 0, 1, 0, 2, 5, 3, 0];
     assert_eq!(
         on(&grammar, 1, &[text], &tree),
-        "done 1 1 8\n0 1 1 0 2 5 3 0"
+        "done 1 1 12\n0 1 4 1 0 3 2 5 1 3 0 1"
     );
 }
 
@@ -596,7 +611,7 @@ fn t05_4_blanks_in_sequence_operations() {
             };
             assert_eq!(
                 on(&sequence_of_tokens(class), 1, &[text], &list(&[0, 7])),
-                ended("done 1 1", &list(&[0, 7, 0, 7]))
+                ended(GRAMMAR, "done 1 1", &list(&[0, 7, 0, 7]))
             );
         }
     }
@@ -608,7 +623,10 @@ fn t05_4_blanks_in_sequence_operations() {
         ..NONE
     };
     let tree = [vec![0, 0], sequence(&[0, 0]), vec![3, 5]].concat();
-    assert_eq!(on(&grammar, 1, &[text], &tree), "done 1 1 6\n0 0 1 1 3 200");
+    assert_eq!(
+        on(&grammar, 1, &[text], &tree),
+        "done 1 1 9\n0 0 3 1 1 1 3 200 1"
+    );
 }
 
 #[test]
@@ -624,7 +642,9 @@ fn t05_5_a_written_out_token_matches_a_blank() {
             };
             let tree = [0, 0, 1, payer, 1, payee];
             let text = on(&grammar, 1, &[text], &tree);
-            assert!(text == "done 1 1 4\n0 1 1 9" || text == ended("done 1 0", &tree));
+            assert!(
+                text == "done 1 1 6\n0 1 2 1 9 1" || text == ended(&grammar, "done 1 0", &tree)
+            );
             text.starts_with("done 1 1")
         };
         // What a rule for two empty fields has to write.
@@ -657,9 +677,9 @@ fn t05_5_a_written_out_token_beside_the_same_tree() {
             &[0, 0, 1, payer, 1, payee, 1, purpose],
         )
     };
-    assert_eq!(with(7, 7, 0), "done 1 1 4\n0 1 1 7");
-    assert_eq!(with(7, 7, 7), "done 1 0 8\n0 0 1 7 1 7 1 7");
-    assert_eq!(with(0, 0, 0), "done 1 0 8\n0 0 1 0 1 0 1 0");
+    assert_eq!(with(7, 7, 0), "done 1 1 6\n0 1 2 1 7 1");
+    assert_eq!(with(7, 7, 7), "done 1 0 12\n0 0 4 1 7 1 1 7 1 1 7 1");
+    assert_eq!(with(0, 0, 0), "done 1 0 12\n0 0 4 1 0 1 1 0 1 1 0 1");
 }
 
 #[test]
@@ -673,18 +693,18 @@ fn t05_5_a_written_out_token_in_parts() {
         };
         on(&transfers(&[NAME]), 1, &[text], &[0, 0, 1, payer, 1, payee])
     };
-    let marked = "done 1 1 4\n0 1 1 9";
+    let marked = "done 1 1 6\n0 1 2 1 9 1";
     let taken_apart = [deconstruct(0, &[(0, 0), (1, 0), (1, 0)])];
     assert_eq!(with(&taken_apart, 0, 0), marked);
-    assert_eq!(with(&taken_apart, 0, 7), "done 1 0 6\n0 0 1 0 1 7");
+    assert_eq!(with(&taken_apart, 0, 7), "done 1 0 9\n0 0 3 1 0 1 1 7 1");
     let searched = [search(1, 0, &[(1, 0)])];
     assert_eq!(with(&searched, 0, 7), marked);
     assert_eq!(with(&searched, 7, 0), marked);
-    assert_eq!(with(&searched, 7, 7), "done 1 0 6\n0 0 1 7 1 7");
+    assert_eq!(with(&searched, 7, 7), "done 1 0 9\n0 0 3 1 7 1 1 7 1");
     // A variable that is blank, taken apart by a blank.
     let variable = [search(1, 0, &[(64, 1)]), deconstruct(1, &[(1, 0)])];
     assert_eq!(with(&variable, 0, 7), marked);
-    assert_eq!(with(&variable, 7, 0), "done 1 0 6\n0 0 1 7 1 0");
+    assert_eq!(with(&variable, 7, 0), "done 1 0 9\n0 0 3 1 7 1 1 0 1");
 }
 
 #[test]
@@ -702,13 +722,13 @@ fn t05_5_a_new_variable_matches_a_blank() {
             on(&grammar, 1, &[text], &[0, 0, 1, payer, 1, payee])
         };
         let both = [(0, 0), (64, 1), (64, 1)];
-        assert_eq!(with(&both, &[], 0, 0, 0), "done 1 1 4\n0 1 1 0");
-        assert_eq!(with(&both, &[], 1, 0, 7), "done 1 1 4\n0 1 1 7");
+        assert_eq!(with(&both, &[], 0, 0, 0), "done 1 1 6\n0 1 2 1 0 1");
+        assert_eq!(with(&both, &[], 1, 0, 7), "done 1 1 6\n0 1 2 1 7 1");
         // In parts: the first name is taken, blank or not.
         let all = [(64, 0)];
         let apart = [deconstruct(0, &both)];
-        assert_eq!(with(&all, &apart, 1, 0, 0), "done 1 1 4\n0 1 1 0");
+        assert_eq!(with(&all, &apart, 1, 0, 0), "done 1 1 6\n0 1 2 1 0 1");
         let first = [search(1, 0, &[(64, 1)])];
-        assert_eq!(with(&all, &first, 1, 0, 7), "done 1 1 4\n0 1 1 0");
+        assert_eq!(with(&all, &first, 1, 0, 7), "done 1 1 6\n0 1 2 1 0 1");
     }
 }

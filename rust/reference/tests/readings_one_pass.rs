@@ -12,12 +12,6 @@ fn on(grammar: &[u32], budget: u32, texts: &[RuleText], tree: &[u32]) -> String 
     bench(budget, grammar, &rules(&words), tree)
 }
 
-/// What is printed for an ending with this tree.
-fn ended(ending: &str, tree: &[u32]) -> String {
-    let words: Vec<String> = tree.iter().map(u32::to_string).collect();
-    format!("{ending} {}\n{}", words.len(), words.join(" "))
-}
-
 /// The maps of the two kinds of sequence.
 const REPEAT_AND_LIST: [u32; 2] = [4, 16];
 
@@ -80,13 +74,13 @@ fn t06_a_prefix_is_added_to_each_field_once() {
     let tree = fields(&[&[1], &[2], &[3]]);
     let with = |reach, budget| on(FIELDS, budget, &[RuleText { reach, ..PREFIXING }], &tree);
     let each = fields(&[&[7, 1], &[7, 2], &[7, 3]]);
-    assert_eq!(with(3, 3), ended("done 3 3", &each));
-    assert_eq!(with(3, 1_000_000), ended("done 3 3", &each));
+    assert_eq!(with(3, 3), ended(FIELDS, "done 3 3", &each));
+    assert_eq!(with(3, 1_000_000), ended(FIELDS, "done 3 3", &each));
     // Reach 2 finds the first field again and again, reach 1 only once.
     let first = fields(&[&[7, 7, 7, 7, 7, 1], &[2], &[3]]);
-    assert_eq!(with(2, 5), ended("stopped 40 5 5", &first));
+    assert_eq!(with(2, 5), ended(FIELDS, "stopped 40 5 5", &first));
     let first = fields(&[&[7, 1], &[2], &[3]]);
-    assert_eq!(with(1, 3), ended("done 1 1", &first));
+    assert_eq!(with(1, 3), ended(FIELDS, "done 1 1", &first));
 }
 
 #[test]
@@ -94,12 +88,15 @@ fn t06_the_example_of_the_paper_with_reach_3() {
     let reach_3 = [1, 9, 2, 3, 1, 2, 200, 1, 2, 4200];
     let with = |budget| bench(budget, GRAMMAR, &reach_3, TREE);
     let rewritten = list(&[4200, 500]);
-    assert_eq!(with(3), ended("done 2 1", &rewritten));
-    assert_eq!(with(2), ended("done 2 1", &rewritten));
-    assert_eq!(with(1), ended("stopped 40 1 1", &rewritten));
+    assert_eq!(with(3), ended(GRAMMAR, "done 2 1", &rewritten));
+    assert_eq!(with(2), ended(GRAMMAR, "done 2 1", &rewritten));
+    assert_eq!(with(1), ended(GRAMMAR, "stopped 40 1 1", &rewritten));
     // A replacement equal to its match does not spend the budget.
     let same = [1, 9, 2, 3, 1, 2, 200, 1, 2, 200];
-    assert_eq!(bench(7, GRAMMAR, &same, TREE), ended("done 2 1", TREE));
+    assert_eq!(
+        bench(7, GRAMMAR, &same, TREE),
+        ended(GRAMMAR, "done 2 1", TREE)
+    );
 }
 
 #[test]
@@ -108,17 +105,17 @@ fn t06_1_what_is_put_in_place_is_not_entered() {
     // It is a match, and holds the matched tree.
     assert_eq!(
         with(PREFIXING, &[&[1, 2], &[3]]),
-        ended("done 2 2", &fields(&[&[7, 1, 2], &[7, 3]]))
+        ended(FIELDS, "done 2 2", &fields(&[&[7, 1, 2], &[7, 3]]))
     );
     // It is no match, but holds one.
     assert_eq!(
         with(DOUBLING, &[&[1], &[2]]),
-        ended("done 2 2", &fields(&[&[1, 1], &[2, 2]]))
+        ended(FIELDS, "done 2 2", &fields(&[&[1, 1], &[2, 2]]))
     );
     // It was a part of the matched tree, and is a match.
     assert_eq!(
         with(UNPREFIXING, &[&[5, 6, 1], &[8, 9, 2]]),
-        ended("done 2 2", &fields(&[&[6, 1], &[9, 2]]))
+        ended(FIELDS, "done 2 2", &fields(&[&[6, 1], &[9, 2]]))
     );
     // It is as large as the matched tree, and holds a match.
     let changing = RuleText {
@@ -128,7 +125,7 @@ fn t06_1_what_is_put_in_place_is_not_entered() {
     };
     assert_eq!(
         with(changing, &[&[5, 5, 1], &[5, 2]]),
-        ended("done 2 2", &fields(&[&[6, 5, 1], &[6, 2]]))
+        ended(FIELDS, "done 2 2", &fields(&[&[6, 5, 1], &[6, 2]]))
     );
 }
 
@@ -142,17 +139,17 @@ fn t06_1_the_pass_goes_on_with_the_node_behind() {
             &[UNPREFIXING],
             &fields(&[&[8, 2], &[3], &[9, 4], &[6, 5]])
         ),
-        ended("done 4 3", &fields(&[&[2], &[3], &[4], &[5]]))
+        ended(FIELDS, "done 4 3", &fields(&[&[2], &[3], &[4], &[5]]))
     );
     // Behind one that is larger. The prefixed field is tried in vain.
     assert_eq!(
         on(FIELDS, 99, &[DOUBLING], &fields(&[&[1], &[8, 2], &[3]])),
-        ended("done 4 3", &fields(&[&[1, 1], &[8, 2, 2], &[3, 3]]))
+        ended(FIELDS, "done 4 3", &fields(&[&[1, 1], &[8, 2, 2], &[3, 3]]))
     );
     // Behind one of the same size.
     assert_eq!(
         on(GRAMMAR, 99, &[DIVIDING], &list(&[5, 6, 7])),
-        ended("done 3 3", &list(&[100, 100, 100]))
+        ended(GRAMMAR, "done 3 3", &list(&[100, 100, 100]))
     );
 }
 
@@ -161,21 +158,21 @@ fn t06_2_a_match_is_replaced_before_the_next_attempt() {
     let with = |budget| on(FIELDS, budget, &[PREFIXING], &fields(&[&[1], &[2], &[3]]));
     assert_eq!(
         with(1),
-        ended("stopped 40 1 1", &fields(&[&[7, 1], &[2], &[3]]))
+        ended(FIELDS, "stopped 40 1 1", &fields(&[&[7, 1], &[2], &[3]]))
     );
     assert_eq!(
         with(2),
-        ended("stopped 40 2 2", &fields(&[&[7, 1], &[7, 2], &[3]]))
+        ended(FIELDS, "stopped 40 2 2", &fields(&[&[7, 1], &[7, 2], &[3]]))
     );
     // A stop in the work of a replacement falls in its own attempt.
     let divided = |numbers: &[u32]| on(GRAMMAR, 99, &[DIVIDING], &list(numbers));
     assert_eq!(
         divided(&[0, 8, 9]),
-        ended("stopped 45 1 0", &list(&[0, 8, 9]))
+        ended(GRAMMAR, "stopped 45 1 0", &list(&[0, 8, 9]))
     );
     assert_eq!(
         divided(&[7, 8, 0, 9]),
-        ended("stopped 45 3 2", &list(&[100, 100, 0, 9]))
+        ended(GRAMMAR, "stopped 45 3 2", &list(&[100, 100, 0, 9]))
     );
 }
 
@@ -197,7 +194,7 @@ fn t06_2_a_nested_call_too_many_leaves_the_earlier_replacements() {
     // of 31 calls.
     assert_eq!(
         on(GRAMMAR, 99, &[main, endless], &list(&[4, 5, 9, 6])),
-        ended("stopped 41 36 2", &list(&[4, 5, 9, 6]))
+        ended(GRAMMAR, "stopped 41 36 2", &list(&[4, 5, 9, 6]))
     );
 }
 
@@ -214,10 +211,10 @@ fn t06_3_only_nodes_of_the_target_type_are_tried() {
     // Names below one, two and three fields.
     assert_eq!(
         with(6, renaming, &[&[1], &[2, 3], &[4, 5, 6]]),
-        ended("done 6 6", &fields(&[&[9], &[9, 9], &[9, 9, 9]]))
+        ended(FIELDS, "done 6 6", &fields(&[&[9], &[9, 9], &[9, 9, 9]]))
     );
     // No field, so no attempt.
-    assert_eq!(with(1, PREFIXING, &[]), "done 0 0 4\n0 0 1 1");
+    assert_eq!(with(1, PREFIXING, &[]), "done 0 0 6\n0 0 2 1 1 1");
     // Only the root has type 0.
     let root = RuleText {
         target: 0,
@@ -227,7 +224,10 @@ fn t06_3_only_nodes_of_the_target_type_are_tried() {
         ..NONE
     };
     let tree: [&[u32]; 2] = [&[1], &[2]];
-    assert_eq!(with(1, root, &tree), ended("done 1 0", &fields(&tree)));
+    assert_eq!(
+        with(1, root, &tree),
+        ended(FIELDS, "done 1 0", &fields(&tree))
+    );
 }
 
 /// The paper's grammar with this map for its sequence.
@@ -250,20 +250,35 @@ fn t06_4_the_rest_of_a_sequence_is_a_child() {
         };
         // Every rest is tried, the empty one too.
         let seven = |numbers| with(&[(1, 0), (2, 7), (64, 1)], &[(65, 0)], numbers);
-        assert_eq!(seven(&[4, 5, 6]), ended("done 4 0", &list(&[4, 5, 6])));
+        assert_eq!(
+            seven(&[4, 5, 6]),
+            ended(GRAMMAR, "done 4 0", &list(&[4, 5, 6]))
+        );
         // The rest of a match is not, though it would match.
         assert_eq!(
             seven(&[4, 7, 7, 7, 5]),
-            ended("done 2 1", &list(&[4, 7, 7, 5]))
+            ended(GRAMMAR, "done 2 1", &list(&[4, 7, 7, 5]))
         );
-        assert_eq!(seven(&[7, 4, 7]), ended("done 1 1", &list(&[4, 7])));
-        assert_eq!(seven(&[4, 5, 7]), ended("done 3 1", &list(&[4, 5])));
+        assert_eq!(
+            seven(&[7, 4, 7]),
+            ended(GRAMMAR, "done 1 1", &list(&[4, 7]))
+        );
+        assert_eq!(
+            seven(&[4, 5, 7]),
+            ended(GRAMMAR, "done 3 1", &list(&[4, 5]))
+        );
         // The last rest, and the sequence itself.
         let append = |numbers| with(&[(1, 1)], &[(1, 0), (2, 9), (1, 1)], numbers);
-        assert_eq!(append(&[4, 5]), ended("done 3 1", &list(&[4, 5, 9])));
-        assert_eq!(append(&[]), ended("done 1 1", &list(&[9])));
+        assert_eq!(
+            append(&[4, 5]),
+            ended(GRAMMAR, "done 3 1", &list(&[4, 5, 9]))
+        );
+        assert_eq!(append(&[]), ended(GRAMMAR, "done 1 1", &list(&[9])));
         let prepend = |numbers| with(&[(64, 1)], &[(1, 0), (2, 9), (65, 0)], numbers);
-        assert_eq!(prepend(&[4, 5]), ended("done 1 1", &list(&[9, 4, 5])));
+        assert_eq!(
+            prepend(&[4, 5]),
+            ended(GRAMMAR, "done 1 1", &list(&[9, 4, 5]))
+        );
     }
 }
 
@@ -272,6 +287,7 @@ fn t06_4_an_element_is_tried_before_the_rest() {
     for map in REPEAT_AND_LIST {
         // A sequence of itself, of two empty ones: A, its element B, its rest
         // C, C's element D, C's rest E.
+        let grammar = [1, map, 0];
         let tree = [0, 0, 0, 1, 0, 0, 0, 1, 0, 1];
         let with = |budget| {
             let text = RuleText {
@@ -280,18 +296,18 @@ fn t06_4_an_element_is_tried_before_the_rest() {
                 replacement: &[(0, 0), (0, 1), (0, 1)],
                 ..NONE
             };
-            on(&[1, map, 0], budget, &[text], &tree)
+            on(&grammar, budget, &[text], &tree)
         };
         let (a, c) = ([0, 0], [0, 0]);
         let (old, new) = ([0, 1], [0, 0, 0, 1, 0, 1]);
         let b = [&a[..], &new, &c, &old, &old].concat();
         let b_d = [&a[..], &new, &c, &new, &old].concat();
         let b_d_e = [&a[..], &new, &c, &new, &new].concat();
-        assert_eq!(with(1), ended("stopped 40 1 0", &tree));
-        assert_eq!(with(2), ended("stopped 40 2 1", &b));
-        assert_eq!(with(3), ended("stopped 40 3 1", &b));
-        assert_eq!(with(4), ended("stopped 40 4 2", &b_d));
-        assert_eq!(with(5), ended("done 5 3", &b_d_e));
+        assert_eq!(with(1), ended(&grammar, "stopped 40 1 0", &tree));
+        assert_eq!(with(2), ended(&grammar, "stopped 40 2 1", &b));
+        assert_eq!(with(3), ended(&grammar, "stopped 40 3 1", &b));
+        assert_eq!(with(4), ended(&grammar, "stopped 40 4 2", &b_d));
+        assert_eq!(with(5), ended(&grammar, "done 5 3", &b_d_e));
     }
 }
 
@@ -311,12 +327,17 @@ fn t06_4_the_children_of_an_unmatched_node_are_tried() {
             deconstruct(0, &[(2, 0), (64, 3)]),
             &[&[1], &[5, 2], &[5, 6, 3]]
         ),
-        ended("done 6 3", &fields(&[&[7, 1], &[5, 7, 2], &[5, 6, 7, 3]]))
+        ended(
+            FIELDS,
+            "done 6 3",
+            &fields(&[&[7, 1], &[5, 7, 2], &[5, 6, 7, 3]])
+        )
     );
     // Only a field that holds the name 4.
     assert_eq!(
         with(search(3, 0, &[(3, 4)]), &[&[5, 1], &[4, 2], &[5, 4], &[4]]),
         ended(
+            FIELDS,
             "done 5 3",
             &fields(&[&[5, 1], &[7, 4, 2], &[7, 5, 4], &[7, 4]])
         )
@@ -335,7 +356,7 @@ fn t06_5_a_match_at_the_root_of_the_scope_ends_the_pass() {
     };
     assert_eq!(
         on(FIELDS, 1, &[adding], &fields(&[&[1]])),
-        ended("done 1 1", &fields(&[&[7], &[1]]))
+        ended(FIELDS, "done 1 1", &fields(&[&[7], &[1]]))
     );
     // The root's type also stands below it: `form 0: []` or `form 1: [0]`.
     let grammar = [1, 8, 2, 0, 1, 0];
@@ -350,9 +371,12 @@ fn t06_5_a_match_at_the_root_of_the_scope_ends_the_pass() {
     };
     assert_eq!(
         with(&[(64, 0)], &[(0, 1), (65, 0)]),
-        "done 1 1 8\n0 1 0 1 0 1 0 0"
+        "done 1 1 12\n0 1 4 0 1 3 0 1 2 0 0 1"
     );
-    assert_eq!(with(&[(0, 1), (64, 0)], &[(65, 0)]), "done 1 1 4\n0 1 0 0");
+    assert_eq!(
+        with(&[(0, 1), (64, 0)], &[(65, 0)]),
+        "done 1 1 6\n0 1 2 0 0 1"
+    );
 }
 
 /// A rule on the whole tree of the paper's grammar that makes it empty if its
@@ -407,8 +431,8 @@ fn t06_6_in_a_test_reach_3_acts_as_reach_1() {
                     on(GRAMMAR, 99, &[main, rule_1], &list(numbers))
                 };
                 let trials = attempts + 1;
-                let held = ended(&format!("done {trials} 1"), &list(&[8]));
-                let failed = ended(&format!("done {trials} 0"), &list(numbers));
+                let held = ended(GRAMMAR, &format!("done {trials} 1"), &list(&[8]));
+                let failed = ended(GRAMMAR, &format!("done {trials} 0"), &list(numbers));
                 let (plain, negated) = match success {
                     true => (held, failed),
                     false => (failed, held),
@@ -432,20 +456,20 @@ fn t06_6_the_first_success_ends_a_test() {
     // Success ends the first application, and no second one follows.
     assert_eq!(
         emptying_if(condition(&twice), seven(), &[4, 7, 7]),
-        ended("done 3 1", &list(&[]))
+        ended(GRAMMAR, "done 3 1", &list(&[]))
     );
     assert_eq!(
         emptying_if(not_condition(&twice), seven(), &[4, 7, 7]),
-        ended("done 3 0", &list(&[4, 7, 7]))
+        ended(GRAMMAR, "done 3 0", &list(&[4, 7, 7]))
     );
     // Both try all numbers in vain.
     assert_eq!(
         emptying_if(condition(&twice), seven(), &[4, 5, 6]),
-        ended("done 7 0", &list(&[4, 5, 6]))
+        ended(GRAMMAR, "done 7 0", &list(&[4, 5, 6]))
     );
     assert_eq!(
         emptying_if(not_condition(&twice), seven(), &[4, 5, 6]),
-        ended("done 7 1", &list(&[]))
+        ended(GRAMMAR, "done 7 1", &list(&[]))
     );
 }
 
@@ -468,13 +492,16 @@ fn t06_6_a_condition_of_reach_3_tries_nested_nodes() {
         on(FIELDS, 99, &[main, like], &fields(&[names, &[5]]))
     };
     let none = fields(&[]);
-    assert_eq!(with(&[(64, 2)], &[1, 2, 5]), ended("done 2 1", &none));
+    assert_eq!(
+        with(&[(64, 2)], &[1, 2, 5]),
+        ended(FIELDS, "done 2 1", &none)
+    );
     let five: &[(u32, u32)] = &[(2, 0), (3, 5)];
-    assert_eq!(with(five, &[5]), ended("done 2 1", &none));
-    assert_eq!(with(five, &[1, 2, 5]), ended("done 4 1", &none));
+    assert_eq!(with(five, &[5]), ended(FIELDS, "done 2 1", &none));
+    assert_eq!(with(five, &[1, 2, 5]), ended(FIELDS, "done 4 1", &none));
     assert_eq!(
         with(five, &[1, 5, 2]),
-        ended("done 4 0", &fields(&[&[1, 5, 2], &[5]]))
+        ended(FIELDS, "done 4 0", &fields(&[&[1, 5, 2], &[5]]))
     );
 }
 
@@ -502,19 +529,31 @@ fn t06_6_a_one_pass_rule_with_a_test() {
     };
     for replacement in [&[][..], &[(2, 9)]] {
         let with = |test, budget| with(test, replacement, budget);
-        assert_eq!(with(condition, 6), ended("done 6 2", &list(&[6, 4, 6])));
-        assert_eq!(with(not_condition, 6), ended("done 6 1", &list(&[5, 6, 5])));
+        assert_eq!(
+            with(condition, 6),
+            ended(GRAMMAR, "done 6 2", &list(&[6, 4, 6]))
+        );
+        assert_eq!(
+            with(not_condition, 6),
+            ended(GRAMMAR, "done 6 1", &list(&[5, 6, 5]))
+        );
         // The test of the third number is due, and its own attempt.
         let first = list(&[6, 4, 5]);
-        assert_eq!(with(condition, 5), ended("stopped 40 5 1", &first));
-        assert_eq!(with(condition, 4), ended("stopped 40 4 1", &first));
+        assert_eq!(with(condition, 5), ended(GRAMMAR, "stopped 40 5 1", &first));
+        assert_eq!(with(condition, 4), ended(GRAMMAR, "stopped 40 4 1", &first));
         let second = list(&[5, 6, 5]);
-        assert_eq!(with(not_condition, 5), ended("stopped 40 5 1", &second));
-        assert_eq!(with(not_condition, 4), ended("stopped 40 4 1", &second));
+        assert_eq!(
+            with(not_condition, 5),
+            ended(GRAMMAR, "stopped 40 5 1", &second)
+        );
+        assert_eq!(
+            with(not_condition, 4),
+            ended(GRAMMAR, "stopped 40 4 1", &second)
+        );
         // The test of the second one.
         assert_eq!(
             with(not_condition, 3),
-            ended("stopped 40 3 0", &list(&[5, 4, 5]))
+            ended(GRAMMAR, "stopped 40 3 0", &list(&[5, 4, 5]))
         );
     }
 }
@@ -524,19 +563,22 @@ fn t06_7_40_only_if_a_further_node_comes_up() {
     let with = |budget, tree: &[&[u32]]| on(FIELDS, budget, &[PREFIXING], &fields(tree));
     let three: [&[u32]; 3] = [&[1], &[2], &[3]];
     let each = fields(&[&[7, 1], &[7, 2], &[7, 3]]);
-    assert_eq!(with(3, &three), ended("done 3 3", &each));
-    assert_eq!(with(4, &three), ended("done 3 3", &each));
+    assert_eq!(with(3, &three), ended(FIELDS, "done 3 3", &each));
+    assert_eq!(with(4, &three), ended(FIELDS, "done 3 3", &each));
     let two = fields(&[&[7, 1], &[7, 2], &[3]]);
-    assert_eq!(with(2, &three), ended("stopped 40 2 2", &two));
+    assert_eq!(with(2, &three), ended(FIELDS, "stopped 40 2 2", &two));
     // The fields in a match do not come up.
     let prefixed = fields(&[&[7, 1], &[7, 5, 6, 2]]);
-    assert_eq!(with(2, &[&[1], &[5, 6, 2]]), ended("done 2 2", &prefixed));
-    assert_eq!(with(1, &[]), ended("done 0 0", &fields(&[])));
+    assert_eq!(
+        with(2, &[&[1], &[5, 6, 2]]),
+        ended(FIELDS, "done 2 2", &prefixed)
+    );
+    assert_eq!(with(1, &[]), ended(FIELDS, "done 0 0", &fields(&[])));
     // The last number is not a match; only an empty rest is behind it.
     let reach_3 = [1, 9, 2, 3, 1, 2, 5, 1, 2, 6];
     let with = |budget| bench(budget, GRAMMAR, &reach_3, &list(&[5, 5, 4]));
-    assert_eq!(with(3), ended("done 3 2", &list(&[6, 6, 4])));
-    assert_eq!(with(2), ended("stopped 40 2 2", &list(&[6, 6, 4])));
+    assert_eq!(with(3), ended(GRAMMAR, "done 3 2", &list(&[6, 6, 4])));
+    assert_eq!(with(2), ended(GRAMMAR, "stopped 40 2 2", &list(&[6, 6, 4])));
 }
 
 #[test]
@@ -552,11 +594,17 @@ fn t06_8_42_counts_the_earlier_replacements() {
         fields(&tree)
     };
     // 2,047 nodes when all is done.
-    assert_eq!(with(409), ended("done 409 409", &prefixed(409, 0)));
+    assert_eq!(with(409), ended(FIELDS, "done 409 409", &prefixed(409, 0)));
     // 1,232 nodes, and 2,048 after 408 replacements.
-    assert_eq!(with(410), ended("stopped 42 409 408", &prefixed(408, 2)));
+    assert_eq!(
+        with(410),
+        ended(FIELDS, "stopped 42 409 408", &prefixed(408, 2))
+    );
     // 1,502 nodes, and 2,048 after 273.
-    assert_eq!(with(500), ended("stopped 42 274 273", &prefixed(273, 227)));
+    assert_eq!(
+        with(500),
+        ended(FIELDS, "stopped 42 274 273", &prefixed(273, 227))
+    );
 }
 
 /// Type 0 is a repeat 1 of rows 2, each of two repeats 3 of numbers 4.
@@ -586,27 +634,27 @@ fn t06_8_42_counts_what_earlier_replacements_have_taken_away() {
     // 2,030 nodes, 1,030 after the first replacement, then 2,010.
     assert_eq!(
         with(&[(0, 500), (500, 10)]),
-        ended("done 2 2", &rows(&[(0, 0), (500, 500)]))
+        ended(ROWS, "done 2 2", &rows(&[(0, 0), (500, 500)]))
     );
     // 2,030 nodes, and 3,010 after the first replacement.
     let grown_first = [(500, 10), (0, 500)];
     assert_eq!(
         with(&grown_first),
-        ended("stopped 42 1 0", &rows(&grown_first))
+        ended(ROWS, "stopped 42 1 0", &rows(&grown_first))
     );
     // In the end 10 + 4 x 509 = 2,046 nodes, and 2,050 with 510.
     assert_eq!(
         with(&[(0, 100), (509, 0)]),
-        ended("done 2 2", &rows(&[(0, 0), (509, 509)]))
+        ended(ROWS, "done 2 2", &rows(&[(0, 0), (509, 509)]))
     );
     assert_eq!(
         with(&[(0, 100), (510, 0)]),
-        ended("stopped 42 2 1", &rows(&[(0, 0), (510, 0)]))
+        ended(ROWS, "stopped 42 2 1", &rows(&[(0, 0), (510, 0)]))
     );
     // The replacement alone has 3 + 4 x 512 = 2,051 nodes.
     assert_eq!(
         with(&[(1, 0), (512, 0), (2, 0)]),
-        ended("stopped 42 2 1", &rows(&[(1, 1), (512, 0), (2, 0)]))
+        ended(ROWS, "stopped 42 2 1", &rows(&[(1, 1), (512, 0), (2, 0)]))
     );
 }
 
@@ -639,24 +687,24 @@ fn t06_8_43_in_a_later_place() {
     };
     assert_eq!(
         with(&branches((59, 0), (59, 0))),
-        ended("done 2 2", &branches((59, 1), (59, 1)))
+        ended(BRANCHES, "done 2 2", &branches((59, 1), (59, 1)))
     );
     assert_eq!(
         with(&branches((0, 0), (60, 0))),
-        ended("stopped 43 2 1", &branches((0, 1), (60, 0)))
+        ended(BRANCHES, "stopped 43 2 1", &branches((0, 1), (60, 0)))
     );
     assert_eq!(
         with(&branches((60, 0), (0, 0))),
-        ended("stopped 43 1 0", &branches((60, 0), (0, 0)))
+        ended(BRANCHES, "stopped 43 1 0", &branches((60, 0), (0, 0)))
     );
     // The inner trees of type 1 are not tried.
     assert_eq!(
         with(&branches((10, 3), (20, 39))),
-        ended("done 2 2", &branches((10, 4), (20, 40)))
+        ended(BRANCHES, "done 2 2", &branches((10, 4), (20, 40)))
     );
     assert_eq!(
         with(&branches((10, 3), (20, 40))),
-        ended("stopped 43 2 1", &branches((10, 4), (20, 40)))
+        ended(BRANCHES, "stopped 43 2 1", &branches((10, 4), (20, 40)))
     );
 }
 
@@ -675,14 +723,14 @@ fn t06_8_live_nodes_fall_by_the_nodes_replaced() {
     for taken in [0, 1, 100, 237] {
         assert_eq!(
             with(&[(0, taken), (500, 282)]),
-            ended("done 2 2", &rows(&[(0, 0), (500, 500)]))
+            ended(ROWS, "done 2 2", &rows(&[(0, 0), (500, 500)]))
         );
     }
     // With one number more on the right, 4 more.
     for taken in [0, 1, 100, 236] {
         assert_eq!(
             with(&[(0, taken), (500, 283)]),
-            ended("stopped 44 2 1", &rows(&[(0, 0), (500, 283)]))
+            ended(ROWS, "stopped 44 2 1", &rows(&[(0, 0), (500, 283)]))
         );
     }
     // Here the first row has 18 nodes more after its replacement; then the
@@ -690,11 +738,11 @@ fn t06_8_live_nodes_fall_by_the_nodes_replaced() {
     // 1,001 and the replacement 2,003, in all 6,144.
     assert_eq!(
         with(&[(9, 0), (500, 273)]),
-        ended("done 2 2", &rows(&[(9, 9), (500, 500)]))
+        ended(ROWS, "done 2 2", &rows(&[(9, 9), (500, 500)]))
     );
     assert_eq!(
         with(&[(9, 0), (500, 274)]),
-        ended("stopped 44 2 1", &rows(&[(9, 9), (500, 274)]))
+        ended(ROWS, "stopped 44 2 1", &rows(&[(9, 9), (500, 274)]))
     );
 }
 
@@ -706,7 +754,7 @@ fn t06_9_each_match_has_its_own_variables() {
     };
     assert_eq!(
         on(ROWS, 99, &[swapping], &rows(&[(1, 2), (3, 4), (5, 0)])),
-        ended("done 3 3", &rows(&[(2, 1), (4, 3), (0, 5)]))
+        ended(ROWS, "done 3 3", &rows(&[(2, 1), (4, 3), (0, 5)]))
     );
     // Built ones too: each field gets its own name as prefix.
     let building = RuleText {
@@ -717,7 +765,7 @@ fn t06_9_each_match_has_its_own_variables() {
     };
     assert_eq!(
         on(FIELDS, 99, &[building], &fields(&[&[1], &[2], &[3]])),
-        ended("done 3 3", &fields(&[&[1, 1], &[2, 2], &[3, 3]]))
+        ended(FIELDS, "done 3 3", &fields(&[&[1, 1], &[2, 2], &[3, 3]]))
     );
 }
 
@@ -736,11 +784,14 @@ fn t06_9_a_failed_attempt_keeps_nothing() {
         on(GRAMMAR, 2_000, &[text], &list(numbers))
     };
     let mut numbers = vec![5; 1_023];
-    assert_eq!(with(&numbers), ended("done 1024 0", &list(&numbers)));
+    assert_eq!(
+        with(&numbers),
+        ended(GRAMMAR, "done 1024 0", &list(&numbers))
+    );
     numbers[1_022] = 9;
     assert_eq!(
         with(&numbers),
-        ended("done 1023 1", &list(&numbers[..1_022]))
+        ended(GRAMMAR, "done 1023 1", &list(&numbers[..1_022]))
     );
 }
 
@@ -764,7 +815,7 @@ fn t06_9_parameters_stay_to_the_end_of_the_pass() {
             &[main, prefixing],
             &fields(&[&[9], &[1], &[5, 2], &[3]])
         ),
-        ended("done 4 1", &fields(&[&[9, 1], &[9, 5, 2], &[9, 3]]))
+        ended(FIELDS, "done 4 1", &fields(&[&[9, 1], &[9, 5, 2], &[9, 3]]))
     );
 }
 
@@ -792,10 +843,10 @@ fn t06_9_parameters_are_live_to_the_end_of_the_pass() {
     for (taken, right) in [(0, 190), (5, 187), (100, 130), (315, 1)] {
         assert_eq!(
             with(&[(0, taken), (300, right)]),
-            ended("done 3 1", &rows(&[(0, 0), (300, 300)]))
+            ended(ROWS, "done 3 1", &rows(&[(0, 0), (300, 300)]))
         );
         let over = [(0, taken), (300, right + 1)];
-        assert_eq!(with(&over), ended("stopped 44 3 0", &rows(&over)));
+        assert_eq!(with(&over), ended(ROWS, "stopped 44 3 0", &rows(&over)));
     }
 }
 
@@ -851,7 +902,10 @@ fn t06_10_rule_0_with_reach_3_has_any_target() {
         assert_eq!(refusal(&with(target)), None);
         // Each puts the outermost node, or all numbers, in its own place.
         let ending = if target < 2 { "done 1 1" } else { "done 2 2" };
-        assert_eq!(bench(9, GRAMMAR, &with(target), TREE), ended(ending, TREE));
+        assert_eq!(
+            bench(9, GRAMMAR, &with(target), TREE),
+            ended(GRAMMAR, ending, TREE)
+        );
     }
     assert_eq!(refusal(&with(3)), Some((21, 2)));
     // It still has a replacement and no parameters.
@@ -888,7 +942,7 @@ fn t06_10_a_rule_of_reach_3_is_applied_to_any_scope() {
     // No sequence is in the number: no attempt, and the copy stays.
     assert_eq!(
         bench(1, GRAMMAR, &with(3, &[(65, 0)]), TREE),
-        ended("done 1 1", TREE)
+        ended(GRAMMAR, "done 1 1", TREE)
     );
     // A condition is not applied by a replacement, but by a test.
     assert_eq!(refusal(&with(3, &[])), Some((22, 12)));
@@ -900,7 +954,7 @@ fn t06_10_a_rule_of_reach_3_is_applied_to_any_scope() {
     };
     assert_eq!(
         emptying_if(condition(&chain(0, &[apply(1, &[])])), tested, &[4, 5]),
-        ended("done 3 1", &list(&[]))
+        ended(GRAMMAR, "done 3 1", &list(&[]))
     );
 }
 
@@ -935,18 +989,21 @@ fn t06_11_in_a_group_it_is_one_pass_over_the_copy() {
     };
     assert_eq!(
         with(9, &[1]),
-        ended("done 3 1", &fields(&[&[7, 1], &[7, 5, 2]]))
+        ended(FIELDS, "done 3 1", &fields(&[&[7, 1], &[7, 5, 2]]))
     );
     // Each application is a pass of its own.
     let twice = fields(&[&[7, 7, 1], &[7, 7, 5, 2]]);
-    assert_eq!(with(5, &[1, 1]), ended("done 5 1", &twice));
+    assert_eq!(with(5, &[1, 1]), ended(FIELDS, "done 5 1", &twice));
     // A stop in a copy leaves nothing of it.
     let unchanged = fields(&[&[1], &[5, 2]]);
-    assert_eq!(with(4, &[1, 1]), ended("stopped 40 4 0", &unchanged));
-    assert_eq!(with(2, &[1]), ended("stopped 40 2 0", &unchanged));
+    assert_eq!(
+        with(4, &[1, 1]),
+        ended(FIELDS, "stopped 40 4 0", &unchanged)
+    );
+    assert_eq!(with(2, &[1]), ended(FIELDS, "stopped 40 2 0", &unchanged));
     assert_eq!(
         on_copy(GRAMMAR, 9, &[1], DIVIDING, &list(&[8, 0, 9])),
-        ended("stopped 45 3 0", &list(&[8, 0, 9]))
+        ended(GRAMMAR, "stopped 45 3 0", &list(&[8, 0, 9]))
     );
 }
 
@@ -962,7 +1019,7 @@ fn t06_11_a_match_at_the_root_of_the_copy_ends_the_pass() {
     };
     assert_eq!(
         on_copy(GRAMMAR, 9, &[1], doubling, &list(&[4, 5])),
-        ended("done 2 1", &list(&[4, 4, 5]))
+        ended(GRAMMAR, "done 2 1", &list(&[4, 4, 5]))
     );
 }
 
@@ -980,7 +1037,7 @@ fn t06_11_the_variable_is_not_changed_by_a_pass_over_its_copy() {
     };
     assert_eq!(
         on(FIELDS, 9, &[main, PREFIXING], &fields(&[&[1, 2], &[3]])),
-        ended("done 2 1", &fields(&[&[7, 1, 2], &[1, 2], &[3]]))
+        ended(FIELDS, "done 2 1", &fields(&[&[7, 1, 2], &[1, 2], &[3]]))
     );
 }
 
@@ -1004,14 +1061,14 @@ fn t06_11_only_the_replacements_of_the_first_call_count() {
     };
     assert_eq!(
         with(9),
-        ended("done 9 3", &fields(&[&[9, 9], &[9], &[9, 9, 9]]))
+        ended(FIELDS, "done 9 3", &fields(&[&[9, 9], &[9], &[9, 9, 9]]))
     );
     // The last field has its own attempt and two of its three names.
     let two = fields(&[&[9, 9], &[9], &[4, 5, 6]]);
-    assert_eq!(with(8), ended("stopped 40 8 2", &two));
-    assert_eq!(with(5), ended("stopped 40 5 2", &two));
+    assert_eq!(with(8), ended(FIELDS, "stopped 40 8 2", &two));
+    assert_eq!(with(5), ended(FIELDS, "stopped 40 5 2", &two));
     let one = fields(&[&[9, 9], &[3], &[4, 5, 6]]);
-    assert_eq!(with(4), ended("stopped 40 4 1", &one));
+    assert_eq!(with(4), ended(FIELDS, "stopped 40 4 1", &one));
     // Rule 0 puts 7 for the head of a sequence and calls itself on the rest.
     let recursive = RuleText {
         target: 1,
@@ -1022,7 +1079,7 @@ fn t06_11_only_the_replacements_of_the_first_call_count() {
     };
     assert_eq!(
         on(GRAMMAR, 9, &[recursive], TREE),
-        ended("done 3 1", &list(&[7, 7]))
+        ended(GRAMMAR, "done 3 1", &list(&[7, 7]))
     );
 }
 
@@ -1106,6 +1163,7 @@ impl Pass<'_> {
         let words = pass.over(tree);
         let ending = if pass.stopped { "stopped 40" } else { "done" };
         ended(
+            &shapes(4),
             &format!("{ending} {} {}", pass.trials, pass.replacements),
             &words,
         )
@@ -1269,15 +1327,18 @@ fn t06_the_bound_on_the_attempts_of_great_trees() {
     };
     let six = list(&[6; 1_023]);
     for budget in [1_023, 1_024] {
-        assert_eq!(with(5, 6, budget), ended("done 1023 1023", &six));
-        assert_eq!(with(6, 5, budget), ended("done 1023 0", &numbers));
+        assert_eq!(with(5, 6, budget), ended(GRAMMAR, "done 1023 1023", &six));
+        assert_eq!(with(6, 5, budget), ended(GRAMMAR, "done 1023 0", &numbers));
     }
     let last_is_5 = [vec![6; 1_022], vec![5]].concat();
     assert_eq!(
         with(5, 6, 1_022),
-        ended("stopped 40 1022 1022", &list(&last_is_5))
+        ended(GRAMMAR, "stopped 40 1022 1022", &list(&last_is_5))
     );
-    assert_eq!(with(6, 5, 1_022), ended("stopped 40 1022 0", &numbers));
+    assert_eq!(
+        with(6, 5, 1_022),
+        ended(GRAMMAR, "stopped 40 1022 0", &numbers)
+    );
     // A field below 60 prefixes, the deepest there is; all 61 are tried.
     let names = [5; 61];
     let with = |pattern, replacement, budget| {
@@ -1291,12 +1352,24 @@ fn t06_the_bound_on_the_attempts_of_great_trees() {
     let renaming = |budget| with(&[(2, 0), (64, 3)], &[(2, 0), (3, 2)], budget);
     let mut renamed = names;
     renamed[60] = 2;
-    assert_eq!(renaming(60), ended("stopped 40 60 0", &fields(&[&names])));
-    assert_eq!(renaming(61), ended("done 61 1", &fields(&[&renamed])));
-    assert_eq!(renaming(62), ended("done 61 1", &fields(&[&renamed])));
+    assert_eq!(
+        renaming(60),
+        ended(FIELDS, "stopped 40 60 0", &fields(&[&names]))
+    );
+    assert_eq!(
+        renaming(61),
+        ended(FIELDS, "done 61 1", &fields(&[&renamed]))
+    );
+    assert_eq!(
+        renaming(62),
+        ended(FIELDS, "done 61 1", &fields(&[&renamed]))
+    );
     // Too deep by one, but not 40.
     let doubling = |budget| with(DOUBLING.pattern, DOUBLING.replacement, budget);
-    assert_eq!(doubling(61), ended("stopped 43 61 0", &fields(&[&names])));
+    assert_eq!(
+        doubling(61),
+        ended(FIELDS, "stopped 43 61 0", &fields(&[&names]))
+    );
 }
 
 #[test]
@@ -1304,15 +1377,15 @@ fn t06_the_bound_with_operations() {
     // Operations are no attempts, though they may stop.
     let with = |budget, numbers: &[u32]| on(GRAMMAR, budget, &[DIVIDING], &list(numbers));
     let done = list(&[100, 100, 100]);
-    assert_eq!(with(4, &[3, 4, 5]), ended("done 3 3", &done));
-    assert_eq!(with(3, &[3, 4, 5]), ended("done 3 3", &done));
+    assert_eq!(with(4, &[3, 4, 5]), ended(GRAMMAR, "done 3 3", &done));
+    assert_eq!(with(3, &[3, 4, 5]), ended(GRAMMAR, "done 3 3", &done));
     assert_eq!(
         with(2, &[3, 4, 5]),
-        ended("stopped 40 2 2", &list(&[100, 100, 5]))
+        ended(GRAMMAR, "stopped 40 2 2", &list(&[100, 100, 5]))
     );
     assert_eq!(
         with(3, &[3, 4, 0]),
-        ended("stopped 45 3 2", &list(&[100, 100, 0]))
+        ended(GRAMMAR, "stopped 45 3 2", &list(&[100, 100, 0]))
     );
-    assert_eq!(with(1, &[]), ended("done 0 0", &list(&[])));
+    assert_eq!(with(1, &[]), ended(GRAMMAR, "done 0 0", &list(&[])));
 }

@@ -50,9 +50,9 @@ fn line(grammar: &[u32], budget: u32, texts: &[RuleText], tree: &[u32]) -> Strin
 
 #[test]
 fn m1_40_only_when_an_attempt_is_due() {
-    assert_eq!(first_line(3, GRAMMAR, RULES, TREE), "done 3 1 12");
-    assert_eq!(first_line(1, GRAMMAR, RULES, &[0, 0, 1, 1]), "done 0 0 4");
-    assert_eq!(first_line(1, GRAMMAR, RULES, &list(&[5])), "done 1 0 8");
+    assert_eq!(first_line(3, GRAMMAR, RULES, TREE), "done 3 1 18");
+    assert_eq!(first_line(1, GRAMMAR, RULES, &[0, 0, 1, 1]), "done 0 0 6");
+    assert_eq!(first_line(1, GRAMMAR, RULES, &list(&[5])), "done 1 0 12");
 }
 
 #[test]
@@ -70,14 +70,14 @@ fn m2_opening_a_call_comes_before_its_first_attempt() {
     ];
     // Scope, variable and copy are 6,144; the argument is too much.
     let great = list_of_nodes(2_048);
-    assert_eq!(line(GRAMMAR, 1, &texts, &great), "stopped 44 1 0 4096");
-    assert_eq!(line(GRAMMAR, 1, &texts, TREE), "stopped 40 1 0 12");
+    assert_eq!(line(GRAMMAR, 1, &texts, &great), "stopped 44 1 0 6144");
+    assert_eq!(line(GRAMMAR, 1, &texts, TREE), "stopped 40 1 0 18");
     // The 33rd call comes before the 33rd attempt.
     let endless = RuleText {
         replacement: &[(66, 0), (1, 0), (0, 0)],
         ..WHOLE
     };
-    assert_eq!(line(GRAMMAR, 32, &[endless], TREE), "stopped 41 32 0 12");
+    assert_eq!(line(GRAMMAR, 32, &[endless], TREE), "stopped 41 32 0 18");
 }
 
 #[test]
@@ -98,9 +98,9 @@ fn m3_a_variable_is_bound_at_its_pair() {
             ..NONE
         },
     ];
-    assert_eq!(line(&grammar, 9, &texts, &tree(400)), "done 2 1 1606");
+    assert_eq!(line(&grammar, 9, &texts, &tree(400)), "done 2 1 2409");
     // 4 x 1,535 = 6,140 are live, and 1,533 are bound.
-    assert_eq!(line(&grammar, 9, &texts, &tree(766)), "stopped 44 2 0 3070");
+    assert_eq!(line(&grammar, 9, &texts, &tree(766)), "stopped 44 2 0 4605");
 }
 
 #[test]
@@ -110,7 +110,7 @@ fn m4_a_searching_part_does_not_go_back() {
         replacement: &[(0, 0), (1, 1)],
         ..WHOLE
     }];
-    assert_eq!(line(GRAMMAR, 9, &texts, TREE), "done 1 0 12");
+    assert_eq!(line(GRAMMAR, 9, &texts, TREE), "done 1 0 18");
 }
 
 #[test]
@@ -120,13 +120,19 @@ fn m5_a_searching_part_tries_the_root_and_drops_failed_bindings() {
         replacement: &[(0, 0), (1, 0), (65, 1), (1, 1)],
         ..WHOLE
     }];
-    assert_eq!(on_list(9, &last, TREE), "done 1 1 8\n0 0 1 0 2 500 1 1");
+    assert_eq!(
+        on_list(9, &last, TREE),
+        "done 1 1 12\n0 0 4 1 0 3 2 500 1 1 1 1"
+    );
     let root = [RuleText {
         parts: &[search(0, 0, &[(0, 0), (1, 0), (64, 2), (64, 1)])],
         replacement: &[(0, 0), (65, 2)],
         ..WHOLE
     }];
-    assert_eq!(on_list(9, &root, TREE), "done 1 1 8\n0 0 1 0 2 500 1 1");
+    assert_eq!(
+        on_list(9, &root, TREE),
+        "done 1 1 12\n0 0 4 1 0 3 2 500 1 1 1 1"
+    );
 }
 
 #[test]
@@ -145,10 +151,10 @@ fn m6_applications_of_a_test_up_to_the_first_success() {
         ];
         line(GRAMMAR, 9, &texts, TREE)
     };
-    assert_eq!(with(condition(&both)), "done 2 1 4");
-    assert_eq!(with(condition(&second)), "done 3 1 4");
-    assert_eq!(with(not_condition(&both)), "done 2 0 12");
-    assert_eq!(with(not_condition(&second)), "done 3 0 12");
+    assert_eq!(with(condition(&both)), "done 2 1 6");
+    assert_eq!(with(condition(&second)), "done 3 1 6");
+    assert_eq!(with(not_condition(&both)), "done 2 0 18");
+    assert_eq!(with(not_condition(&second)), "done 3 0 18");
 }
 
 #[test]
@@ -171,7 +177,7 @@ fn m7_a_replacement_is_not_worked_in_a_test() {
     let texts = [RuleText { ..main }, replacing];
     assert_eq!(
         on_list(9, &texts, &list(&[0])),
-        "done 2 1 8\n0 0 1 0 2 9 1 1"
+        "done 2 1 12\n0 0 4 1 0 3 2 9 1 1 1 1"
     );
     // A part of it is worked.
     let constructing = RuleText {
@@ -183,7 +189,7 @@ fn m7_a_replacement_is_not_worked_in_a_test() {
     };
     assert_eq!(
         on_list(9, &[main, constructing], &list(&[0])),
-        "stopped 45 2 0 8\n0 0 1 0 2 0 1 1"
+        "stopped 45 2 0 12\n0 0 4 1 0 3 2 0 1 1 1 1"
     );
 }
 
@@ -200,7 +206,7 @@ const RECURSIVE: RuleText = RuleText {
 fn m8_only_the_first_call_counts_replacements() {
     assert_eq!(
         on_list(9, &[RECURSIVE], TREE),
-        "done 3 1 12\n0 0 1 0 2 7 1 0 2 7 1 1"
+        "done 3 1 18\n0 0 6 1 0 5 2 7 1 1 0 3 2 7 1 1 1 1"
     );
 }
 
@@ -223,7 +229,7 @@ fn m9_the_search_begins_again_at_the_root() {
     }];
     assert_eq!(
         on_list(99, &texts, &list(&[5, 5, 3])),
-        "done 9 2 16\n0 0 1 0 2 5 1 0 2 5 1 0 2 1 1 1"
+        "done 9 2 24\n0 0 8 1 0 7 2 5 1 1 0 5 2 5 1 1 0 3 2 1 1 1 1 1"
     );
 }
 
@@ -238,7 +244,7 @@ fn m10_the_same_tree_is_equal_wherever_it_stands() {
     }];
     assert_eq!(
         on_list(9, &texts, &list(&[4, 5, 5, 6])),
-        "done 2 1 12\n0 0 1 0 2 4 1 0 2 6 1 1"
+        "done 2 1 18\n0 0 6 1 0 5 2 4 1 1 0 3 2 6 1 1 1 1"
     );
 }
 
@@ -263,7 +269,7 @@ fn m11_an_application_without_match_leaves_the_copy() {
     ];
     assert_eq!(
         on_list(9, &texts, &list(&[5])),
-        "done 3 1 8\n0 0 1 0 2 6 1 1"
+        "done 3 1 12\n0 0 4 1 0 3 2 6 1 1 1 1"
     );
 }
 
@@ -287,9 +293,9 @@ fn m12_a_condition_ends_at_its_first_match() {
     let tree = list(&[4, 5, 5]);
     assert_eq!(
         line(GRAMMAR, 9, &[RuleText { ..main }, condition_rule], &tree),
-        "done 3 1 4"
+        "done 3 1 6"
     );
-    assert_eq!(line(GRAMMAR, 9, &[main, rewriting], &tree), "done 3 1 4");
+    assert_eq!(line(GRAMMAR, 9, &[main, rewriting], &tree), "done 3 1 6");
 }
 
 #[test]
@@ -303,7 +309,10 @@ fn m13_operations_and_searching_parts_are_no_attempts() {
         replacement: &[(0, 0), (1, 0), (66, 1), (1, 0), (1_004, 0), (1, 1)],
         ..WHOLE
     }];
-    assert_eq!(on_list(1, &texts, TREE), "done 1 1 8\n0 0 1 0 2 0 1 1");
+    assert_eq!(
+        on_list(1, &texts, TREE),
+        "done 1 1 12\n0 0 4 1 0 3 2 0 1 1 1 1"
+    );
 }
 
 #[test]
@@ -313,7 +322,7 @@ fn h1_putting_in_place_never_raises_live_nodes() {
         ..WHOLE
     }];
     let great = list_of_nodes(2_048);
-    assert_eq!(line(GRAMMAR, 9, &texts, &great), "done 1 1 4096");
+    assert_eq!(line(GRAMMAR, 9, &texts, &great), "done 1 1 6144");
 }
 
 #[test]
@@ -331,8 +340,8 @@ fn h2_a_parameter_counts_once() {
     ];
     // Scope, variable, copy and argument: 4 x 1,536 = 6,144.
     let with = |nodes| line(GRAMMAR, 9, &texts, &list_of_nodes(nodes));
-    assert_eq!(with(1_536), "done 2 1 3072");
-    assert_eq!(with(1_538), "stopped 44 1 0 3076");
+    assert_eq!(with(1_536), "done 2 1 4608");
+    assert_eq!(with(1_538), "stopped 44 1 0 4614");
 }
 
 #[test]
@@ -346,8 +355,8 @@ fn h3_the_copy_comes_before_the_call() {
         let texts = [RuleText { ..endless }];
         line(GRAMMAR, 99, &texts, &list_of_nodes(nodes))
     };
-    assert_eq!(with(96), "stopped 44 32 0 192");
-    assert_eq!(with(94), "stopped 41 32 0 188");
+    assert_eq!(with(96), "stopped 44 32 0 288");
+    assert_eq!(with(94), "stopped 41 32 0 282");
 }
 
 #[test]
@@ -369,9 +378,9 @@ fn h4_42_for_a_chain_is_judged_at_the_move() {
     let tree = deep(0, 449);
     assert_eq!(
         line(DEEP, 9, &[RuleText { ..main }, shrinking], &tree),
-        "done 2 1 3608"
+        "done 2 1 5412"
     );
-    assert_eq!(line(DEEP, 9, &[main, idle], &tree), "stopped 42 2 0 1800");
+    assert_eq!(line(DEEP, 9, &[main, idle], &tree), "stopped 42 2 0 2700");
 }
 
 #[test]
@@ -386,7 +395,7 @@ fn h5_the_copy_of_a_test_is_live_till_the_test_ends() {
         ON_EMPTY,
     ];
     let great = list_of_nodes(2_048);
-    assert_eq!(line(GRAMMAR, 9, &twice, &great), "done 3 1 4096");
+    assert_eq!(line(GRAMMAR, 9, &twice, &great), "done 3 1 6144");
     // With operations only: 2,048 + 2,047 + numbers + 2,047 are live, then the
     // copy of a number. The last part always fails.
     let with = |numbers: usize| {
@@ -402,8 +411,8 @@ fn h5_the_copy_of_a_test_is_live_till_the_test_ends() {
         }];
         line(GRAMMAR, 9, &texts, &great)
     };
-    assert_eq!(with(1), "done 1 0 4096");
-    assert_eq!(with(2), "stopped 44 1 0 4096");
+    assert_eq!(with(1), "done 1 0 6144");
+    assert_eq!(with(2), "stopped 44 1 0 6144");
 }
 
 #[test]
@@ -423,8 +432,8 @@ fn h6_arguments_count_each_and_in_one_step_with_the_call() {
     ];
     // Scope, variable, copy and twice the argument, for each application.
     let with = |nodes| line(GRAMMAR, 9, &texts, &list_of_nodes(nodes));
-    assert_eq!(with(1_228), "done 3 1 2456");
-    assert_eq!(with(1_230), "stopped 44 1 0 2460");
+    assert_eq!(with(1_228), "done 3 1 3684");
+    assert_eq!(with(1_230), "stopped 44 1 0 3690");
     // The 33rd call would have 97 trees of 64 nodes live: 41 is lower.
     let endless = [
         RuleText {
@@ -439,7 +448,7 @@ fn h6_arguments_count_each_and_in_one_step_with_the_call() {
     ];
     assert_eq!(
         line(GRAMMAR, 99, &endless, &list_of_nodes(64)),
-        "stopped 41 32 0 128"
+        "stopped 41 32 0 192"
     );
 }
 
@@ -463,19 +472,19 @@ fn h7_an_operation_holds_nothing_more() {
     };
     let round = [(1_004, 0)];
     let add_itself = [(1_000, 1), (65, 1)];
-    assert_eq!(with(&round, 250), "done 1 0 4096");
-    assert_eq!(with(&add_itself, 250), "done 1 0 4096");
-    assert_eq!(with(&add_itself, 2_000_000_001), "stopped 45 1 0 4096");
+    assert_eq!(with(&round, 250), "done 1 0 6144");
+    assert_eq!(with(&add_itself, 250), "done 1 0 6144");
+    assert_eq!(with(&add_itself, 2_000_000_001), "stopped 45 1 0 6144");
 }
 
 #[test]
 fn h8_open_calls() {
     let tree = |numbers| list(&vec![5; numbers]);
     // A sequence of 31 takes 32 calls, the last on the empty rest.
-    assert_eq!(line(GRAMMAR, 99, &[RECURSIVE], &tree(31)), "done 32 1 128");
+    assert_eq!(line(GRAMMAR, 99, &[RECURSIVE], &tree(31)), "done 32 1 192");
     assert_eq!(
         line(GRAMMAR, 99, &[RECURSIVE], &tree(32)),
-        "stopped 41 32 0 132"
+        "stopped 41 32 0 198"
     );
     // An operation in the 32nd call is no call: it gives 45, not 41.
     let doubling = RuleText {
@@ -486,7 +495,7 @@ fn h8_open_calls() {
     numbers.push(2_000_000_001);
     assert_eq!(
         line(GRAMMAR, 99, &[doubling], &list(&numbers)),
-        "stopped 45 32 0 132"
+        "stopped 45 32 0 198"
     );
     // Calls of tests are nested calls too.
     let testing = RuleText {
@@ -496,7 +505,7 @@ fn h8_open_calls() {
     };
     assert_eq!(
         line(GRAMMAR, 99, &[testing], &[0, 0, 1, 1]),
-        "stopped 41 32 0 4"
+        "stopped 41 32 0 6"
     );
 }
 
@@ -512,8 +521,8 @@ fn h9_nesting_is_judged_after_the_last_pair() {
         parts: &[construct(0, &[(65, 0)])],
         ..deeper
     };
-    assert_eq!(line(DEEP, 9, &[deeper], &tree), "stopped 43 1 0 4002");
-    assert_eq!(line(DEEP, 9, &[holding_more], &tree), "stopped 44 1 0 4002");
+    assert_eq!(line(DEEP, 9, &[deeper], &tree), "stopped 43 1 0 6003");
+    assert_eq!(line(DEEP, 9, &[holding_more], &tree), "stopped 44 1 0 6003");
 }
 
 /// A tree of `DEEP`: two trees, one deep and one long. It has
@@ -536,7 +545,7 @@ const DEEPEN_FIRST: RuleText = RuleText {
 fn h10_43_of_the_finished_tree_comes_before_42_in_place() {
     assert_eq!(
         line(DEEP, 9, &[DEEPEN_FIRST], &two(61, 991)),
-        "stopped 43 2 0 4096"
+        "stopped 43 2 0 6144"
     );
 }
 
@@ -560,14 +569,14 @@ fn h11_nesting_of_a_moved_tree_is_judged_when_the_tree_above_is_finished() {
     };
     let moved = [(0, 2), (66, 0), (1, 0), (1, 0), (0, 1)];
     let divided = [(66, 1), (1, 0), (1_002, 1), (65, 1)];
-    assert_eq!(with(&[&moved[..], &divided].concat()), "stopped 45 2 0 128");
+    assert_eq!(with(&[&moved[..], &divided].concat()), "stopped 45 2 0 192");
     assert_eq!(
         with(&[&moved[..], &[(65, 1)]].concat()),
-        "stopped 43 2 0 128"
+        "stopped 43 2 0 192"
     );
     assert_eq!(
         with(&[&[(0, 2), (65, 0), (0, 1)], &divided[..]].concat()),
-        "stopped 45 1 0 128"
+        "stopped 45 1 0 192"
     );
 }
 
@@ -581,7 +590,7 @@ fn h12_42_in_place_counts_the_scope_as_it_would_be() {
         ..NONE
     }];
     let great = list_of_nodes(2_048);
-    assert_eq!(line(GRAMMAR, 9, &texts, &great), "done 1 1 4096");
+    assert_eq!(line(GRAMMAR, 9, &texts, &great), "done 1 1 6144");
     // One number more in the sequence is 2,050 nodes.
     let growing = [RuleText {
         target: 1,
@@ -591,16 +600,16 @@ fn h12_42_in_place_counts_the_scope_as_it_would_be() {
         ..NONE
     }];
     let with = |nodes| line(GRAMMAR, 9, &growing, &list_of_nodes(nodes));
-    assert_eq!(with(2_046), "done 1 1 4096");
-    assert_eq!(with(2_048), "stopped 42 1 0 4096");
+    assert_eq!(with(2_046), "done 1 1 6144");
+    assert_eq!(with(2_048), "stopped 42 1 0 6144");
 }
 
 #[test]
 fn h13_in_place_42_comes_before_43() {
     let with = |levels, numbers| line(DEEP, 9, &[DEEPEN_FIRST], &two(levels, numbers));
-    assert_eq!(with(60, 991), "stopped 42 2 0 4094");
-    assert_eq!(with(60, 10), "stopped 43 2 0 170");
-    assert_eq!(with(59, 10), "done 2 1 172");
+    assert_eq!(with(60, 991), "stopped 42 2 0 6141");
+    assert_eq!(with(60, 10), "stopped 43 2 0 255");
+    assert_eq!(with(59, 10), "done 2 1 258");
 }
 
 #[test]
@@ -625,8 +634,8 @@ fn h14_nesting_in_place_is_counted_in_the_calls_own_scope() {
         ];
         line(DEEP, 9, &texts, &[0, 1, 1, 1])
     };
-    assert_eq!(with(&[(66, 0), (2, 0), (1, 0), (2, 0)]), "done 3 1 124");
-    assert_eq!(with(&[(66, 0), (1, 0), (1, 0)]), "stopped 43 2 0 4");
+    assert_eq!(with(&[(66, 0), (2, 0), (1, 0), (2, 0)]), "done 3 1 186");
+    assert_eq!(with(&[(66, 0), (1, 0), (1, 0)]), "stopped 43 2 0 6");
     // The place keeps its nesting as the rest of a sequence: the tenth rest
     // of a sequence of itself has nesting 1 and may get nesting 64.
     let tree = [[0, 0, 0, 1].repeat(10), vec![0, 1]].concat();
@@ -638,7 +647,7 @@ fn h14_nesting_in_place_is_counted_in_the_calls_own_scope() {
         replacement: &deepest,
         ..NONE
     }];
-    assert_eq!(line(&[1, 4, 0], 99, &texts, &tree), "done 19 1 290");
+    assert_eq!(line(&[1, 4, 0], 99, &texts, &tree), "done 19 1 435");
 }
 
 #[test]
@@ -648,8 +657,8 @@ fn h15_a_construct_is_judged_though_never_used() {
         replacement: &[(65, 0)],
         ..WHOLE
     }];
-    assert_eq!(line(DEEP, 9, &texts, &deep(61, 1)), "stopped 43 1 0 130");
-    assert_eq!(line(DEEP, 9, &texts, &deep(60, 1)), "done 1 1 128");
+    assert_eq!(line(DEEP, 9, &texts, &deep(61, 1)), "stopped 43 1 0 195");
+    assert_eq!(line(DEEP, 9, &texts, &deep(60, 1)), "done 1 1 192");
 }
 
 #[test]
@@ -661,7 +670,7 @@ fn h16_one_step_over_42_and_44_gives_42() {
     }];
     assert_eq!(
         line(DEEP, 9, &copying, &deep(0, 1_023)),
-        "stopped 42 1 0 4096"
+        "stopped 42 1 0 6144"
     );
     // A written node: the 2,049th, and the 6,145th live one.
     let writing = [RuleText {
@@ -671,7 +680,7 @@ fn h16_one_step_over_42_and_44_gives_42() {
     }];
     assert_eq!(
         line(DEEP, 9, &writing, &deep(0, 1_022)),
-        "stopped 42 1 0 4092"
+        "stopped 42 1 0 6138"
     );
 }
 
@@ -683,8 +692,8 @@ fn h17_42_holds_for_trees_under_way() {
         ..WHOLE
     }];
     let with = |numbers| line(DEEP, 9, &texts, &deep(0, numbers));
-    assert_eq!(with(749), "stopped 42 1 0 3000");
-    assert_eq!(with(510), "done 1 1 2044");
+    assert_eq!(with(749), "stopped 42 1 0 4500");
+    assert_eq!(with(510), "done 1 1 3066");
 }
 
 #[test]
@@ -698,7 +707,7 @@ fn h18_a_failed_attempt_lets_go_of_its_variables() {
         ..NONE
     }];
     let great = list_of_nodes(2_048);
-    assert_eq!(line(GRAMMAR, 2_000, &texts, &great), "done 1024 0 4096");
+    assert_eq!(line(GRAMMAR, 2_000, &texts, &great), "done 1024 0 6144");
 }
 
 /// What one number and an operation with another as argument give.
@@ -728,8 +737,8 @@ fn operate_alone(operation: u32, scope: u32) -> String {
 /// The only number of a list, or the stop.
 fn result(text: &str) -> String {
     let one_number = text
-        .strip_prefix("done 1 1 8\n0 0 1 0 2 ")
-        .and_then(|rest| rest.strip_suffix(" 1 1"));
+        .strip_prefix("done 1 1 12\n0 0 4 1 0 3 2 ")
+        .and_then(|rest| rest.strip_suffix(" 1 1 1 1"));
     match one_number {
         Some(number) => number.to_string(),
         None => text.split(' ').take(2).collect::<Vec<_>>().join(" "),
@@ -913,8 +922,8 @@ fn compare(operation: u32, one: u32, two: u32) -> bool {
         ..NONE
     }];
     match &line(TWO_NUMBERS, 9, &texts, &[0, 0, 1, one, 2, two])[..] {
-        "done 1 1 6" => true,
-        "done 1 0 6" => false,
+        "done 1 1 9" => true,
+        "done 1 0 9" => false,
         other => panic!("a comparison never stops: {other}"),
     }
 }
@@ -928,7 +937,7 @@ fn o4_number_types_may_differ() {
     }];
     assert_eq!(
         on(TWO_NUMBERS, 9, &adding, &[0, 0, 1, 250, 2, 120]),
-        "done 1 1 6\n0 0 1 370 2 120"
+        "done 1 1 9\n0 0 3 1 370 1 2 120 1"
     );
     assert!(compare(1_008, 5, 5) && !compare(1_008, 5, 6));
     assert!(compare(1_009, 6, 5) && !compare(1_009, 5, 5) && !compare(1_009, 5, 6));
@@ -949,15 +958,15 @@ fn t02_1_numbers_of_a_run_to_the_new_limit() {
     let greatest = [(2, 4_000_000_000)];
     assert_eq!(
         with(3_999_999_999, &greatest, &[(2, 5)]),
-        "done 1 0 8\n0 0 1 0 2 3999999999 1 1"
+        "done 1 0 12\n0 0 4 1 0 3 2 3999999999 1 1 1 1"
     );
     assert_eq!(
         with(4_000_000_000, &greatest, &[(2, 5)]),
-        "done 1 1 8\n0 0 1 0 2 5 1 1"
+        "done 1 1 12\n0 0 4 1 0 3 2 5 1 1 1 1"
     );
     assert_eq!(
         with(5, &[(2, 5)], &greatest),
-        "done 1 1 8\n0 0 1 0 2 4000000000 1 1"
+        "done 1 1 12\n0 0 4 1 0 3 2 4000000000 1 1 1 1"
     );
     // A result of 4,000,000,000 is a number like others for what follows.
     let doubled_and = |operation: &[(u32, u32)]| {
@@ -966,15 +975,15 @@ fn t02_1_numbers_of_a_run_to_the_new_limit() {
     };
     assert_eq!(
         doubled_and(&[(1_005, 0)]),
-        "done 1 1 8\n0 0 1 0 2 4000000000 1 1"
+        "done 1 1 12\n0 0 4 1 0 3 2 4000000000 1 1 1 1"
     );
     assert_eq!(
         doubled_and(&[(1_001, 1), (65, 0)]),
-        "done 1 1 8\n0 0 1 0 2 2000000000 1 1"
+        "done 1 1 12\n0 0 4 1 0 3 2 2000000000 1 1 1 1"
     );
     assert_eq!(
         doubled_and(&[(1_000, 1), (65, 0)]),
-        "stopped 45 1 0 8\n0 0 1 0 2 2000000000 1 1"
+        "stopped 45 1 0 12\n0 0 4 1 0 3 2 2000000000 1 1 1 1"
     );
 }
 
@@ -1121,7 +1130,7 @@ fn t02_round_gives_the_nearest_whole_number_and_never_45() {
 fn a1_without_a_replacement_the_result_is_the_tree() {
     assert_eq!(
         bench(9, GRAMMAR, RULES, &list(&[7, 8])),
-        "done 2 0 12\n0 0 1 0 2 7 1 0 2 8 1 1"
+        "done 2 0 18\n0 0 6 1 0 5 2 7 1 1 0 3 2 8 1 1 1 1"
     );
 }
 
@@ -1136,13 +1145,13 @@ fn a2_a_stop_leaves_the_last_replacement() {
     }];
     assert_eq!(
         on_list(9, &texts, &list(&[10, 3, 9])),
-        "stopped 45 2 1 12\n0 0 1 0 2 7 1 0 2 9 1 1"
+        "stopped 45 2 1 18\n0 0 6 1 0 5 2 7 1 1 0 3 2 9 1 1 1 1"
     );
 }
 
 #[test]
 fn a3_the_attempt_of_a_stop_is_counted_and_one_not_started_is_not() {
-    assert_eq!(first_line(2, GRAMMAR, RULES, TREE), "stopped 40 2 1 12");
+    assert_eq!(first_line(2, GRAMMAR, RULES, TREE), "stopped 40 2 1 18");
     assert_eq!(operate(1_001, 5, 6), "stopped 45");
     // The stop of the second replacement above falls in attempt 2; here in 1.
     let texts = [RuleText {
@@ -1152,7 +1161,7 @@ fn a3_the_attempt_of_a_stop_is_counted_and_one_not_started_is_not() {
         replacement: &[(66, 0), (1, 0), (1_001, 1), (65, 0)],
         ..NONE
     }];
-    assert_eq!(line(GRAMMAR, 1, &texts, TREE), "done 1 1 12");
+    assert_eq!(line(GRAMMAR, 1, &texts, TREE), "done 1 1 18");
     let stopping = [RuleText {
         replacement: &[(66, 0), (1, 0), (1_002, 1), (65, 0)],
         target: 2,
@@ -1160,5 +1169,8 @@ fn a3_the_attempt_of_a_stop_is_counted_and_one_not_started_is_not() {
         pattern: &[(64, 2)],
         ..NONE
     }];
-    assert_eq!(line(GRAMMAR, 1, &stopping, &list(&[0])), "stopped 45 1 0 8");
+    assert_eq!(
+        line(GRAMMAR, 1, &stopping, &list(&[0])),
+        "stopped 45 1 0 12"
+    );
 }

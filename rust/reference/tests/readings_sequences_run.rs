@@ -25,9 +25,8 @@ fn line(grammar: GrammarOf, budget: u32, texts: &[RuleText], tree: &[u32]) -> St
 }
 
 /// What is printed when one attempt and one replacement have made this tree.
-fn done(tree: &[u32]) -> String {
-    let words: Vec<String> = tree.iter().map(u32::to_string).collect();
-    format!("done 1 1 {}\n{}", words.len(), words.join(" "))
+fn done(grammar: GrammarOf, tree: &[u32]) -> String {
+    ended(&grammar(4), "done 1 1", tree)
 }
 
 /// The paper's grammar.
@@ -71,65 +70,71 @@ fn t04_7_a_sequence_of_itself_is_joined_as_the_sequence() {
     // One empty element is joined with one empty element.
     assert_eq!(
         on(grammar, 1, &[text()], &[0, 0, 0, 1, 0, 1]),
-        "done 1 1 10\n0 0 0 1 0 0 0 1 0 1"
+        "done 1 1 15\n0 0 5 0 1 1 0 0 3 0 1 1 0 1 1"
     );
     // The empty sequence with itself.
-    assert_eq!(on(grammar, 1, &[text()], &[0, 1]), "done 1 1 2\n0 1");
+    assert_eq!(on(grammar, 1, &[text()], &[0, 1]), "done 1 1 3\n0 1 1");
 }
 
 #[test]
 fn t04_9_a_fraction_is_truncated_first() {
     let three = [10, 20, 30];
-    assert_eq!(select(&three, 99, 100), done(&list(&[10])));
-    assert_eq!(select(&three, 199, 199), done(&list(&[10])));
-    assert_eq!(select(&three, 100, 99), done(&list(&[])));
-    assert_eq!(select(&three, 0, 99), done(&list(&[])));
-    assert_eq!(select(&three, 299, 200), done(&list(&[20])));
-    assert_eq!(select(&three, 300, 299), done(&list(&[])));
+    assert_eq!(select(&three, 99, 100), done(numbers, &list(&[10])));
+    assert_eq!(select(&three, 199, 199), done(numbers, &list(&[10])));
+    assert_eq!(select(&three, 100, 99), done(numbers, &list(&[])));
+    assert_eq!(select(&three, 0, 99), done(numbers, &list(&[])));
+    assert_eq!(select(&three, 299, 200), done(numbers, &list(&[20])));
+    assert_eq!(select(&three, 300, 299), done(numbers, &list(&[])));
     // Halves are cut off, not rounded to even.
-    assert_eq!(select(&three, 150, 250), done(&list(&[10, 20])));
-    assert_eq!(select(&three, 250, 350), done(&list(&[20, 30])));
-    assert_eq!(head(&three, 99), done(&list(&[])));
-    assert_eq!(head(&three, 150), done(&list(&[10])));
-    assert_eq!(head(&three, 299), done(&list(&[10, 20])));
-    assert_eq!(tail(&three, 99), done(&list(&three)));
-    assert_eq!(tail(&three, 150), done(&list(&three)));
-    assert_eq!(tail(&three, 299), done(&list(&[20, 30])));
-    assert_eq!(tail(&three, 399), done(&list(&[30])));
+    assert_eq!(select(&three, 150, 250), done(numbers, &list(&[10, 20])));
+    assert_eq!(select(&three, 250, 350), done(numbers, &list(&[20, 30])));
+    assert_eq!(head(&three, 99), done(numbers, &list(&[])));
+    assert_eq!(head(&three, 150), done(numbers, &list(&[10])));
+    assert_eq!(head(&three, 299), done(numbers, &list(&[10, 20])));
+    assert_eq!(tail(&three, 99), done(numbers, &list(&three)));
+    assert_eq!(tail(&three, 150), done(numbers, &list(&three)));
+    assert_eq!(tail(&three, 299), done(numbers, &list(&[20, 30])));
+    assert_eq!(tail(&three, 399), done(numbers, &list(&[30])));
 }
 
 #[test]
 fn t04_10_positions_outside_the_sequence() {
     let three = [10, 20, 30];
     for (from, to) in [(400, 900), (400, 400), (400, 300), (900, 400)] {
-        assert_eq!(select(&three, from, to), done(&list(&[])));
+        assert_eq!(select(&three, from, to), done(numbers, &list(&[])));
     }
     for (from, to) in [(0, 0), (200, 100), (4_000_000_000, 4_000_000_000)] {
-        assert_eq!(select(&three, from, to), done(&list(&[])));
+        assert_eq!(select(&three, from, to), done(numbers, &list(&[])));
     }
-    assert_eq!(select(&three, 300, 900), done(&list(&[30])));
-    assert_eq!(select(&three, 300, 4_000_000_000), done(&list(&[30])));
-    assert_eq!(select(&three, 0, 100), done(&list(&[10])));
-    assert_eq!(select(&three, 0, 4_000_000_000), done(&list(&three)));
+    assert_eq!(select(&three, 300, 900), done(numbers, &list(&[30])));
+    assert_eq!(
+        select(&three, 300, 4_000_000_000),
+        done(numbers, &list(&[30]))
+    );
+    assert_eq!(select(&three, 0, 100), done(numbers, &list(&[10])));
+    assert_eq!(
+        select(&three, 0, 4_000_000_000),
+        done(numbers, &list(&three))
+    );
 }
 
 #[test]
 fn t04_11_head_and_tail_at_the_ends() {
     let three = [10, 20, 30];
-    assert_eq!(head(&three, 0), done(&list(&[])));
-    assert_eq!(head(&three, 100), done(&list(&[10])));
-    assert_eq!(head(&three, 300), done(&list(&three)));
-    assert_eq!(head(&three, 4_000_000_000), done(&list(&three)));
-    assert_eq!(tail(&three, 0), done(&list(&three)));
-    assert_eq!(tail(&three, 100), done(&list(&three)));
-    assert_eq!(tail(&three, 300), done(&list(&[30])));
-    assert_eq!(tail(&three, 400), done(&list(&[])));
-    assert_eq!(tail(&three, 4_000_000_000), done(&list(&[])));
+    assert_eq!(head(&three, 0), done(numbers, &list(&[])));
+    assert_eq!(head(&three, 100), done(numbers, &list(&[10])));
+    assert_eq!(head(&three, 300), done(numbers, &list(&three)));
+    assert_eq!(head(&three, 4_000_000_000), done(numbers, &list(&three)));
+    assert_eq!(tail(&three, 0), done(numbers, &list(&three)));
+    assert_eq!(tail(&three, 100), done(numbers, &list(&three)));
+    assert_eq!(tail(&three, 300), done(numbers, &list(&[30])));
+    assert_eq!(tail(&three, 400), done(numbers, &list(&[])));
+    assert_eq!(tail(&three, 4_000_000_000), done(numbers, &list(&[])));
     for position in [0, 99, 100, 200, 4_000_000_000] {
-        assert_eq!(head(&[], position), done(&list(&[])));
-        assert_eq!(tail(&[], position), done(&list(&[])));
-        assert_eq!(select(&[], position, position), done(&list(&[])));
-        assert_eq!(select(&[], position, 100), done(&list(&[])));
+        assert_eq!(head(&[], position), done(numbers, &list(&[])));
+        assert_eq!(tail(&[], position), done(numbers, &list(&[])));
+        assert_eq!(select(&[], position, position), done(numbers, &list(&[])));
+        assert_eq!(select(&[], position, 100), done(numbers, &list(&[])));
     }
 }
 
@@ -143,7 +148,7 @@ fn t04_9_to_11_every_pair_of_positions() {
         // Element p has position p from p.00 to p.99.
         let kept = |from: u32, to: u32| {
             let places = (1..=length).filter(|p| from < 100 * (p + 1) && to >= 100 * p);
-            done(&list(&places.map(|p| 10 * p).collect::<Vec<_>>()))
+            done(numbers, &list(&places.map(|p| 10 * p).collect::<Vec<_>>()))
         };
         for from in positions {
             for to in positions {
@@ -175,18 +180,18 @@ fn t04_12_the_nodes_of_a_result() {
         on(pairs_of_numbers, 1, &[text], &tree)
     };
     let select = apply(SELECT, &[1, 2]);
-    assert_eq!(with([400, 0], select.clone()), "done 1 1 4\n0 0 1 1");
+    assert_eq!(with([400, 0], select.clone()), "done 1 1 6\n0 0 2 1 1 1");
     assert_eq!(
         with([200, 300], select.clone()),
-        "done 1 1 20\n0 0 1 0 2 0 3 3 3 4 1 0 2 0 3 5 3 6 1 1"
+        "done 1 1 30\n0 0 10 1 0 9 2 0 3 3 3 1 3 4 1 1 0 5 2 0 3 3 5 1 3 6 1 1 1 1"
     );
     assert_eq!(
         with([200, 200], select),
-        "done 1 1 12\n0 0 1 0 2 0 3 3 3 4 1 1"
+        "done 1 1 18\n0 0 6 1 0 5 2 0 3 3 3 1 3 4 1 1 1 1"
     );
     // Six elements of 3 nodes, 7 nodes of the sequence and the root.
     let joined = with([0, 0], apply(JOIN, &[0]));
-    assert!(joined.starts_with("done 1 1 52\n"), "{joined}");
+    assert!(joined.starts_with("done 1 1 78\n"), "{joined}");
 }
 
 /// Type 0 has a sequence 1 of numbers 2, and a number 3.
@@ -207,7 +212,7 @@ fn t04_13_length_is_a_hundred_for_each_element() {
         let tree = |number| [vec![0, 0], sequence(elements), vec![3, number]].concat();
         let length = 100 * elements.len() as u32;
         let text = on(sequence_and_number, 1, &[LENGTH_BEHIND], &tree(777));
-        assert_eq!(text, done(&tree(length)));
+        assert_eq!(text, done(sequence_and_number, &tree(length)));
     };
     with(&[]);
     with(&[5]);
@@ -228,7 +233,7 @@ fn t04_13_length_is_a_hundred_for_each_element() {
         ],
         ..NONE
     };
-    assert_eq!(on(numbers, 1, &[text], TREE), done(&list(&[200])));
+    assert_eq!(on(numbers, 1, &[text], TREE), done(numbers, &list(&[200])));
 }
 
 #[test]
@@ -237,7 +242,7 @@ fn t04_13_elements_of_sequences_inside_do_not_count() {
         let sequence = sequence_of(1, &elements);
         let tree = |number| [vec![0, 0], sequence.clone(), vec![3, number]].concat();
         let text = on(grammar, 1, &[LENGTH_BEHIND], &tree(777));
-        assert_eq!(text, done(&tree(200)));
+        assert_eq!(text, done(grammar, &tree(200)));
     };
     // A sequence 1 of sequences 2 of numbers 3: three numbers, and none.
     let three = sequence_of(2, &[vec![3, 1], vec![3, 2], vec![3, 3]]);
@@ -265,7 +270,7 @@ fn t04_13_the_longest_sequence() {
     let longest = sequence_of(0, &vec![vec![1, 5]; 1_023]);
     assert_eq!(
         on(grammar, 1, &[text], &longest),
-        "done 1 1 6\n0 0 1 102300 0 1"
+        "done 1 1 9\n0 0 3 1 102300 1 0 1 1"
     );
 }
 
@@ -327,7 +332,8 @@ fn t04_14_extract_appends_trees_left_to_right_and_enters_none_taken() {
         let extract = |&argument| apply(EXTRACT, &[argument]);
         extracted(&arguments.iter().map(extract).collect::<Vec<_>>(), &tree)
     };
-    let holding = |elements: &[&[Vec<u32>]]| done(&expression_tree(&elements.concat(), &[]));
+    let holding =
+        |elements: &[&[Vec<u32>]]| done(expressions, &expression_tree(&elements.concat(), &[]));
     // The scope's own elements are not searched and stay in front.
     assert_eq!(with(&[1]), holding(&[&own, &in_order]));
     // What is there already is appended again.
@@ -364,16 +370,19 @@ fn t04_14_rests_inside_a_taken_sequence_are_not_taken() {
     let extract = |scope, argument| chain(scope, &[apply(EXTRACT, &[argument])]);
     assert_eq!(
         with(extract(0, 1), vec![(65, 1)]),
-        done(&tree(&[inner(&[9]), inner(&[5, 6, 7])], inner(&[5, 6, 7])))
+        done(
+            grammar,
+            &tree(&[inner(&[9]), inner(&[5, 6, 7])], inner(&[5, 6, 7]))
+        )
     );
     // Numbers are taken from all over a sequence of sequences.
     assert_eq!(
         with(vec![(65, 0)], extract(1, 0)),
-        done(&tree(&[inner(&[9])], inner(&[5, 6, 7, 9])))
+        done(grammar, &tree(&[inner(&[9])], inner(&[5, 6, 7, 9])))
     );
     assert_eq!(
         with(vec![(65, 0)], extract(1, 1)),
-        done(&tree(&[inner(&[9])], inner(&[5, 6, 7, 5, 6, 7])))
+        done(grammar, &tree(&[inner(&[9])], inner(&[5, 6, 7, 5, 6, 7])))
     );
 }
 
@@ -390,14 +399,14 @@ fn t04_15_extract_takes_a_sequence_of_itself_as_one_element() {
     };
     let empty = vec![0, 1];
     let one = vec![0, 0, 0, 1, 0, 1];
-    assert_eq!(with(&empty), done(&one));
+    assert_eq!(with(&empty), done(grammar, &one));
     assert_eq!(
         with(&one),
-        done(&[0, 0, 0, 1, 0, 0, 0, 0, 0, 1, 0, 1, 0, 1])
+        done(grammar, &[0, 0, 0, 1, 0, 0, 0, 0, 0, 1, 0, 1, 0, 1])
     );
     let two = sequence_of(0, &[one.clone(), empty.clone()]);
     let three = sequence_of(0, &[one, empty, two.clone()]);
-    assert_eq!(with(&two), done(&three));
+    assert_eq!(with(&two), done(grammar, &three));
 }
 
 #[test]
@@ -408,19 +417,25 @@ fn t04_16_the_argument_is_the_variable_as_bound() {
     let extract = apply(EXTRACT, &[0]);
     assert_eq!(
         with(&[join.clone(), join.clone()]),
-        done(&list(&[5, 6, 5, 6, 5, 6]))
+        done(numbers, &list(&[5, 6, 5, 6, 5, 6]))
     );
     assert_eq!(
         with(&[extract.clone(), extract.clone()]),
-        done(&list(&[5, 6, 5, 6, 5, 6]))
+        done(numbers, &list(&[5, 6, 5, 6, 5, 6]))
     );
     let head = apply(HEAD, &[1]);
-    assert_eq!(with(&[head, join.clone()]), done(&list(&[5, 5, 6])));
+    assert_eq!(
+        with(&[head, join.clone()]),
+        done(numbers, &list(&[5, 5, 6]))
+    );
     let tail = apply(TAIL, &[2]);
-    assert_eq!(with(&[tail.clone(), extract]), done(&list(&[6, 5, 6])));
+    assert_eq!(
+        with(&[tail.clone(), extract]),
+        done(numbers, &list(&[6, 5, 6]))
+    );
     assert_eq!(
         with(&[join.clone(), tail.clone(), tail]),
-        done(&list(&[5, 6]))
+        done(numbers, &list(&[5, 6]))
     );
     // The copy is a tree of its own: the variable stays.
     let text = RuleText {
@@ -431,7 +446,7 @@ fn t04_16_the_argument_is_the_variable_as_bound() {
     };
     assert_eq!(
         on(numbers, 1, &[text], &list(&[5, 6])),
-        done(&list(&[5, 6, 5, 6, 5, 6]))
+        done(numbers, &list(&[5, 6, 5, 6, 5, 6]))
     );
 }
 
@@ -456,8 +471,8 @@ fn t04_17_operations_are_no_calls() {
         line(grammar, 99, &[main, joining], &tree)
     };
     // 32 attempts of rule 0 and 31 of rule 1; the result has 32 numbers.
-    assert_eq!(with(31), "done 63 1 130");
-    assert_eq!(with(32), "stopped 41 32 0 130");
+    assert_eq!(with(31), "done 63 1 195");
+    assert_eq!(with(32), "stopped 41 32 0 195");
 }
 
 #[test]
@@ -476,7 +491,7 @@ fn t04_17_arguments_are_not_live() {
         replacement: &[(0, 0), (1, 1)],
         ..NONE
     };
-    assert_eq!(line(numbers, 1, &[length], &great), "done 1 0 4096");
+    assert_eq!(line(numbers, 1, &[length], &great), "done 1 0 6144");
     // 2,048 + 2,047 + 1 are live, then a result of 2,047.
     for operation in [JOIN, EXTRACT] {
         let growing = RuleText {
@@ -489,7 +504,7 @@ fn t04_17_arguments_are_not_live() {
             replacement: &[(0, 0), (1, 1)],
             ..NONE
         };
-        assert_eq!(line(numbers, 1, &[growing], &great), "done 1 0 4096");
+        assert_eq!(line(numbers, 1, &[growing], &great), "done 1 0 6144");
     }
 }
 
@@ -550,7 +565,7 @@ fn document_004_example_of_joining_an_element_and_a_list() {
     let tree = [vec![0, 2], first, vec![2, 7], last].concat();
     assert_eq!(
         on(shapes, 1, &[joining], &tree),
-        done(&list(&[11, 12, 13, 7, 1, 2, 3]))
+        done(shapes, &list(&[11, 12, 13, 7, 1, 2, 3]))
     );
 }
 
@@ -569,7 +584,7 @@ fn document_004_example_of_deleting_an_element() {
     };
     assert_eq!(
         on(shapes, 1, &[deleting], &list(&[1, 2, 3, 4, 5])),
-        done(&list(&[1, 2, 4, 5]))
+        done(shapes, &list(&[1, 2, 4, 5]))
     );
 }
 
@@ -584,7 +599,7 @@ fn document_004_example_of_the_last_five_elements() {
     };
     assert_eq!(
         on(shapes, 1, &[last_five], &list(&[1, 2, 3, 4, 5, 6, 7])),
-        done(&list(&[3, 4, 5, 6, 7]))
+        done(shapes, &list(&[3, 4, 5, 6, 7]))
     );
 }
 
@@ -603,8 +618,8 @@ fn t04_18_42_counts_what_the_replacement_has_so_far() {
             line(shapes, 1, &[text], &two_sequences(count, 300))
         };
         // 1 + 845 + 1 nodes so far, and 1,201.
-        assert_eq!(replaced(422), "done 1 1 4096");
-        assert_eq!(replaced(423), "stopped 42 1 0 2900");
+        assert_eq!(replaced(422), "done 1 1 6144");
+        assert_eq!(replaced(423), "stopped 42 1 0 4350");
         let built = |count| {
             let text = RuleText {
                 parts: &[construct(0, &pairs)],
@@ -613,8 +628,8 @@ fn t04_18_42_counts_what_the_replacement_has_so_far() {
             };
             line(shapes, 1, &[text], &two_sequences(count, 300))
         };
-        assert_eq!(built(422), "done 1 1 4");
-        assert_eq!(built(423), "stopped 42 1 0 2900");
+        assert_eq!(built(422), "done 1 1 6");
+        assert_eq!(built(423), "stopped 42 1 0 4350");
     }
 }
 
@@ -630,8 +645,8 @@ fn t04_18_places_still_to_fill_do_not_count() {
         };
         line(shapes, 1, &[text], &two_sequences(341, 0))
     };
-    assert_eq!(with(apply(1_002, &[1])), "stopped 45 1 0 1372");
-    assert_eq!(with(apply(1_004, &[])), "stopped 42 1 0 1372");
+    assert_eq!(with(apply(1_002, &[1])), "stopped 45 1 0 2058");
+    assert_eq!(with(apply(1_004, &[])), "stopped 42 1 0 2058");
 }
 
 #[test]
@@ -663,10 +678,10 @@ fn t04_18_replacements_of_other_calls_do_not_count() {
     let (join_in_a_call, emptying) = (apply(1, &[]), apply(2, &[]));
     assert_eq!(
         with(&[join_in_a_call.clone(), emptying.clone()]),
-        "done 3 1 1406"
+        "done 3 1 2109"
     );
-    assert_eq!(with(&[join, emptying]), "stopped 42 1 0 1404");
-    assert_eq!(with(&[join_in_a_call]), "stopped 42 2 0 1404");
+    assert_eq!(with(&[join, emptying]), "stopped 42 1 0 2106");
+    assert_eq!(with(&[join_in_a_call]), "stopped 42 2 0 2106");
 }
 
 #[test]
@@ -679,10 +694,10 @@ fn t04_18_the_scope_replaced_does_not_count() {
         on_one(count, &[text])
     };
     // 1,001 nodes give way to 2,001.
-    assert_eq!(with(500, 1), "done 1 1 4004");
+    assert_eq!(with(500, 1), "done 1 1 6006");
     // 1 + 2,047 nodes, and 1 + 2,053.
-    assert_eq!(with(341, 2), "done 1 1 4096");
-    assert_eq!(with(342, 2), "stopped 42 1 0 1372");
+    assert_eq!(with(341, 2), "done 1 1 6144");
+    assert_eq!(with(342, 2), "stopped 42 1 0 2058");
 }
 
 /// What applications make of the third copy of a sequence of 901 nodes, behind
@@ -713,17 +728,17 @@ fn t04_19_42_is_judged_at_the_operation() {
     let with =
         |count: u32, applications: &[Vec<(u32, u32)>]| third_of_three(100 * count, applications);
     let cut = [to_position.clone()];
-    assert_eq!(with(122, &cut), "done 1 1 4096");
-    assert_eq!(with(123, &cut), "stopped 42 1 0 1804");
+    assert_eq!(with(122, &cut), "done 1 1 6144");
+    assert_eq!(with(123, &cut), "stopped 42 1 0 2706");
     // Though the next application would make it 1,803 + 1.
     let cut_twice = [to_position, emptying.clone()];
-    assert_eq!(with(122, &cut_twice), "done 1 1 3608");
-    assert_eq!(with(123, &cut_twice), "stopped 42 1 0 1804");
+    assert_eq!(with(122, &cut_twice), "done 1 1 5412");
+    assert_eq!(with(123, &cut_twice), "stopped 42 1 0 2706");
     // Though the result is the whole scope, or is larger.
     let whole = [apply(TAIL, &[1]), emptying.clone()];
-    assert_eq!(with(0, &whole), "stopped 42 1 0 1804");
+    assert_eq!(with(0, &whole), "stopped 42 1 0 2706");
     let joined = [apply(JOIN, &[0]), emptying];
-    assert_eq!(with(0, &joined), "stopped 42 1 0 1804");
+    assert_eq!(with(0, &joined), "stopped 42 1 0 2706");
 }
 
 #[test]
@@ -732,19 +747,19 @@ fn t04_19_a_rules_result_and_the_copy_are_judged_at_the_move() {
     let emptying = apply(HEAD, &[1]);
     assert_eq!(
         third_of_three(0, std::slice::from_ref(&emptying)),
-        "done 1 1 3608"
+        "done 1 1 5412"
     );
     assert_eq!(
         third_of_three(0, &[idle.clone(), emptying]),
-        "done 2 1 3608"
+        "done 2 1 5412"
     );
-    assert_eq!(third_of_three(0, &[idle]), "stopped 42 2 0 1804");
+    assert_eq!(third_of_three(0, &[idle]), "stopped 42 2 0 2706");
     // A copy that is not cut.
     let copying = RuleText {
         replacement: &[(0, 3), (65, 0), (65, 0), (65, 0)],
         ..ONE_SEQUENCE
     };
-    assert_eq!(on_one(450, &[copying]), "stopped 42 1 0 1804");
+    assert_eq!(on_one(450, &[copying]), "stopped 42 1 0 2706");
 }
 
 /// Type 0 is `form 0: [0]`, `form 1: [1]` or `form 2: [1, 0]` over a sequence 1
@@ -779,13 +794,13 @@ fn t04_20_43_over_the_result_alone() {
         let grow_and_cut = [grow.clone(), emptying.clone()];
         // In the sequence a tree of nesting 63 has nesting 64 and passes, also
         // where its place has nesting 12; one of 64 stops.
-        assert_eq!(with(0, &grow_and_cut, &deep(61)), "done 1 1 4");
-        assert_eq!(with(10, &grow_and_cut, &deep(61)), "done 1 1 24");
-        assert_eq!(with(0, &grow_and_cut, &deep(62)), "stopped 43 1 0 128");
+        assert_eq!(with(0, &grow_and_cut, &deep(61)), "done 1 1 6");
+        assert_eq!(with(10, &grow_and_cut, &deep(61)), "done 1 1 36");
+        assert_eq!(with(0, &grow_and_cut, &deep(62)), "stopped 43 1 0 192");
         // Not cut, it stops when the replacement is finished.
         let grow = [grow];
-        assert_eq!(with(0, &grow, &deep(60)), "done 1 1 130");
-        assert_eq!(with(0, &grow, &deep(61)), "stopped 43 1 0 126");
+        assert_eq!(with(0, &grow, &deep(60)), "done 1 1 195");
+        assert_eq!(with(0, &grow, &deep(61)), "stopped 43 1 0 189");
     }
 }
 
@@ -794,9 +809,9 @@ fn t04_21_a_result_is_live_instead_of_its_scope() {
     let first_line = |text: String| text.lines().next().unwrap_or_default().to_string();
     // 2,048 + 2,047 + 1 + 1 + 2,047 are live with the copy: 6,144.
     let great = vec![5; 1_023];
-    assert_eq!(first_line(head(&great, 100_000)), "done 1 1 4004");
-    assert_eq!(first_line(tail(&great, 0)), "done 1 1 4096");
-    assert_eq!(first_line(select(&great, 0, 0)), "stopped 44 1 0 4096");
+    assert_eq!(first_line(head(&great, 100_000)), "done 1 1 6006");
+    assert_eq!(first_line(tail(&great, 0)), "done 1 1 6144");
+    assert_eq!(first_line(select(&great, 0, 0)), "stopped 44 1 0 6144");
     // 1,024 + 3 x 1,023 + numbers + 1 are live, then a result of 2,045.
     let with = |numbers: usize| {
         let mut parts = vec![construct(1, &[(65, 0)]); 2];
@@ -808,8 +823,8 @@ fn t04_21_a_result_is_live_instead_of_its_scope() {
         };
         on_one(511, &[text])
     };
-    assert_eq!(with(5), "done 1 1 4092");
-    assert_eq!(with(6), "stopped 44 1 0 2048");
+    assert_eq!(with(5), "done 1 1 6138");
+    assert_eq!(with(6), "stopped 44 1 0 3072");
 }
 
 #[test]
@@ -833,12 +848,12 @@ fn t04_22_the_lowest_number_stops() {
     };
     // 331 elements pass 42, 330 do not; 61 levels pass 43, 60 do not; with the
     // build more than 6,144 nodes would be live.
-    assert_eq!(with(331, 61, true), "stopped 42 1 0 2116");
-    assert_eq!(with(331, 61, false), "stopped 42 1 0 2116");
-    assert_eq!(with(331, 60, true), "stopped 42 1 0 2114");
-    assert_eq!(with(330, 61, true), "stopped 43 1 0 2110");
-    assert_eq!(with(330, 61, false), "stopped 43 1 0 2110");
-    assert_eq!(with(330, 60, true), "stopped 44 1 0 2108");
+    assert_eq!(with(331, 61, true), "stopped 42 1 0 3174");
+    assert_eq!(with(331, 61, false), "stopped 42 1 0 3174");
+    assert_eq!(with(331, 60, true), "stopped 42 1 0 3171");
+    assert_eq!(with(330, 61, true), "stopped 43 1 0 3165");
+    assert_eq!(with(330, 61, false), "stopped 43 1 0 3165");
+    assert_eq!(with(330, 60, true), "stopped 44 1 0 3162");
 }
 
 /// What applications make of a number variable behind these pairs, in a tree
@@ -871,20 +886,20 @@ fn t04_23_42_at_the_result_of_length() {
     let length = [length];
     assert_eq!(
         last_number(FORM_4, 511, 1, &then_divide),
-        "stopped 42 1 0 2048"
+        "stopped 42 1 0 3072"
     );
     assert_eq!(
         last_number(FORM_4, 511, 1, &first_divide),
-        "stopped 45 1 0 2048"
+        "stopped 45 1 0 3072"
     );
-    assert_eq!(last_number(FORM_4, 511, 1, &length), "stopped 42 1 0 2048");
+    assert_eq!(last_number(FORM_4, 511, 1, &length), "stopped 42 1 0 3072");
     // With 2,044 nodes so far, and with 2,047.
     assert_eq!(
         last_number(FORM_4, 510, 1, &then_divide),
-        "stopped 45 1 0 2044"
+        "stopped 45 1 0 3066"
     );
-    assert_eq!(last_number(FORM_4, 510, 1, &length), "done 1 1 4090");
-    assert_eq!(last_number(FORM_5, 511, 1, &length), "done 1 1 4096");
+    assert_eq!(last_number(FORM_4, 510, 1, &length), "done 1 1 6135");
+    assert_eq!(last_number(FORM_5, 511, 1, &length), "done 1 1 6144");
 }
 
 #[test]
@@ -902,17 +917,17 @@ fn t04_24_number_operations_give_nothing_but_45() {
         let then_divide = [operation.clone(), divide.clone()];
         assert_eq!(
             last_number(FORM_4, 511, 2, &then_divide),
-            "stopped 45 1 0 2048"
+            "stopped 45 1 0 3072"
         );
         // 42 comes at the move.
         let alone = std::slice::from_ref(&operation);
-        assert_eq!(last_number(FORM_4, 511, 2, alone), "stopped 42 1 0 2048");
-        assert_eq!(last_number(FORM_5, 511, 2, alone), "done 1 1 4096");
+        assert_eq!(last_number(FORM_4, 511, 2, alone), "stopped 42 1 0 3072");
+        assert_eq!(last_number(FORM_5, 511, 2, alone), "done 1 1 6144");
         // Or at a length behind it.
         let with_length = [operation, apply(LENGTH, &[0]), divide.clone()];
         assert_eq!(
             last_number(FORM_4, 511, 2, &with_length),
-            "stopped 42 1 0 2048"
+            "stopped 42 1 0 3072"
         );
     }
 }

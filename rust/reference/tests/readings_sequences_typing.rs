@@ -4,7 +4,7 @@
 mod common;
 
 use common::*;
-use reference::{check_grammar, check_rules, check_tree};
+use reference::{check_grammar, check_rules, check_slip};
 
 /// Type 0 has one tree of each other type: 1 a repeat and 2 a list of number
 /// 3, 4 another number, 5 another repeat and 6 an optional of number 3, 7 a
@@ -47,9 +47,15 @@ fn grammar_refusal(words: &[u32]) -> Option<(u32, usize)> {
     refusal.map(|refusal| (refusal.number, refusal.position))
 }
 
-fn tree_refusal(grammar: &[u32], tree: &[u32]) -> Option<(u32, usize)> {
-    let refusal = check_tree(grammar, tree).err();
+fn slip_refusal(grammar: &[u32], slip: &[u32]) -> Option<(u32, usize)> {
+    let refusal = check_slip(grammar, slip).err();
     refusal.map(|refusal| (refusal.number, refusal.position))
+}
+
+/// The refusal of the slip of a tree whose nodes are those that its grammar
+/// wants.
+fn tree_refusal(grammar: &[u32], tree: &[u32]) -> Option<(u32, usize)> {
+    slip_refusal(grammar, &slip(grammar, tree))
 }
 
 /// The refusal of a rule that binds a tree of each type of `KINDS` and has
@@ -308,14 +314,16 @@ fn words(pairs: &[(u32, u32)]) -> Vec<u32> {
 fn t04_26_a_list_in_a_tree_is_as_a_repeat() {
     let with = |pairs: &[(u32, u32)]| tree_refusal(LIST_OF_ITSELF, &words(pairs));
     assert_eq!(with(&[(0, 1)]), None);
-    assert_eq!(with(&[(0, 2)]), Some((32, 1)));
-    assert_eq!(with(&[(0, 0), (0, 1)]), Some((31, 4)));
-    assert_eq!(with(&[(0, 0), (0, 1), (0, 1), (0, 1)]), Some((31, 6)));
+    let damaged = |slip| slip_refusal(LIST_OF_ITSELF, slip);
+    assert_eq!(damaged(&[0, 2, 1]), Some((32, 1)));
+    assert_eq!(damaged(&[0, 0, 3, 0, 1, 1]), Some((31, 6)));
+    let over = [0, 0, 3, 0, 1, 1, 0, 1, 1, 0, 1, 1];
+    assert_eq!(damaged(&over), Some((31, 9)));
     // The rest has its parent's nesting, an element one more.
     let long = [[(0, 0), (0, 1)].repeat(1_023), vec![(0, 1)]].concat();
     assert_eq!(with(&long), None);
     assert_eq!(with(&nested(63)), None);
-    assert_eq!(with(&nested(64)), Some((33, 128)));
+    assert_eq!(with(&nested(64)), Some((33, 192)));
 }
 
 #[test]
@@ -354,8 +362,8 @@ fn t04_26_a_list_in_a_run_is_as_a_repeat() {
         first_line(9, LIST_OF_ITSELF, &rules(&[rule.words()]), &tree)
     };
     // The tree of 127 nodes has nesting 64, and may be a rest, but no element.
-    assert_eq!(with(&[(0, 0), (0, 1), (65, 0)]), "done 1 1 258");
-    assert_eq!(with(&[(0, 0), (65, 0), (0, 1)]), "stopped 43 1 0 254");
+    assert_eq!(with(&[(0, 0), (0, 1), (65, 0)]), "done 1 1 387");
+    assert_eq!(with(&[(0, 0), (65, 0), (0, 1)]), "stopped 43 1 0 381");
 }
 
 #[test]
@@ -363,11 +371,11 @@ fn t04_27_commas_have_no_nodes() {
     let grammar = [3, 8, 1, 1, 1, 16, 2, 1, 2];
     assert_eq!(
         bench(3, &grammar, RULES, TREE),
-        "done 3 1 12\n0 0 1 0 2 4200 1 0 2 500 1 1"
+        "done 3 1 18\n0 0 6 1 0 5 2 4200 1 1 0 3 2 500 1 1 1 1"
     );
     assert_eq!(
         bench(3, &grammar, RULES, &[0, 0, 1, 1]),
-        "done 0 0 4\n0 0 1 1"
+        "done 0 0 6\n0 0 2 1 1 1"
     );
     // 1,023 numbers are 2,048 nodes.
     assert_eq!(tree_refusal(&grammar, &list_of_nodes(2_048)), None);
@@ -430,7 +438,7 @@ fn t04_28_a_list_does_not_stand_for_a_repeat_as_argument_or_in_a_tree() {
     }
     assert_eq!(tree_refusal(REPEAT_AND_LIST, &[0, 0, 1, 1, 2, 1]), None);
     assert_eq!(
-        tree_refusal(REPEAT_AND_LIST, &[0, 0, 2, 1, 1, 1]),
-        Some((32, 2))
+        slip_refusal(REPEAT_AND_LIST, &[0, 0, 3, 2, 1, 1, 1, 1, 1]),
+        Some((32, 3))
     );
 }

@@ -16,7 +16,7 @@ answer-whole-requires : tie.Need-answer-whole-requires
 answer-whole-requires c κs = search needs
 
 returns : tie.Need-returns
-returns c = let a : length (c .before .before .before .before .before .before .before .before .args .numbers .now) ≡ 24583 = search (needs, c .before .before .before .before .before .before .before .before .good) in answers-input _ _ (c .before .before .before .before .before .before .before .before .args .numbers .now) _ _ _ (c .before .before .before .before .before .before .before .first .ensures) a (c .before .before .before .before .before .read-on .kept .1 .0 ∙ a) (c .before .before .before .before .before .read-on .ensures) (c .answer-whole .ensures)
+returns c = let a : length (c .before .before .before .before .before .before .before .before .args .numbers .now) ≡ 26631 = search (needs, c .before .before .before .before .before .before .before .before .good) in answers-input _ _ (c .before .before .before .before .before .before .before .before .args .numbers .now) _ _ _ (c .before .before .before .before .before .before .before .first .ensures) a (c .before .before .before .before .before .read-on .kept .1 .0 ∙ a) (c .before .before .before .before .before .read-on .ensures) (c .answer-whole .ensures)
 
 pub answer-input-spec : {M : Type 1} → statement M
 answer-input-spec =

@@ -3,7 +3,7 @@ use Prim.Native.Nat.{_-_}
 use borrow.Author.Needs.{needs}
 use lib.ListN.{length}
 use native.Mathlib.Omega.{arith}
-use Rattle.tamarind.proofs.Loading.{Loaded, load-start, load-more, load-end}
+use Rattle.tamarind.proofs.Loading.{Loaded, load-more, load-end}
 use Rattle.tamarind.proofs.load.Statement.{statement}
 use Rattle.tamarind.proofs.load.Tie as tie
 
@@ -14,7 +14,7 @@ abbrev μ-loop : tie.MeasureT-loop
 μ-loop tree work₀ i₀ work i = length tree - i
 
 loop-holds : tie.Need-loop-holds Inv-loop μ-loop
-loop-holds c = load-start (c .args .tree .now) (c .args .work .now)
+loop-holds c = search needs
 
 mul-work : tie.Need-mul-work Inv-loop μ-loop
 mul-work c = search needs

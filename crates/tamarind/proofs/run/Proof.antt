@@ -1,10 +1,9 @@
 -- `tamarind::run` meets its contract. Assumes nothing.
 use borrow.Author.Needs.{needs}
-use lib.ListN.{length}
-use mathlib.Core.Path.{refl}
+use mathlib.Core.Path.{refl, sym}
 use native.Mathlib.Omega.{arith}
-use Rattle.tamarind.proofs.Inputs.{call-refused, call-rules, inputs-refused, inputs-accepted, runs-refused}
-use Rattle.tamarind.specs.Run.{inputsOf, memories}
+use Rattle.tamarind.proofs.Inputs.{call-refused, call-room, inputs-refused, inputs-accepted}
+use Rattle.tamarind.specs.Run.{inputsOf}
 use Rattle.tamarind.proofs.run.Statement.{statement}
 use Rattle.tamarind.proofs.run.Tie as tie
 
@@ -18,7 +17,7 @@ enum-told : tie.Need-enum-told
 enum-told c = search needs
 
 read-inputs-requires : tie.Need-read-inputs-requires
-read-inputs-requires c κs = (refl, refl, omega (arith, call-rules (length (c .before .before .before .before .before .before .before .before .before .before .args .result .now)) (length (c .before .before .before .before .before .before .before .before .before .before .args .work .now)) (inputsOf (c .before .before .before .before .before .before .before .before .before .before .args .budget) (c .before .before .before .before .before .before .before .before .before .before .args .grammar .now) (c .before .before .before .before .before .before .before .before .before .before .args .rules .now) (c .before .before .before .before .before .before .before .before .before .before .args .tree .now)) (c .before .before .before .before .call-fits .ensures (c .before .before .before .before .before .before .before .before .before .before .args .tree .now)) (c .before .before .enum-told .given .1)))
+read-inputs-requires c κs = let k = call-room (c .before .before .before .before .before .before .before .before .before .before .before .args .result .now) (c .before .before .before .before .before .before .before .before .before .before .before .args .work .now) (inputsOf (c .before .before .before .before .before .before .before .before .before .before .before .args .budget) (c .before .before .before .before .before .before .before .before .before .before .before .args .grammar .now) (c .before .before .before .before .before .before .before .before .before .before .before .args .rules .now) (c .before .before .before .before .before .before .before .before .before .before .before .args .slip .now)) (c .before .before .before .before .before .call-fits .ensures (c .before .before .before .before .before .before .before .before .before .before .before .args .slip .now)) (c .before .before .before .enum-told .given .1) in (refl, refl, omega (arith, k .1), k .0)
 
 enum-known-c : tie.Need-enum-known-c
 enum-known-c c = search needs
@@ -27,22 +26,25 @@ enum-told-2 : tie.Need-enum-told-2
 enum-told-2 c = search needs
 
 execute-requires : tie.Need-execute-requires
-execute-requires c κs = inputs-accepted (length (c .before .before .before .before .before .before .before .before .before .before .before .before .before .before .before .before .before .args .result .now)) (length (c .before .before .before .before .before .before .before .before .before .before .before .before .before .before .before .before .before .args .work .now)) (inputsOf (c .before .before .before .before .before .before .before .before .before .before .before .before .before .before .before .before .before .args .budget) (c .before .before .before .before .before .before .before .before .before .before .before .before .before .before .before .before .before .args .grammar .now) (c .before .before .before .before .before .before .before .before .before .before .before .before .before .before .before .before .before .args .rules .now) (c .before .before .before .before .before .before .before .before .before .before .before .before .before .before .before .before .before .args .tree .now)) (c .before .before .before .before .before .before .before .before .before .before .before .call-fits .ensures (c .before .before .before .before .before .before .before .before .before .before .before .before .before .before .before .before .before .args .tree .now)) (c .before .before .before .before .before .before .before .before .before .enum-told .given .1) (c .before .before .before .before .before .before .read-inputs .ensures) (c .before .before .before .before .enum-told2 .given .1)
+execute-requires c κs = inputs-accepted (c .before .before .before .before .before .before .before .before .before .before .before .before .before .before .before .before .before .before .before .before .args .result .now) (c .before .before .before .before .before .before .before .before .before .before .before .before .before .before .before .before .before .before .before .before .args .work .now) (inputsOf (c .before .before .before .before .before .before .before .before .before .before .before .before .before .before .before .before .before .before .before .before .args .budget) (c .before .before .before .before .before .before .before .before .before .before .before .before .before .before .before .before .before .before .before .before .args .grammar .now) (c .before .before .before .before .before .before .before .before .before .before .before .before .before .before .before .before .before .before .before .before .args .rules .now) (c .before .before .before .before .before .before .before .before .before .before .before .before .before .before .before .before .before .before .before .before .args .slip .now)) (c .before .before .before .before .before .before .before .before .before .before .before .before .before .before .call-fits .ensures (c .before .before .before .before .before .before .before .before .before .before .before .before .before .before .before .before .before .before .before .before .args .slip .now)) (c .before .before .before .before .before .before .before .before .before .before .before .before .enum-told .given .1) (c .before .before .before .before .before .before .before .before .read-inputs .ensures) (c .before .before .before .before .enum-told2 .given .1)
 
 returns : tie.Need-returns
-returns c = runs-refused (inputsOf (c .before .before .before .before .before .before .before .before .before .args .budget) (c .before .before .before .before .before .before .before .before .before .args .grammar .now) (c .before .before .before .before .before .before .before .before .before .args .rules .now) (c .before .before .before .before .before .before .before .before .before .args .tree .now)) (memories (c .before .before .before .before .before .before .before .before .before .args .result .now) (c .before .before .before .before .before .before .before .before .before .args .work .now)) (call-refused (length (c .before .before .before .before .before .before .before .before .before .args .result .now)) (length (c .before .before .before .before .before .before .before .before .before .args .work .now)) (inputsOf (c .before .before .before .before .before .before .before .before .before .args .budget) (c .before .before .before .before .before .before .before .before .before .args .grammar .now) (c .before .before .before .before .before .before .before .before .before .args .rules .now) (c .before .before .before .before .before .before .before .before .before .args .tree .now)) (c .before .before .before .call-fits .ensures (c .before .before .before .before .before .before .before .before .before .args .tree .now)) (c .before .f .given .1))
-
-returns-2 : tie.Need-returns-2
-returns-2 c = runs-refused (inputsOf (c .before .before .before .before .before .before .before .before .before .before .before .before .before .before .args .budget) (c .before .before .before .before .before .before .before .before .before .before .before .before .before .before .args .grammar .now) (c .before .before .before .before .before .before .before .before .before .before .before .before .before .before .args .rules .now) (c .before .before .before .before .before .before .before .before .before .before .before .before .before .before .args .tree .now)) (memories (c .before .before .before .before .before .before .before .before .before .before .before .before .before .before .args .result .now) (c .before .before .before .before .before .before .before .before .before .before .before .before .before .before .args .work .now)) (inputs-refused (length (c .before .before .before .before .before .before .before .before .before .before .before .before .before .before .args .result .now)) (length (c .before .before .before .before .before .before .before .before .before .before .before .before .before .before .args .work .now)) (inputsOf (c .before .before .before .before .before .before .before .before .before .before .before .before .before .before .args .budget) (c .before .before .before .before .before .before .before .before .before .before .before .before .before .before .args .grammar .now) (c .before .before .before .before .before .before .before .before .before .before .before .before .before .before .args .rules .now) (c .before .before .before .before .before .before .before .before .before .before .before .before .before .before .args .tree .now)) (c .before .before .before .before .before .before .before .before .call-fits .ensures (c .before .before .before .before .before .before .before .before .before .before .before .before .before .before .args .tree .now)) (c .before .before .before .before .before .before .enum-told .given .1) (c .before .before .before .read-inputs .ensures) (c .before .c .given .1))
+returns c = call-refused (c .before .before .before .before .before .before .before .before .before .args .result .now) (c .before .before .before .before .before .before .before .before .before .args .work .now) (inputsOf (c .before .before .before .before .before .before .before .before .before .args .budget) (c .before .before .before .before .before .before .before .before .before .args .grammar .now) (c .before .before .before .before .before .before .before .before .before .args .rules .now) (c .before .before .before .before .before .before .before .before .before .args .slip .now)) (c .before .before .before .call-fits .ensures (c .before .before .before .before .before .before .before .before .before .args .slip .now)) (c .before .f .given .1)
 
 same-length : tie.Need-same-length
 same-length c = search needs
 
+returns-2 : tie.Need-returns-2
+returns-2 c = inputs-refused (c .before .before .before .before .before .before .before .before .before .before .before .before .before .before .before .before .before .args .result .now) (c .before .before .before .before .before .before .before .before .before .before .before .before .before .before .before .before .before .args .work .now) (inputsOf (c .before .before .before .before .before .before .before .before .before .before .before .before .before .before .before .before .before .args .budget) (c .before .before .before .before .before .before .before .before .before .before .before .before .before .before .before .before .before .args .grammar .now) (c .before .before .before .before .before .before .before .before .before .before .before .before .before .before .before .before .before .args .rules .now) (c .before .before .before .before .before .before .before .before .before .before .before .before .before .before .before .before .before .args .slip .now)) (c .before .before .before .before .before .before .before .before .before .before .before .call-fits .ensures (c .before .before .before .before .before .before .before .before .before .before .before .before .before .before .before .before .before .args .slip .now)) (c .before .before .before .before .before .before .before .before .before .enum-told .given .1) (c .before .before .before .before .before .read-inputs .ensures) (c .before .c .given .1)
+
 same-length-2 : tie.Need-same-length-2
 same-length-2 c = search needs
 
+same-length-3 : tie.Need-same-length-3
+same-length-3 c = search needs
+
 returns-3 : tie.Need-returns-3
-returns-3 c = search needs
+returns-3 c = c .before .before .before .before .execute .ensures (c .before .before .before .before .before .before .before .before .before .before .before .before .before .before .before .before .before .before .before .before .before .before .before .before .before .args .work .now) (sym (c .before .before .before .before .before .before .before .before .before .before .before .before .before .read-inputs .ensures .long))
 
 pub run-spec : {M : Type 1} → statement M
 run-spec =
@@ -56,7 +58,8 @@ run-spec =
     enum-told-2
     execute-requires
     returns
-    returns-2
     same-length
+    returns-2
     same-length-2
+    same-length-3
     returns-3)

@@ -8,19 +8,91 @@ use reference::bench::{self, Input};
 pub const GRAMMAR: &[u32] = &[3, 8, 1, 1, 1, 4, 2, 1, 2];
 /// The paper's rules: every 2.00 becomes 42.00.
 pub const RULES: &[u32] = &[1, 9, 2, 2, 1, 2, 200, 1, 2, 4200];
-/// The paper's tree: 2.00, 5.00.
+/// The paper's tree, two words a node: 2.00, 5.00.
 pub const TREE: &[u32] = &[0, 0, 1, 0, 2, 200, 1, 0, 2, 500, 1, 1];
+/// The same as T-07's slip, three words a node.
+pub const SLIP: &[u32] = &[0, 0, 6, 1, 0, 5, 2, 200, 1, 1, 0, 3, 2, 500, 1, 1, 1, 1];
 
 /// What the bench prints for an input, without the last line end.
-pub fn bench(budget: u32, grammar: &[u32], rules: &[u32], tree: &[u32]) -> String {
+pub fn bench_slip(budget: u32, grammar: &[u32], rules: &[u32], slip: &[u32]) -> String {
     let input = Input {
         budget,
         grammar: grammar.to_vec(),
         rules: rules.to_vec(),
-        tree: tree.to_vec(),
+        slip: slip.to_vec(),
     };
     let text = bench::answer(bench::write(&input).as_bytes());
     text.strip_suffix('\n').expect("a line end").to_string()
+}
+
+/// What the bench prints for the slip of a tree that fits its grammar.
+pub fn bench(budget: u32, grammar: &[u32], rules: &[u32], tree: &[u32]) -> String {
+    bench_slip(budget, grammar, rules, &slip(grammar, tree))
+}
+
+/// What is printed for an ending with this tree.
+pub fn ended(grammar: &[u32], ending: &str, tree: &[u32]) -> String {
+    let slip = slip(grammar, tree);
+    let words: Vec<String> = slip.iter().map(u32::to_string).collect();
+    format!("{ending} {}\n{}", words.len(), words.join(" "))
+}
+
+/// The slip of a tree that is written two words a node. A node's count is found
+/// by going on from it to where no node of its tree is owed any more.
+pub fn slip(grammar: &[u32], tree: &[u32]) -> Vec<u32> {
+    let children: Vec<usize> = tree
+        .chunks_exact(2)
+        .map(|node| children_of(grammar, node[0], node[1]))
+        .collect();
+    let count = |first: usize| {
+        let (mut owed, mut nodes) = (1, 0);
+        while owed > 0 {
+            owed += children[first + nodes];
+            owed -= 1;
+            nodes += 1;
+        }
+        nodes as u32
+    };
+    let nodes = tree.chunks_exact(2).enumerate();
+    nodes
+        .flat_map(|(index, node)| [node[0], node[1], count(index)])
+        .collect()
+}
+
+/// The number of a node's children, by the words of the grammar. Each record is
+/// passed over up to that of the node's type.
+fn children_of(grammar: &[u32], ty: u32, value: u32) -> usize {
+    let mut record = &grammar[1..];
+    for _ in 0..ty {
+        let fields = match record[0] {
+            8 => forms(record).iter().map(|form| form.len()).sum::<usize>() + 1,
+            _ => 1,
+        };
+        record = &record[1 + fields..];
+    }
+    match (record[0], value) {
+        (1, _) => 0,
+        (2, 0) => 1,
+        (4 | 16, 0) => 2,
+        (2 | 4 | 16, 1) => 0,
+        (8, _) => {
+            let elements = &forms(record)[value as usize][1..];
+            elements.iter().filter(|&&element| element < 64).count()
+        }
+        (map, _) => panic!("map {map} with value {value}"),
+    }
+}
+
+/// The forms of a record of map 8, each with its count of elements in front.
+fn forms(record: &[u32]) -> Vec<&[u32]> {
+    let mut later = &record[2..];
+    let mut forms = Vec::new();
+    for _ in 0..record[1] {
+        let (form, behind) = later.split_at(1 + later[0] as usize);
+        forms.push(form);
+        later = behind;
+    }
+    forms
 }
 
 /// The first line of what the bench prints.
@@ -29,7 +101,8 @@ pub fn first_line(budget: u32, grammar: &[u32], rules: &[u32], tree: &[u32]) -> 
     text.lines().next().unwrap_or_default().to_string()
 }
 
-/// A tree of the paper's grammar with these numbers: 2 x numbers + 2 nodes.
+/// A tree of the paper's grammar with these numbers: 2 x numbers + 2 nodes, two
+/// words each, as in all trees of these tests.
 /// It is no list in the sense of T-04, but fits that kind of sequence as well.
 pub fn list(numbers: &[u32]) -> Vec<u32> {
     [vec![0, 0], sequence(numbers)].concat()

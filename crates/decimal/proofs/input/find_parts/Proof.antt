@@ -1,8 +1,8 @@
 -- `decimal::input::find_parts` meets its contract. Assumes nothing.
-use Rattle.decimal.proofs.Parting.{length-found, no-grammar, no-rules, no-tree, left-over, all-parts}
+use Rattle.decimal.proofs.Parting.{length-found, no-grammar, no-rules, no-slip, left-over, all-parts}
 use Rattle.decimal.proofs.input.find_parts.Statement.{statement}
 use Rattle.decimal.proofs.input.find_parts.Tie as tie
-use Rattle.decimal.specs.Input.{mostGrammar, mostRules, mostTree}
+use Rattle.decimal.specs.Input.{mostGrammar, mostRules, mostSlip}
 use borrow.Author.Needs.{needs}
 use native.Mathlib.Omega.{arith}
 
@@ -49,7 +49,7 @@ enum-told-3 : tie.Need-enum-told-3
 enum-told-3 c = search needs
 
 returns-3 : tie.Need-returns-3
-returns-3 c = no-tree (c .before .before .before .before .before .before .before .before .before .before .before .before .args .ns .now) _ (length-found mostGrammar (c .before .before .before .before .before .before .before .before .before .before .before .before .args .ns .now) 1 _ (c .before .before .before .before .before .before .before .before .before .before .length-at .ensures) (c .before .before .before .before .before .before .before .before .a .given .1)) _ (length-found mostRules (c .before .before .before .before .before .before .before .before .before .before .before .before .args .ns .now) _ _ (c .before .before .before .before .before .before .length-at2 .ensures) (c .before .before .before .before .b .given .1)) _ (c .before .before .length-at3 .ensures) (c .enum-told3 .given .1)
+returns-3 c = no-slip (c .before .before .before .before .before .before .before .before .before .before .before .before .args .ns .now) _ (length-found mostGrammar (c .before .before .before .before .before .before .before .before .before .before .before .before .args .ns .now) 1 _ (c .before .before .before .before .before .before .before .before .before .before .length-at .ensures) (c .before .before .before .before .before .before .before .before .a .given .1)) _ (length-found mostRules (c .before .before .before .before .before .before .before .before .before .before .before .before .args .ns .now) _ _ (c .before .before .before .before .before .before .length-at2 .ensures) (c .before .before .before .before .b .given .1)) _ (c .before .before .length-at3 .ensures) (c .enum-told3 .given .1)
 
 add-if1 : tie.Need-add-if1
 add-if1 c = omega (arith, length-found mostGrammar (c .before .before .before .before .before .before .before .before .before .before .before .before .before .args .ns .now) 1 _ (c .before .before .before .before .before .before .before .before .before .before .before .length-at .ensures) (c .before .before .before .before .before .before .before .before .before .a .given .1) .there)
@@ -58,13 +58,13 @@ add-if1-2 : tie.Need-add-if1-2
 add-if1-2 c = omega (arith, length-found mostRules (c .before .before .before .before .before .before .before .before .before .before .before .before .before .args .ns .now) _ _ (c .before .before .before .before .before .before .before .length-at2 .ensures) (c .before .before .before .before .before .b .given .1) .there)
 
 add-if1-3 : tie.Need-add-if1-3
-add-if1-3 c = omega (arith, length-found mostTree (c .before .before .before .before .before .before .before .before .before .before .before .before .before .args .ns .now) _ _ (c .before .before .before .length-at3 .ensures) (c .before .c .given .1) .there)
+add-if1-3 c = omega (arith, length-found mostSlip (c .before .before .before .before .before .before .before .before .before .before .before .before .before .args .ns .now) _ _ (c .before .before .before .length-at3 .ensures) (c .before .c .given .1) .there)
 
 returns-4 : tie.Need-returns-4
-returns-4 c = left-over (c .before .before .before .before .before .before .before .before .before .before .before .before .before .before .args .ns .now) _ (length-found mostGrammar (c .before .before .before .before .before .before .before .before .before .before .before .before .before .before .args .ns .now) 1 _ (c .before .before .before .before .before .before .before .before .before .before .before .before .length-at .ensures) (c .before .before .before .before .before .before .before .before .before .before .a .given .1)) _ (length-found mostRules (c .before .before .before .before .before .before .before .before .before .before .before .before .before .before .args .ns .now) _ _ (c .before .before .before .before .before .before .before .before .length-at2 .ensures) (c .before .before .before .before .before .before .b .given .1)) _ (length-found mostTree (c .before .before .before .before .before .before .before .before .before .before .before .before .before .before .args .ns .now) _ _ (c .before .before .before .before .length-at3 .ensures) (c .before .before .c .given .1)) (c .if1 .taken)
+returns-4 c = left-over (c .before .before .before .before .before .before .before .before .before .before .before .before .before .before .args .ns .now) _ (length-found mostGrammar (c .before .before .before .before .before .before .before .before .before .before .before .before .before .before .args .ns .now) 1 _ (c .before .before .before .before .before .before .before .before .before .before .before .before .length-at .ensures) (c .before .before .before .before .before .before .before .before .before .before .a .given .1)) _ (length-found mostRules (c .before .before .before .before .before .before .before .before .before .before .before .before .before .before .args .ns .now) _ _ (c .before .before .before .before .before .before .before .before .length-at2 .ensures) (c .before .before .before .before .before .before .b .given .1)) _ (length-found mostSlip (c .before .before .before .before .before .before .before .before .before .before .before .before .before .before .args .ns .now) _ _ (c .before .before .before .before .length-at3 .ensures) (c .before .before .c .given .1)) (c .if1 .taken)
 
 returns-5 : tie.Need-returns-5
-returns-5 c = all-parts (c .before .before .before .before .before .before .before .before .before .before .before .before .before .before .args .ns .now) _ (length-found mostGrammar (c .before .before .before .before .before .before .before .before .before .before .before .before .before .before .args .ns .now) 1 _ (c .before .before .before .before .before .before .before .before .before .before .before .before .length-at .ensures) (c .before .before .before .before .before .before .before .before .before .before .a .given .1)) _ (length-found mostRules (c .before .before .before .before .before .before .before .before .before .before .before .before .before .before .args .ns .now) _ _ (c .before .before .before .before .before .before .before .before .length-at2 .ensures) (c .before .before .before .before .before .before .b .given .1)) _ (length-found mostTree (c .before .before .before .before .before .before .before .before .before .before .before .before .before .before .args .ns .now) _ _ (c .before .before .before .before .length-at3 .ensures) (c .before .before .c .given .1)) (c .if1 .left)
+returns-5 c = all-parts (c .before .before .before .before .before .before .before .before .before .before .before .before .before .before .args .ns .now) _ (length-found mostGrammar (c .before .before .before .before .before .before .before .before .before .before .before .before .before .before .args .ns .now) 1 _ (c .before .before .before .before .before .before .before .before .before .before .before .before .length-at .ensures) (c .before .before .before .before .before .before .before .before .before .before .a .given .1)) _ (length-found mostRules (c .before .before .before .before .before .before .before .before .before .before .before .before .before .before .args .ns .now) _ _ (c .before .before .before .before .before .before .before .before .length-at2 .ensures) (c .before .before .before .before .before .before .b .given .1)) _ (length-found mostSlip (c .before .before .before .before .before .before .before .before .before .before .before .before .before .before .args .ns .now) _ _ (c .before .before .before .before .length-at3 .ensures) (c .before .before .c .given .1)) (c .if1 .left)
 
 pub find-parts-spec : {M : Type 1} → statement M
 find-parts-spec =
