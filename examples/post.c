@@ -8,10 +8,11 @@
 #include <stdio.h>
 
 /* A program is a sequence of numbers; replace every 2.00 by 42.00; the slip is
- * 2.00, 5.00. docs/bench.md takes these words apart. */
+ * 2.00, 5.00, each node its type, its value and the number of nodes in its tree.
+ * docs/bench.md takes these words apart. */
 static const uint32_t grammar[] = {3, 8, 1, 1, 1, 4, 2, 1, 2};
 static const uint32_t rules[] = {1, 9, 2, 2, 1, 2, 200, 1, 2, 4200};
-static const uint32_t tree[] = {0, 0, 1, 0, 2, 200, 1, 0, 2, 500, 1, 1};
+static const uint32_t slip[] = {0, 0, 6, 1, 0, 5, 2, 200, 1, 1, 0, 3, 2, 500, 1, 1, 1, 1};
 /* The same rules with a fault: they put a sequence where a number must stand. */
 static const uint32_t faulty[] = {1, 9, 2, 2, 1, 2, 200, 1, 1, 1};
 /* Lent to every run. They may hold any words, and are never cleared. */
@@ -21,7 +22,7 @@ static uint32_t result[TAMARIND_RESULT_WORDS], work[TAMARIND_WORK_WORDS];
 
 static void run_and_post(const uint32_t *book, size_t book_len, uint32_t budget) {
     const tamarind_outcome o =
-        tamarind_run(grammar, COUNT(grammar), book, book_len, tree, COUNT(tree), budget,
+        tamarind_run(grammar, COUNT(grammar), book, book_len, slip, COUNT(slip), budget,
                      result, COUNT(result), work, COUNT(work));
     if (o.ending == TAMARIND_DONE) printf("done");
     if (o.ending == TAMARIND_STOPPED) printf("stopped %" PRIu32 ": %s", o.number, tamarind_meaning(o.number));
@@ -29,7 +30,7 @@ static void run_and_post(const uint32_t *book, size_t book_len, uint32_t budget)
     else printf(", attempts %" PRIu32 ", replacements %" PRIu32 "\n", o.attempts, o.replacements);
 
     size_t count;
-    const uint32_t *words = tamarind_output(&o, result, COUNT(result), tree, COUNT(tree), &count);
+    const uint32_t *words = tamarind_output(&o, result, COUNT(result), slip, COUNT(slip), &count);
     printf("post");
     for (size_t word = 0; word < count; word++) printf(" %" PRIu32, words[word]);
     printf("\n");

@@ -7,16 +7,17 @@ use std::process::ExitCode;
 use tamarind::Pad;
 
 // A program is a sequence of numbers; replace every 2.00 by 42.00; the slip is
-// 2.00, 5.00. docs/bench.md takes these words apart.
+// 2.00, 5.00, each node its type, its value and the number of nodes in its tree.
+// docs/bench.md takes these words apart.
 const GRAMMAR: [u32; 9] = [3, 8, 1, 1, 1, 4, 2, 1, 2];
 const RULES: [u32; 10] = [1, 9, 2, 2, 1, 2, 200, 1, 2, 4200];
-const TREE: [u32; 12] = [0, 0, 1, 0, 2, 200, 1, 0, 2, 500, 1, 1];
+const SLIP: [u32; 18] = [0, 0, 6, 1, 0, 5, 2, 200, 1, 1, 0, 3, 2, 500, 1, 1, 1, 1];
 
 // The same rules with a fault: they put a sequence where a number must stand.
 const FAULTY: [u32; 10] = [1, 9, 2, 2, 1, 2, 200, 1, 1, 1];
 
 fn run_and_post(pad: &mut Pad, rules: &[u32], budget: u32) {
-    let posting = pad.run(&GRAMMAR, rules, &TREE, budget);
+    let posting = pad.run(&GRAMMAR, rules, &SLIP, budget);
     println!("{}", posting.outcome);
     print!("post");
     for word in posting.words {

@@ -1,11 +1,22 @@
 /* The proved rewriting core of the counter pad, for C and C++ programs on
  * 64-bit x86 Linux. Link with libtamarind.a.
  *
- * It rewrites a slip, a tree of 32-bit words, by a rule book into the words
+ * It rewrites a slip, a tree in 32-bit words, by a rule book into the words
  * that are posted. Each function promises its whole outcome on every input: any
  * words of any length may be passed, and what is not allowed is refused with a
  * number and a position. docs/bench.md says what each number asks of a rule
  * writer, docs/DATASHEET.md what a call costs; a release has both beside this.
+ *
+ * A slip has three words for each node of its tree, a parent's before its
+ * children's: the node's type, its value, and its count, which is the number of
+ * nodes in its tree, itself included. So the slip of 2.00 and 5.00 is
+ *
+ *     0 0 6   1 0 5   2 200 1   1 0 3   2 500 1   1 1 1
+ *
+ * and a terminal steps over the field that begins at slip[at] by its count:
+ * at += 3 * slip[at + 2]. Every count is right in a slip that
+ * tamarind_check_slip passes, and in what a run has filled of its result.
+ * Grammars and rule books have no counts.
  *
  * What a caller guarantees of every call:
  * - A pointer points to as many words as its length says, aligned as uint32_t
@@ -38,13 +49,15 @@ extern "C" {
  * rounds an exact half to the even whole number. 2 is T-02: a number may be as
  * great as 4,000,000,000 hundredths. 4 is T-04: the list, and operations on
  * sequences. 5 is T-05: in a pattern a variable whose tree holds an empty name
- * or string matches nothing. 6 is T-06: reach 3, the one-pass rule.
+ * or string matches nothing. 6 is T-06: reach 3, the one-pass rule. 7 is T-07:
+ * each node of a slip and of a result has a third word, the number of nodes in
+ * its tree.
  *
  * tamarind_edition() is the archive's. A program asks tamarind_is_this_edition()
  * once when it starts, and makes no other call if the answer is 0: header and
  * archive do not belong together. An archive that is older than editions does
  * not link. */
-#define TAMARIND_EDITION 6
+#define TAMARIND_EDITION 7
 
 uint32_t tamarind_edition(void);
 
@@ -53,13 +66,13 @@ static inline int tamarind_is_this_edition(void) {
 }
 
 /* Limits of a call. The first two are the fewest words of the two memories. */
-#define TAMARIND_RESULT_WORDS 4096
+#define TAMARIND_RESULT_WORDS 6144
 #define TAMARIND_WORK_WORDS 16384
 #define TAMARIND_LEAST_BUDGET 1
 #define TAMARIND_GREATEST_BUDGET 1000000
 #define TAMARIND_MOST_GRAMMAR_WORDS 4096
 #define TAMARIND_MOST_RULES_WORDS 16384
-#define TAMARIND_MOST_TREE_WORDS 4096
+#define TAMARIND_MOST_SLIP_WORDS 6144
 
 /* Limits of a grammar: its types, the forms of a type, the elements of a form;
  * the elements that are literals. */
@@ -104,10 +117,11 @@ static inline int tamarind_is_this_edition(void) {
 #define TAMARIND_REFUSAL_RULES_REFERENCE 22
 #define TAMARIND_REFUSAL_RULES_PAIR 23
 #define TAMARIND_REFUSAL_RULES_LIMIT 24
-#define TAMARIND_REFUSAL_TREE_SIZE 30
-#define TAMARIND_REFUSAL_TREE_END 31
-#define TAMARIND_REFUSAL_TREE_WORD 32
-#define TAMARIND_REFUSAL_TREE_NESTING 33
+#define TAMARIND_REFUSAL_SLIP_SIZE 30
+#define TAMARIND_REFUSAL_SLIP_END 31
+#define TAMARIND_REFUSAL_SLIP_WORD 32
+#define TAMARIND_REFUSAL_SLIP_NESTING 33
+#define TAMARIND_REFUSAL_SLIP_COUNT 34
 
 /* Stops: the run ended before it was done. */
 #define TAMARIND_STOP_BUDGET_SPENT 40
@@ -121,7 +135,7 @@ static inline int tamarind_is_this_edition(void) {
 static inline const char *tamarind_meaning(uint32_t number) {
     switch (number) {
     case 0: return "nothing is refused or stopped";
-    case TAMARIND_REFUSAL_RESULT_TOO_SHORT: return "result under 4,096 words";
+    case TAMARIND_REFUSAL_RESULT_TOO_SHORT: return "result under 6,144 words";
     case TAMARIND_REFUSAL_WORK_TOO_SHORT: return "work under 16,384 words";
     case TAMARIND_REFUSAL_BUDGET: return "budget 0 or over 1,000,000";
     case TAMARIND_REFUSAL_GRAMMAR_TOO_LONG: return "grammar over 4,096 words";
@@ -134,10 +148,11 @@ static inline const char *tamarind_meaning(uint32_t number) {
     case TAMARIND_REFUSAL_RULES_REFERENCE: return "variable not there yet, rule or operation not there or not usable here or on its scope, or argument count";
     case TAMARIND_REFUSAL_RULES_PAIR: return "a pair, value, type or variable's type that cannot stand there, or pairs short or over";
     case TAMARIND_REFUSAL_RULES_LIMIT: return "17th variable of a rule, or a pattern or replacement nested over 64";
-    case TAMARIND_REFUSAL_TREE_SIZE: return "tree of no words, of an odd count, or over 4,096";
-    case TAMARIND_REFUSAL_TREE_END: return "tree ends early, or words left over";
-    case TAMARIND_REFUSAL_TREE_WORD: return "type, form or value not allowed in the tree";
-    case TAMARIND_REFUSAL_TREE_NESTING: return "tree nested over 64";
+    case TAMARIND_REFUSAL_SLIP_SIZE: return "slip of no words, of a count that is no multiple of three, or over 6,144";
+    case TAMARIND_REFUSAL_SLIP_END: return "slip ends early, or words left over";
+    case TAMARIND_REFUSAL_SLIP_WORD: return "type, form or value not allowed in the slip";
+    case TAMARIND_REFUSAL_SLIP_NESTING: return "slip nested over 64";
+    case TAMARIND_REFUSAL_SLIP_COUNT: return "a count in the slip is wrong";
     case TAMARIND_STOP_BUDGET_SPENT: return "an attempt is due and the budget is spent";
     case TAMARIND_STOP_CALLS_TOO_DEEP: return "a 33rd nested call, main being the first";
     case TAMARIND_STOP_TOO_MANY_NODES: return "a tree would pass 2,048 nodes";
@@ -158,9 +173,11 @@ typedef struct {
 /* Checks a grammar: refusals 4, 10, 11 and 12. */
 tamarind_answer tamarind_check_grammar(const uint32_t *grammar, size_t grammar_len);
 
-/* Checks a tree against a grammar: refusals 4, 10 to 12, then 30 to 33. */
-tamarind_answer tamarind_check_tree(const uint32_t *grammar, size_t grammar_len,
-                                    const uint32_t *tree, size_t tree_len);
+/* Checks a slip against a grammar: refusals 4, 10 to 12, then 30 to 34. The
+ * grammar alone says where the tree ends; the counts are held to it last, so 34
+ * is given only where 30 to 33 find nothing in the whole slip. */
+tamarind_answer tamarind_check_slip(const uint32_t *grammar, size_t grammar_len,
+                                    const uint32_t *slip, size_t slip_len);
 
 /* Checks a rule book against a grammar: refusals 4, 5, 10 to 12, then 20 to 24. */
 tamarind_answer tamarind_check_rules(const uint32_t *grammar, size_t grammar_len,
@@ -178,30 +195,30 @@ typedef struct {
     size_t position;       /* of a refusal, otherwise 0 */
     uint32_t attempts;     /* attempts that were started; 0 when refused */
     uint32_t replacements; /* that the first call put in place; 0 when refused */
-    size_t filled;         /* words of the result that are the tree; 0 when refused */
+    size_t filled;         /* words of the result that are a slip; 0 when refused */
 } tamarind_outcome;
 
-/* Checks everything (refusals 1 to 5, 10 to 12, 20 to 24, 30 to 33) and rewrites
- * the tree by the rule book with at most `budget` attempts.
+/* Checks everything (refusals 1 to 5, 10 to 12, 20 to 24, 30 to 34) and rewrites
+ * the slip's tree by the rule book with at most `budget` attempts.
  *
  * Both memories may hold any words. Done or stopped, the first `filled` words of
- * the result are a tree, its other words are unchanged, and all words of `work`
- * are 0.
+ * the result are a slip again, three words a node and every count right; its
+ * other words are unchanged, and all words of `work` are 0.
  *
- * A refused run has changed no word of either memory. What is posted is the tree
+ * A refused run has changed no word of either memory. What is posted is the slip
  * itself, as it was given. The number and the position say what to mend: a
  * length or the budget of this call (1 to 5), the grammar (10 to 12), the rule
- * book (20 to 24) or the tree (30 to 33), and the word at fault in it. There is
+ * book (20 to 24) or the slip (30 to 34), and the word at fault in it. There is
  * nothing to reset: the next run may follow at once, over the same memories. */
 tamarind_outcome tamarind_run(const uint32_t *grammar, size_t grammar_len,
                               const uint32_t *rules, size_t rules_len,
-                              const uint32_t *tree, size_t tree_len,
+                              const uint32_t *slip, size_t slip_len,
                               uint32_t budget,
                               uint32_t *result, size_t result_len,
                               uint32_t *work, size_t work_len);
 
 /* Where the words to post lie. */
-#define TAMARIND_POST_TREE 0
+#define TAMARIND_POST_SLIP 0
 #define TAMARIND_POST_RESULT 1
 
 /* The words to post: the first `words` words of the source. */
@@ -211,20 +228,20 @@ typedef struct {
 } tamarind_posting;
 
 /* The words to post after a run: the filled ones of the result if the run is
- * done and the result has so many, otherwise all words of the tree. */
+ * done and the result has so many, otherwise all words of the slip. */
 tamarind_posting tamarind_words_to_post(uint32_t ending, size_t filled,
-                                        size_t result_len, size_t tree_len);
+                                        size_t result_len, size_t slip_len);
 
-/* The same as a pointer, with the count in `*words`: give it what the run was
- * given, before the next run over the same result. */
+/* The same as a pointer, with their number in `*words`: give it what the run
+ * was given, before the next run over the same result. */
 static inline const uint32_t *tamarind_output(const tamarind_outcome *outcome,
                                               const uint32_t *result, size_t result_len,
-                                              const uint32_t *tree, size_t tree_len,
+                                              const uint32_t *slip, size_t slip_len,
                                               size_t *words) {
     tamarind_posting posting =
-        tamarind_words_to_post(outcome->ending, outcome->filled, result_len, tree_len);
+        tamarind_words_to_post(outcome->ending, outcome->filled, result_len, slip_len);
     *words = posting.words;
-    return posting.source == TAMARIND_POST_RESULT ? result : tree;
+    return posting.source == TAMARIND_POST_RESULT ? result : slip;
 }
 
 #ifdef __cplusplus

@@ -2,3 +2,4 @@
 pub mod Counts
 pub mod Copying
 pub mod Reading
+pub mod Loading

@@ -28,11 +28,11 @@ use Rattle.marks.specs.Marked.{marked, UnderWay}
 use Rattle.marks.specs.Post.{span, TreeMarked}
 use Rattle.marks.proofs.Marks.{marked-length}
 use Rattle.marks.proofs.Laying.{under-plain}
-use Rattle.slips.specs.Slips.{countsAs, SlipRead}
+use Rattle.slips.specs.Slips.{countsAs, ReadBeside, SlipRead}
 use Rattle.slips.proofs.Counts.{counts-marks}
 
 -- a refusal: nothing is said of the buffer
-refused-read : {reading : Grammar → Read Words} {heads rows b b′ : Words} {n p : ℕ} → ((g : Grammar) → Tables g heads rows → reading g ≡ refused n p) → SlipRead reading heads rows b b′ (Refused n p)
+refused-read : {reading : Grammar → Read Words} {heads rows b b′ : Words} {n p : ℕ} → ((g : Grammar) → Tables g heads rows → reading g ≡ refused n p) → ReadBeside reading heads rows b b′ (Refused n p)
 refused-read h = record { answered = λ g t. rw (h g t); tree = λ g ws next t e. let same = sym (h g t) ∙ e in let z : _≡_ {A = ℕ} 0 1 = cc in absurd (omega arith) }
 
 -- a tree that was copied to the start of the buffer and marked there
@@ -43,13 +43,9 @@ laid-marked g ws heads rows b b₁ b₂ n long t tr e m =
     let u : UnderWay g (span b₁ 0 n) ws = rw (z, there) (under-plain (tr .typed)) in
     m .marks g 0 ws t (tr .typed) (tr .nodes) u ∙ ap (λ l. marked g ws ++ l) (ap (drop n) e ∙ drop-at ws (drop n b) n long)
 
--- what a caller finds in the buffer
-pub slip-there : {reading : Grammar → Read Words} {heads rows b b′ : Words} {r : Check} → SlipRead reading heads rows b b′ r → (g : Grammar) (ws : Words) (next : ℕ) → Tables g heads rows → reading g ≡ value ws next → take (length ws) b′ ≡ marked g ws
-slip-there {b = b} s g ws next t e = ap (take (length ws)) (s .tree g ws next t e) ∙ take-at (marked g ws) (drop (length ws) b) (length ws) (marked-length g ws)
-
 module _ (slip heads rows b : Words) where
   abbrev Answers : Words → Check → Type 0
-  Answers b′ r = SlipRead (λ g. readSlip g slip) heads rows b b′ r
+  Answers b′ r = ReadBeside (λ g. readSlip g slip) heads rows b b′ r
 
   -- 30
 

@@ -13,7 +13,7 @@ ghost use Rattle.words.specs.Views.{answer};
 ghost use Rattle.tree.specs.Limits.{mostTreeWords};
 ghost use Rattle.tree.specs.Slip.{placeIn, uncounted, readSlip, checkSlip};
 ghost use Rattle.tree.specs.Views.{AreTables};
-ghost use Rattle.slips.specs.Slips.{countsAs, SlipRead, SlipWritten};
+ghost use Rattle.slips.specs.Slips.{countsAs, ReadBeside, SlipRead, SlipWritten};
 
 // Where a word of the tree stands in the slip.
 fn place_in(p: usize) -> usize
@@ -54,14 +54,14 @@ fn check_counts(slip: &[u32], part: &[u32]) -> Check
 }
 
 // The check of a slip against the grammar whose tables these are. Where nothing is refused, its tree stands at the start of the buffer, marked.
-pub fn read_slip(
+fn read_beside(
     heads: &[u32; HEADS],
     rows: &[u8; ROWS],
     slip: &[u32],
     buffer: &mut [u32; MOST_WORDS],
 ) -> Check
     requires { ⌜ AreTables (now heads) (now rows) ⌝ }
-    ensures { λ r. ⌜ SlipRead (λ g. readSlip g (now (slip .entry))) (now (heads .entry)) (now (rows .entry)) (now (buffer .entry)) (now (buffer .exit)) r ⌝ }
+    ensures { λ r. ⌜ ReadBeside (λ g. readSlip g (now (slip .entry))) (now (heads .entry)) (now (rows .entry)) (now (buffer .entry)) (now (buffer .exit)) r ⌝ }
 {
     if slip.len() == 0 {
         return Check::Refused(30, 0);
@@ -86,7 +86,41 @@ pub fn read_slip(
     }
 }
 
-// The single check of a slip: the grammar's check, then the slip's.
+// Copies the words to the start of the memory.
+fn load(ws: &[u32], memory: &mut [u32])
+    requires { ⌜ length (now ws) ≤ length (now memory) ⌝ }
+    ensures { λ _. ⌜ now (memory .exit) ≡ now (ws .entry) ++ drop (length (now (ws .entry))) (now (memory .entry)) ⌝ }
+{
+    let mut i: usize = 0;
+    while i < ws.len() {
+        memory[i] = ws[i];
+        i = i + 1;
+    }
+}
+
+// The check of a slip against the grammar whose tables these are. Where nothing is refused and the memory has room for every tree, the slip's tree stands at its
+// start, marked. A refusal changes nothing, so the tree is read in a buffer beside it, which is gone when this returns: the stack of a run's calls does not hold it.
+pub fn read_slip(heads: &[u32; HEADS], rows: &[u8; ROWS], slip: &[u32], memory: &mut [u32]) -> Check
+    requires { ⌜ AreTables (now heads) (now rows) ⌝ }
+    ensures { λ r. ⌜ SlipRead (λ g. readSlip g (now (slip .entry))) (now (heads .entry)) (now (rows .entry)) (now (memory .entry)) (now (memory .exit)) r ⌝ }
+{
+    let mut buffer = [0u32; MOST_WORDS];
+    let c = read_beside(heads, rows, slip, &mut buffer);
+    match c {
+        Check::Refused(no, p) => Check::Refused(no, p),
+        Check::Passed(p) => {
+            if memory.len() < MOST_WORDS {
+                return Check::Passed(p);
+            }
+            let end = 2 * (slip.len() / 3);
+            let tree = &buffer[..];
+            load(&tree[..end], memory);
+            Check::Passed(p)
+        }
+    }
+}
+
+// The single check of a slip: the grammar's check, then the slip's, which has no memory to put the tree in.
 pub fn check_slip(gs: &[u32], slip: &[u32]) -> Check
     ensures { λ r. ⌜ r ≡ answer (checkSlip (now (gs .entry)) (now (slip .entry))) ⌝ }
 {
@@ -96,9 +130,9 @@ pub fn check_slip(gs: &[u32], slip: &[u32]) -> Check
         Check::Passed(_) => {
             let mut heads = [0u32; HEADS];
             let mut rows = [0u8; ROWS];
-            let mut buffer = [0u32; MOST_WORDS];
+            let mut none = [0u32; 1];
             tables::fill(gs, &mut heads, &mut rows);
-            read_slip(&heads, &rows, slip, &mut buffer)
+            read_slip(&heads, &rows, slip, &mut none)
         }
     }
 }

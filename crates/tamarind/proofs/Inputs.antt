@@ -1,9 +1,10 @@
 -- Laws of the checks of a run: of the call itself, and of what it brings. Assumes nothing.
-use Prim.Native.Nat.{ℕ, _<_, _≤_}
+use Prim.Native.Nat.{ℕ, _*_, _/_, _<_, _≤_}
 use mathlib.Core.Path.{_≡_, refl, sym, ap, _∙_}
 use mathlib.Core.Bool.{true, false}
 use native.Mathlib.Omega.{arith}
-use lib.ListN.{length}
+use lib.ListN.{length, take, drop}
+use lib.Seq.{take-at}
 use lib.Dec.{leb}
 use borrow.Author.Tests.{le-leb, lt-leb, leb-true}
 use Rattle.words.specs.Reader as R
@@ -15,7 +16,14 @@ use Rattle.words.proofs.Laws.{answer-passed, answer-refused, answer-map, then-v
 use Rattle.grammar.specs.Limits.{mostGrammarWords}
 use Rattle.grammar.specs.Grammar.{Grammar, readGrammar, grammarFits}
 use Rattle.tables.specs.Tables.{Tables, readOf}
+use Rattle.tree.specs.Tree.{size}
 use Rattle.tree.specs.Slip.{readSlip}
+use Rattle.tree.proofs.Trees.{trees-even}
+use Rattle.tree.proofs.Slip.{counted-length, slip-sound}
+use Rattle.marks.specs.Marked.{marked}
+use Rattle.marks.proofs.Marks.{marked-length}
+use Rattle.slips.specs.Slips.{SlipRead}
+use Rattle.rewrite.specs.Arena.{Standing}
 use Rattle.rules.specs.Limits.{mostRuleWords}
 use Rattle.rules.specs.Rules.{Rules}
 use Rattle.rules.specs.Layout.{rulesFit}
@@ -24,7 +32,7 @@ use Rattle.meaning.specs.Limits.{mostBudget, leastResult, leastWork}
 use Rattle.meaning.specs.Outcome.{Inputs, Decoded, callFits, decode, outcomeOf, outcome, resultAfter, workAfter, filledBy}
 use Rattle.meaning.specs.Runs.{Memories}
 use Rattle.tamarind.specs.declared.Outcome.the-variants as Code
-use Rattle.tamarind.specs.Run.{readInputs, SlipLaid, InputsRead, Accepted, memories, Runs}
+use Rattle.tamarind.specs.Run.{readInputs, InputsRead, Accepted, memories, Runs}
 
 -- THE CALL
 
@@ -72,6 +80,20 @@ module _ (result work : ℕ) (x : Inputs) where
 no-value : {B : Type 0} {n p : ℕ} {q : Read Decoded} {d : Decoded} {next : ℕ} → q ≡ R.refused n p → q ≡ value d next → B
 no-value e f = let both = sym e ∙ f in let z : _≡_ {A = ℕ} 0 1 = cc in absurd (omega arith)
 
+-- the slip's tree stands at the bottom of work memory
+slip-stands : (slip heads rows w w′ : Words) {r : Check} → SlipRead (λ g. readSlip g slip) heads rows w w′ r → leastWork ≤ length w
+    → (g : Grammar) (tree : Words) (next : ℕ) → Tables g heads rows → readSlip g slip ≡ value tree next → Standing g w′ 0 (length slip / 3) 0 tree
+slip-stands slip heads rows w w′ s room g tree next t q =
+    let x = slip-sound g slip tree next q in
+    let long : length slip ≡ 3 * size tree = ap length (x .1) ∙ counted-length g tree in
+    let n : size tree ≡ length slip / 3 = omega arith in
+    let j : 2 * (length slip / 3) ≡ length tree = omega (arith, trees-even (x .0 .typed)) in
+    record {
+      tree = x .0;
+      nodes = n;
+      words = ap (λ i. take i w′) j ∙ ap (take (length tree)) (s .tree g tree next t q (omega arith)) ∙ take-at (marked g tree) (drop (length tree) w) (length tree) (marked-length g tree);
+    }
+
 module _ (grammar rules slip heads rows w : Words) where
   refused-read : {n p : ℕ} → readInputs grammar rules slip ≡ R.refused n p → InputsRead grammar rules slip heads rows w w (Refused n p)
   refused-read e = record { answered = rw e; long = refl; kept = λ h. refl; tables = λ d next f. no-value e f; stands = λ d next f. no-value e f }
@@ -94,8 +116,8 @@ module _ (grammar rules slip heads rows w : Words) where
         pub rules-refused : {n p : ℕ} → d ≡ Refused n p → InputsRead grammar rules slip heads rows w w (Refused n p)
         rules-refused f = refused-read (read-rest ∙ rw (answer-refused (readRules g rules) d js f))
 
-        pub slip-read : {n : ℕ} → d ≡ Passed n → Tables g heads rows → {w′ : Words} {r : Check} → SlipLaid heads rows slip w w′ r → InputsRead grammar rules slip heads rows w w′ r
-        slip-read f tables {w′} {r} l = let rs = answer-passed (readRules g rules) d js f in read-by (rs .0) (rs .1)
+        pub slip-read : {n : ℕ} → d ≡ Passed n → Tables g heads rows → leastWork ≤ length w → {w′ : Words} {r : Check} → SlipRead (λ g. readSlip g slip) heads rows w w′ r → InputsRead grammar rules slip heads rows w w′ r
+        slip-read f tables room {w′} {r} l = let rs = answer-passed (readRules g rules) d js f in read-by (rs .0) (rs .1)
           where
             read-by : (rs : Rules) {n : ℕ} → readRules g rules ≡ value rs n → InputsRead grammar rules slip heads rows w w′ r
             read-by rs e =
@@ -111,7 +133,7 @@ module _ (grammar rules slip heads rows w : Words) where
                   stands = λ y next q.
                       let t = then-value (readSlip g slip) (λ tree. return (record { grammar = g; rules = rs; tree = tree })) (sym all ∙ q) in
                       let same : _≡_ {A = Decoded} (record { grammar = g; rules = rs; tree = t .0 }) y = cc (t .3) in
-                      rw (← same) (l .stands g (t .0) (t .1) tables (t .2));
+                      rw (← same) (slip-stands slip heads rows w w′ l room g (t .0) (t .1) tables (t .2));
                 }
 
 -- BOTH

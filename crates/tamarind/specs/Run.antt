@@ -10,7 +10,6 @@ use Rattle.words.specs.declared.Check.the-variants as Check
 use Rattle.grammar.specs.Grammar.{Grammar, readGrammar}
 use Rattle.tables.specs.Tables.{Tables, readOf}
 use Rattle.tree.specs.Slip.{readSlip}
-use Rattle.tree.specs.Views.{InTables}
 use Rattle.judgement.specs.Typing.{readRules}
 use Rattle.meaning.specs.Meaning.{Ending, done, stopped}
 use Rattle.meaning.specs.Sound.{WellEnded}
@@ -88,14 +87,7 @@ readInputs grammar rules slip =
     andThen (readSlip g slip) (λ tree.
     return (record { grammar = g; rules = rs; tree = tree }))))
 
--- the slip is read; where nothing is refused its tree stands at the bottom of work memory, marked, and a refusal changes nothing
-pub record SlipLaid (heads rows slip w w′ : Words) (r : Check) : Type 0 where
-  pub answered : InTables heads rows (λ g. r ≡ answer (readSlip g slip))
-  pub long : length w′ ≡ length w
-  pub kept : {n p : ℕ} → r ≡ Check.Refused n p → w′ ≡ w
-  pub stands : (g : Grammar) (tree : Words) (next : ℕ) → Tables g heads rows → readSlip g slip ≡ value tree next → Standing g w′ 0 (length slip / 3) 0 tree
-
--- all three are read; where nothing is refused the tables are the grammar's and the slip's tree is laid, and a refusal changes nothing
+-- all three are read; where nothing is refused the tables are the grammar's and the slip's tree stands at the bottom of work memory, marked; a refusal changes nothing
 pub record InputsRead (grammar rules slip heads rows w w′ : Words) (r : Check) : Type 0 where
   pub answered : r ≡ answer (readInputs grammar rules slip)
   pub long : length w′ ≡ length w

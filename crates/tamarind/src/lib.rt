@@ -4,22 +4,18 @@ use meaning::State;
 use rules::limits::MOST_VARIABLES;
 use tables::HEADS;
 use tables::ROWS;
-use tree::limits::MOST_WORDS;
 use words::Check;
 ghost use mathlib.Core.Path.{_≡_};
-ghost use mathlib.Core.List.{_++_};
 ghost use Prim.Native.Nat.{_<_, _≤_, _^_};
-ghost use lib.ListN.{length, drop, replicate};
+ghost use lib.ListN.{length, replicate};
 ghost use Rattle.words.specs.Reader.{Words};
 ghost use Rattle.words.specs.Views.{answer};
 ghost use Rattle.grammar.specs.Grammar.{checkGrammar};
 ghost use Rattle.tree.specs.Slip.{checkSlip};
-ghost use Rattle.tree.specs.Limits.{mostTreeWords};
-ghost use Rattle.tree.specs.Views.{AreTables};
 ghost use Rattle.judgement.specs.Typing.{checkRules};
 ghost use Rattle.meaning.specs.Limits.{leastWork};
 ghost use Rattle.meaning.specs.Outcome.{callFits, output};
-ghost use Rattle.tamarind.specs.Run.{numberOf, inputsOf, memories, Runs, RunsOver, Named, SlipLaid, InputsRead, Answered, Accepted};
+ghost use Rattle.tamarind.specs.Run.{numberOf, inputsOf, memories, Runs, RunsOver, Named, InputsRead, Answered, Accepted};
 ghost use Rattle.tamarind.specs.Exports.{exported, exportedCheck, exportedCounts, exportedOutcome, RunExported, postsResult, posting, edition};
 
 // A single check's answer: the number of the refusal and its position; 0 and 0 where nothing is refused.
@@ -157,38 +153,7 @@ fn call_fits(result: usize, work: usize, budget: u32, grammar: &[u32], rules: &[
     Check::Passed(0)
 }
 
-// Copies the tree to the bottom of work memory.
-fn load(tree: &[u32], work: &mut [u32])
-    requires { ⌜ length (now tree) ≤ length (now work) ⌝ }
-    ensures { λ _. ⌜ now (work .exit) ≡ now (tree .entry) ++ drop (length (now (tree .entry))) (now (work .entry)) ⌝ }
-{
-    let mut i: usize = 0;
-    while i < tree.len() {
-        work[i] = tree[i];
-        i = i + 1;
-    }
-}
-
-// The check of the slip. Where nothing is refused, its tree stands at the bottom of work memory, marked; a refusal changes nothing, so the tree is read beside it.
-// The buffer is gone before the first call, whose stack is the run's.
-fn lay_slip(heads: &[u32; HEADS], rows: &[u8; ROWS], slip: &[u32], work: &mut [u32]) -> Check
-    requires { ⌜ AreTables (now heads) (now rows) × (mostTreeWords ≤ length (now work)) ⌝ }
-    ensures { λ r. ⌜ SlipLaid (now (heads .entry)) (now (rows .entry)) (now (slip .entry)) (now (work .entry)) (now (work .exit)) r ⌝ }
-{
-    let mut buffer = [0u32; MOST_WORDS];
-    let c = slips::read_slip(heads, rows, slip, &mut buffer);
-    match c {
-        Check::Refused(no, p) => Check::Refused(no, p),
-        Check::Passed(p) => {
-            let end = 2 * (slip.len() / 3);
-            let tree = &buffer[..];
-            load(&tree[..end], work);
-            Check::Passed(p)
-        }
-    }
-}
-
-// The checks of the grammar, the rules and the slip, in this order. The grammar's tables are filled on the way, and the slip's tree is laid at the last.
+// The checks of the grammar, the rules and the slip, in this order. The grammar's tables are filled on the way, and at the last the slip's tree is put at the bottom of work memory.
 fn read_inputs(
     grammar: &[u32],
     rules: &[u32],
@@ -209,7 +174,7 @@ fn read_inputs(
             let d = typing::read_rules(heads, rows, types, rules);
             match d {
                 Check::Refused(no, p) => Check::Refused(no, p),
-                Check::Passed(_) => lay_slip(heads, rows, slip, work),
+                Check::Passed(_) => slips::read_slip(heads, rows, slip, work),
             }
         }
     }

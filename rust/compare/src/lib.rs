@@ -23,9 +23,9 @@ const CHECKS: [Check; 3] = [
         |input| reference(reference::check_grammar(&input.grammar)),
     ),
     (
-        "tree",
-        |input| proved(tamarind::check_tree(&input.grammar, &input.tree)),
-        |input| reference(reference::check_tree(&input.grammar, &input.tree)),
+        "slip",
+        |input| proved(tamarind::check_slip(&input.grammar, &input.slip)),
+        |input| reference(reference::check_slip(&input.grammar, &input.slip)),
     ),
     (
         "rules",

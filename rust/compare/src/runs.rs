@@ -1,6 +1,7 @@
 //! Compares runs: outcomes, both memories afterwards, and the words to post.
 
-use generate::{shrink, to_bench, Input, RunList};
+use generate::{shrink, slip, to_bench, without_counts, Input, RunList};
+use reference::grammar::Grammar;
 use reference::Outcome;
 use tamarind::Stop;
 
@@ -41,7 +42,7 @@ fn run_both(input: &Input, memories: &mut Memories) -> Result<u32, String> {
     let theirs = reference::run(
         &input.grammar,
         &input.rules,
-        &input.tree,
+        &input.slip,
         input.budget,
         memories.result().len(),
         memories.work().len(),
@@ -51,7 +52,7 @@ fn run_both(input: &Input, memories: &mut Memories) -> Result<u32, String> {
     let ours = tamarind::run(
         &input.grammar,
         &input.rules,
-        &input.tree,
+        &input.slip,
         input.budget,
         result,
         work,
@@ -63,9 +64,12 @@ fn run_both(input: &Input, memories: &mut Memories) -> Result<u32, String> {
     if let Some(difference) = memories.difference(&due) {
         return Err(format!("after {ours:?} {difference}"));
     }
-    let posted = tamarind::output(&ours, memories.result(), &input.tree);
-    if posted != output_due(&theirs, &input.tree) {
+    let posted = tamarind::output(&ours, memories.result(), &input.slip);
+    if posted != output_due(&theirs, &input.slip) {
         return Err(format!("after {ours:?} other words are posted"));
+    }
+    if let tamarind::Outcome::Ended { filled, .. } = ours {
+        check_filled(&input.grammar, &memories.result()[..filled])?;
     }
     Ok(number(&theirs))
 }
@@ -82,13 +86,26 @@ fn memories_due(mut memories: Memories, outcome: &Outcome) -> Memories {
     memories
 }
 
+/// What is found after a run that was not refused: the filled words are a slip
+/// again, and each count in them is right, as it is counted here.
+fn check_filled(grammar: &[u32], filled: &[u32]) -> Result<(), String> {
+    if let Err(refusal) = tamarind::check_slip(grammar, filled) {
+        return Err(format!("the filled words are no slip: {refusal}"));
+    }
+    let grammar = Grammar::read(grammar).map_err(|refusal| format!("{refusal:?}"))?;
+    if slip(&grammar, &without_counts(filled)) != filled {
+        return Err("a count of the filled words is wrong".into());
+    }
+    Ok(())
+}
+
 /// The words to post that the paper demands.
-fn output_due<'a>(outcome: &'a Outcome, tree: &'a [u32]) -> &'a [u32] {
+fn output_due<'a>(outcome: &'a Outcome, slip: &'a [u32]) -> &'a [u32] {
     match outcome {
         Outcome::Ended {
             stop: None, words, ..
         } => words,
-        _ => tree,
+        _ => slip,
     }
 }
 

@@ -23,7 +23,7 @@ fn the_checks_agree_number_and_position() {
         "{INPUTS} inputs agree; answers by number: {counts:?}"
     )
     .expect("written");
-    for number in [4, 5, 10, 11, 12, 20, 21, 22, 23, 24, 30, 31, 32, 33] {
+    for number in [4, 5, 10, 11, 12, 20, 21, 22, 23, 24, 30, 31, 32, 33, 34] {
         let count = counts.get(&number).copied().unwrap_or(0);
         assert!(count >= LEAST, "refusal {number} is given {count} times");
     }

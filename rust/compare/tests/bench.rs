@@ -19,7 +19,7 @@ const LEAST: usize = 200;
 
 const GRAMMAR: &[u32] = &[3, 8, 1, 1, 1, 4, 2, 1, 2];
 const RULES: &[u32] = &[1, 9, 2, 2, 1, 2, 200, 1, 2, 4200];
-const TREE: &[u32] = &[0, 0, 1, 0, 2, 200, 1, 0, 2, 500, 1, 1];
+const SLIP: &[u32] = &[0, 0, 6, 1, 0, 5, 2, 200, 1, 1, 0, 3, 2, 500, 1, 1, 1, 1];
 /// Rounds the first number.
 const ROUND: &[u32] = &[1, 9, 2, 1, 1, 64, 2, 3, 66, 0, 1, 0, 1004, 0];
 /// Puts the quotient of the first two numbers in their place.
@@ -32,9 +32,9 @@ const QUOTIENT: &[u32] = &[
 const PAGE: &str = include_str!("../../../docs/bench.md");
 const LIST_GRAMMAR: &[u32] = &[3, 8, 1, 1, 1, 16, 2, 1, 2];
 
-const EXAMPLE: &str =
-    "3 9 3 8 1 1 1 4 2 1 2 10 1 9 2 2 1 2 200 1 2 4200 12 0 0 1 0 2 200 1 0 2 500 1 1";
-const DONE: &str = "done 3 1 12\n0 0 1 0 2 4200 1 0 2 500 1 1\n";
+const EXAMPLE: &str = "3 9 3 8 1 1 1 4 2 1 2 10 1 9 2 2 1 2 200 1 2 4200 \
+    18 0 0 6 1 0 5 2 200 1 1 0 3 2 500 1 1 1 1";
+const DONE: &str = "done 3 1 18\n0 0 6 1 0 5 2 4200 1 1 0 3 2 500 1 1 1 1\n";
 const UNREAD: &str = "unread\n";
 
 /// What the bench prints of a text.
@@ -54,51 +54,62 @@ fn bench(text: &[u8]) -> String {
     String::from_utf8(output.stdout).expect("ASCII")
 }
 
-fn run(budget: u32, grammar: &[u32], rules: &[u32], tree: &[u32]) -> String {
+fn run(budget: u32, grammar: &[u32], rules: &[u32], slip: &[u32]) -> String {
     bench(
         to_bench(&Input {
             budget,
             grammar: grammar.to_vec(),
             rules: rules.to_vec(),
-            tree: tree.to_vec(),
+            slip: slip.to_vec(),
         })
         .as_bytes(),
     )
 }
 
-/// A tree of the paper's grammar with these numbers.
+/// A slip of the paper's grammar with these numbers.
 fn list(numbers: &[u32]) -> Vec<u32> {
-    let mut words = vec![0, 0];
-    words.extend(numbers.iter().flat_map(|&number| [1, 0, 2, number]));
-    words.extend([1, 1]);
+    // Two nodes for each number, and the last.
+    let sequence = |numbers: &[u32]| 2 * numbers.len() as u32 + 1;
+    let mut words = vec![0, 0, 1 + sequence(numbers)];
+    for (place, &number) in numbers.iter().enumerate() {
+        words.extend([1, 0, sequence(&numbers[place..]), 2, number, 1]);
+    }
+    words.extend([1, 1, 1]);
     words
+}
+
+/// The words of a slip as the bench prints them.
+fn printed_words(slip: &[u32]) -> String {
+    let words: Vec<String> = slip.iter().map(u32::to_string).collect();
+    words.join(" ")
 }
 
 #[test]
 fn the_papers_example_and_its_budgets() {
-    let tree = "0 0 1 0 2 4200 1 0 2 500 1 1";
+    let slip = "0 0 6 1 0 5 2 4200 1 1 0 3 2 500 1 1 1 1";
     assert_eq!(bench(EXAMPLE.as_bytes()), DONE);
+    assert_eq!(run(3, GRAMMAR, RULES, SLIP), DONE);
     assert_eq!(
-        run(2, GRAMMAR, RULES, TREE),
-        format!("stopped 40 2 1 12\n{tree}\n")
+        run(2, GRAMMAR, RULES, SLIP),
+        format!("stopped 40 2 1 18\n{slip}\n")
     );
     assert_eq!(
-        run(1, GRAMMAR, RULES, TREE),
-        format!("stopped 40 1 1 12\n{tree}\n")
+        run(1, GRAMMAR, RULES, SLIP),
+        format!("stopped 40 1 1 18\n{slip}\n")
     );
     let reach_1 = [1, 9, 2, 1, 1, 2, 200, 1, 2, 4200];
     assert_eq!(
-        run(3, GRAMMAR, &reach_1, TREE),
-        format!("done 1 1 12\n{tree}\n")
+        run(3, GRAMMAR, &reach_1, SLIP),
+        format!("done 1 1 18\n{slip}\n")
     );
     assert_eq!(
-        run(3, GRAMMAR, RULES, &[0, 0, 1, 1]),
-        "done 0 0 4\n0 0 1 1\n"
+        run(3, GRAMMAR, RULES, &[0, 0, 2, 1, 1, 1]),
+        "done 0 0 6\n0 0 2 1 1 1\n"
     );
     let same = [1, 9, 2, 2, 1, 2, 200, 1, 2, 200];
     assert_eq!(
-        run(7, GRAMMAR, &same, TREE),
-        "stopped 40 7 7 12\n0 0 1 0 2 200 1 0 2 500 1 1\n"
+        run(7, GRAMMAR, &same, SLIP),
+        "stopped 40 7 7 18\n0 0 6 1 0 5 2 200 1 1 0 3 2 500 1 1 1 1\n"
     );
 }
 
@@ -120,12 +131,9 @@ fn example_on_sequences(row: &str) -> (Vec<u32>, String) {
     let hundredths: Vec<u32> = amounts
         .map(|amount| amount.parse().expect("an amount"))
         .collect();
-    let tree = list(&hundredths)
-        .iter()
-        .map(u32::to_string)
-        .collect::<Vec<_>>();
+    let slip = printed_words(&list(&hundredths));
     let first = first.trim().trim_matches('`');
-    (rules, format!("{first}\n{}\n", tree.join(" ")))
+    (rules, format!("{first}\n{slip}\n"))
 }
 
 #[test]
@@ -138,7 +146,7 @@ fn the_pages_examples_on_sequences() {
     }
     for (rules, printed) in &examples {
         for grammar in [GRAMMAR, LIST_GRAMMAR] {
-            assert_eq!(run(1, grammar, rules, TREE), *printed, "{rules:?}");
+            assert_eq!(run(1, grammar, rules, SLIP), *printed, "{rules:?}");
         }
     }
 }
@@ -153,25 +161,30 @@ fn the_pages_examples_on_blanks() {
     let (mut matched, mut blank) = (0, 0);
     for row in rows {
         let cells: Vec<&str> = row.split('|').collect();
-        let (tree, rules) = (numbers(cells[1]), numbers(cells[3]));
+        let (slip, rules) = (numbers(cells[1]), numbers(cells[3]));
         let printed = cells[4].trim().replace("`: `", "\n").replace('`', "");
-        let answer = run(1, TRANSFERS, &rules, &tree);
+        let answer = run(1, TRANSFERS, &rules, &slip);
         assert_eq!(answer, format!("{printed}\n"), "{row}");
         matched += u32::from(printed.starts_with("done 1 1"));
-        blank += u32::from(printed.starts_with("done 1 0") && tree[3..].contains(&0));
+        blank += u32::from(printed.starts_with("done 1 0") && slip[3..].contains(&0));
     }
     assert!(matched >= 3 && blank >= 2, "the page has too few examples");
 }
 
-/// The grammar of the page's examples on one pass, fields with prefixes, and a tree
+/// The grammar of the page's examples on one pass, fields with prefixes, and a slip
 /// of two fields of which one has a prefix.
 const PREFIXES: &[u32] = &[4, 8, 1, 1, 1, 4, 2, 8, 2, 1, 3, 2, 3, 2, 1, 1];
-const FIELDS: &[u32] = &[0, 0, 1, 0, 2, 0, 3, 1, 1, 0, 2, 1, 3, 5, 2, 0, 3, 2, 1, 1];
+const FIELDS: &[u32] = &[
+    0, 0, 10, 1, 0, 9, 2, 0, 2, 3, 1, 1, 1, 0, 6, 2, 1, 4, 3, 5, 1, 2, 0, 2, 3, 2, 1, 1, 1, 1,
+];
+/// The sentence of the page that has that slip.
+const FIELDS_ON_THE_PAGE: &str =
+    "The slip is `0 0 10  1 0 9  2 0 2  3 1 1  1 0 6  2 1 4  3 5 1  2 0 2  3 2 1  1 1 1`";
 
 #[test]
 fn the_pages_examples_on_one_pass() {
     assert!(PAGE.contains("the grammar `4  8 1 1 1  4 2  8 2 1 3 2 3 2  1 1`"));
-    assert!(PAGE.contains("The tree is `0 0  1 0 2 0 3 1  1 0 2 1 3 5 2 0 3 2  1 1`"));
+    assert!(PAGE.contains(FIELDS_ON_THE_PAGE));
     let rows = PAGE.lines().map(|line| line.split('|').collect());
     let mut reaches = [0; 5];
     for cells in rows.filter(|cells: &Vec<&str>| cells.len() > 4 && cells[1].contains(", reach ")) {
@@ -192,22 +205,22 @@ fn the_pages_examples_on_one_pass() {
 #[test]
 fn the_papers_refusals_and_operations() {
     let wrong = [1, 9, 2, 2, 1, 2, 200, 1, 1, 1];
-    assert_eq!(run(3, GRAMMAR, &wrong, TREE), "refused 23 8\n");
-    assert_eq!(run(3, &[1, 8, 1, 1, 0], RULES, TREE), "refused 12 1\n");
-    assert_eq!(run(3, GRAMMAR, RULES, &[0, 0]), "refused 31 2\n");
-    let over = [TREE, &[1, 1]].concat();
-    assert_eq!(run(3, GRAMMAR, RULES, &over), "refused 31 12\n");
+    assert_eq!(run(3, GRAMMAR, &wrong, SLIP), "refused 23 8\n");
+    assert_eq!(run(3, &[1, 8, 1, 1, 0], RULES, SLIP), "refused 12 1\n");
+    assert_eq!(run(3, GRAMMAR, RULES, &[0, 0, 1]), "refused 31 3\n");
+    let over = [SLIP, &[1, 1, 1]].concat();
+    assert_eq!(run(3, GRAMMAR, RULES, &over), "refused 31 18\n");
     for number in [1_000_000_000, 4_000_000_000] {
         assert_eq!(
             run(3, GRAMMAR, RULES, &list(&[number, 500])),
-            format!("done 2 0 12\n0 0 1 0 2 {number} 1 0 2 500 1 1\n")
+            format!("done 2 0 18\n0 0 6 1 0 5 2 {number} 1 1 0 3 2 500 1 1 1 1\n")
         );
     }
     // All words are read; a number over the limit is refused where it stands.
     for number in [4_000_000_001, u32::MAX] {
         assert_eq!(
             run(3, GRAMMAR, RULES, &list(&[number, 500])),
-            "refused 32 5\n"
+            "refused 32 7\n"
         );
     }
     let document_01 = [(125, 100), (150, 200), (49, 0)];
@@ -221,19 +234,52 @@ fn the_papers_refusals_and_operations() {
     for (number, rounded) in rounds {
         assert_eq!(
             run(3, GRAMMAR, ROUND, &list(&[number])),
-            format!("done 1 1 8\n0 0 1 0 2 {rounded} 1 1\n")
+            format!("done 1 1 12\n0 0 4 1 0 3 2 {rounded} 1 1 1 1\n")
         );
     }
     for (number, divisor, quotient) in [(1_000, 300, 300), (40_000_000, 1, 4_000_000_000_u32)] {
         assert_eq!(
             run(3, GRAMMAR, QUOTIENT, &list(&[number, divisor])),
-            format!("done 1 1 8\n0 0 1 0 2 {quotient} 1 1\n")
+            format!("done 1 1 12\n0 0 4 1 0 3 2 {quotient} 1 1 1 1\n")
         );
     }
     assert_eq!(
         run(3, GRAMMAR, QUOTIENT, &list(&[40_000_001, 1])),
-        "stopped 45 1 0 12\n0 0 1 0 2 40000001 1 0 2 1 1 1\n"
+        "stopped 45 1 0 18\n0 0 6 1 0 5 2 40000001 1 1 0 3 2 1 1 1 1 1\n"
     );
+}
+
+#[test]
+fn counts_are_read_and_a_wrong_one_is_told() {
+    let with = |changes: &[(usize, u32)]| {
+        let mut slip = SLIP.to_vec();
+        for &(position, word) in changes {
+            slip[position] = word;
+        }
+        run(3, GRAMMAR, RULES, &slip)
+    };
+    for node in 0..SLIP.len() / 3 {
+        let position = 3 * node + 2;
+        let right = SLIP[position];
+        for wrong in [0, right - 1, right + 1, 3 * right, right + 65_536, u32::MAX] {
+            let refused = format!("refused 34 {position}\n");
+            assert_eq!(with(&[(position, wrong)]), refused, "{wrong}");
+        }
+    }
+    // The first is told, and any other fault before it.
+    assert_eq!(with(&[(11, 2), (5, 4)]), "refused 34 5\n");
+    assert_eq!(with(&[(2, 7), (7, 4_000_000_001)]), "refused 32 7\n");
+    let over = [SLIP, &[1, 1, 1]].concat();
+    let miscounted = [&[0, 0, 7], &over[3..]].concat();
+    assert_eq!(run(3, GRAMMAR, RULES, &miscounted), "refused 31 18\n");
+    assert_eq!(run(3, GRAMMAR, RULES, &[0, 0, 2]), "refused 31 3\n");
+    // Two words a node are no slip any more.
+    let tree = [0, 0, 1, 0, 2, 200, 1, 0, 2, 500, 1, 1];
+    assert_eq!(run(3, GRAMMAR, RULES, &tree), "refused 32 3\n");
+    for length in [0, 1, 2, 4, 5, 16, 17] {
+        let cut = run(3, GRAMMAR, RULES, &SLIP[..length]);
+        assert_eq!(cut, "refused 30 0\n", "{length}");
+    }
 }
 
 #[test]
@@ -275,32 +321,40 @@ fn other_ways_to_write_the_example() {
 #[test]
 fn lengths_at_one_past_and_two_past_their_limits() {
     let most = u32::MAX;
-    for length in [4_096, 4_097, 4_098] {
-        let words = vec![most; length];
-        let grammar = run(3, &words, RULES, TREE);
-        let tree = run(3, GRAMMAR, RULES, &words);
-        match length {
-            4_096 => assert_eq!((&*grammar, &*tree), ("refused 11 0\n", "refused 32 0\n")),
-            4_097 => assert_eq!((&*grammar, &*tree), ("refused 4 0\n", "refused 30 0\n")),
-            _ => assert_eq!((&*grammar, &*tree), (UNREAD, UNREAD)),
-        }
+    for (length, printed) in [
+        (4_096, "refused 11 0\n"),
+        (4_097, "refused 4 0\n"),
+        (4_098, UNREAD),
+    ] {
+        assert_eq!(run(3, &vec![most; length], RULES, SLIP), printed);
+    }
+    for (length, printed) in [
+        (6_141, "refused 32 0\n"),
+        (6_142, "refused 30 0\n"),
+        (6_143, "refused 30 0\n"),
+        (6_144, "refused 32 0\n"),
+        (6_145, "refused 30 0\n"),
+        (6_146, UNREAD),
+        (6_147, UNREAD),
+    ] {
+        assert_eq!(run(3, GRAMMAR, RULES, &vec![most; length]), printed);
     }
     for (length, printed) in [
         (16_384, "refused 21 0\n"),
         (16_385, "refused 5 0\n"),
         (16_386, UNREAD),
     ] {
-        assert_eq!(run(3, GRAMMAR, &vec![most; length], TREE), printed);
+        assert_eq!(run(3, GRAMMAR, &vec![most; length], SLIP), printed);
     }
     // All three one past their limits.
-    let (short, long) = (vec![most; 4_097], vec![most; 16_385]);
-    assert_eq!(run(3, &short, &long, &short), "refused 4 0\n");
-    // The greatest tree that can be filled.
-    let numbers = vec![4_000_000_000; 1_023];
-    let tree = list(&numbers);
-    let words: Vec<String> = tree.iter().map(u32::to_string).collect();
-    let printed = format!("done 1023 0 4096\n{}\n", words.join(" "));
-    assert_eq!(run(1_000_000, GRAMMAR, RULES, &tree), printed);
+    let [grammar, rules, slip] = [4_097, 16_385, 6_145].map(|length| vec![most; length]);
+    assert_eq!(run(3, &grammar, &rules, &slip), "refused 4 0\n");
+    // The greatest slip that can be filled.
+    let mut slip = list(&vec![4_000_000_000; 1_023]);
+    let printed = format!("done 1023 0 6144\n{}\n", printed_words(&slip));
+    assert_eq!(run(1_000_000, GRAMMAR, RULES, &slip), printed);
+    slip[6_143] = 2;
+    assert_eq!(run(1_000_000, GRAMMAR, RULES, &slip), "refused 34 6143\n");
 }
 
 /// Writes an input with white space and leading zeros as they come.

@@ -11,9 +11,9 @@ use std::process::{Command, Stdio};
 const BENCH: &str = concat!(env!("CARGO_MANIFEST_DIR"), "/../../bench");
 const PROGRAM: &str = concat!(env!("CARGO_MANIFEST_DIR"), "/../../target/bin/bench");
 
-const EXAMPLE: &str =
-    "3 9 3 8 1 1 1 4 2 1 2 10 1 9 2 2 1 2 200 1 2 4200 12 0 0 1 0 2 200 1 0 2 500 1 1";
-const DONE: &str = "done 3 1 12\n0 0 1 0 2 4200 1 0 2 500 1 1\n";
+const EXAMPLE: &str = "3 9 3 8 1 1 1 4 2 1 2 10 1 9 2 2 1 2 200 1 2 4200 \
+    18 0 0 6 1 0 5 2 200 1 1 0 3 2 500 1 1 1 1";
+const DONE: &str = "done 3 1 18\n0 0 6 1 0 5 2 4200 1 1 0 3 2 500 1 1 1 1\n";
 
 /// A new folder to write into.
 fn folder(name: &str) -> PathBuf {
@@ -58,8 +58,8 @@ fn answers_and_messages_with_their_exit_statuses() {
     fs::create_dir(here.join("folder")).expect("a folder");
 
     // Answers, and no other word.
-    let tree = "0 0 1 0 2 4200 1 0 2 500 1 1";
-    let stopped = status_and_answer(1, &format!("stopped 40 2 1 12\n{tree}\n"));
+    let slip = "0 0 6 1 0 5 2 4200 1 1 0 3 2 500 1 1 1 1";
+    let stopped = status_and_answer(1, &format!("stopped 40 2 1 18\n{slip}\n"));
     assert_eq!(bench(&here, &[]), status_and_answer(0, DONE));
     assert_eq!(bench(&here, &["my input.txt"]), status_and_answer(0, DONE));
     assert_eq!(bench(&here, &["stopped.txt"]), stopped);

@@ -63,7 +63,7 @@ fn fields_that_hold_blanks_are_kept_apart() {
             panic!("seed {seed}: {disagreement}");
         }
         let grammar = Grammar::read(&input.grammar).expect("a valid grammar");
-        let tree = Tree::read(&grammar, &input.tree).expect("a valid tree");
+        let tree = Tree::read_slip(&grammar, &input.slip).expect("a valid slip");
         for node in tree.preorder() {
             if (node.ty(), node.value()) == (TRANSFER, WITH_TWO_FIELDS) {
                 let [payer, payee] = node.children() else {

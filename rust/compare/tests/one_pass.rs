@@ -6,7 +6,7 @@ use std::collections::BTreeMap;
 use std::io::{stdout, Write};
 
 use compare::{compare_run, Counts};
-use generate::{one_pass, reference_outcome, run_input, Input, Random};
+use generate::{one_pass, reference_outcome, run_input, slip, without_counts, Input, Random};
 use reference::grammar::{Grammar, Kind};
 use reference::limits;
 use reference::rules::{read_layout, Reach};
@@ -24,7 +24,8 @@ const LEAST_RARE: u32 = 15;
 const GREAT: u32 = 1_000_000;
 /// Where the reach of the main rule stands, where it has one.
 const MAIN_REACH: usize = 3;
-/// An element of the sequence that the trees of `one_pass` begin with.
+/// An element, two words a node, of the sequence that the trees of `one_pass`
+/// begin with.
 const A_FIELD_MORE: [u32; 4] = [1, 0, 2, 5];
 
 /// An input that passes its checks, as it is read.
@@ -40,7 +41,7 @@ impl Read<'_> {
         let grammar = Grammar::read(&input.grammar).ok()?;
         let layout = read_layout(&grammar, &input.rules).ok()?;
         let program = typing::check(&grammar, &layout).ok()?;
-        let tree = Tree::read(&grammar, &input.tree).ok()?;
+        let tree = Tree::read_slip(&grammar, &input.slip).ok()?;
         Some(Read {
             input,
             grammar,
@@ -113,11 +114,13 @@ impl Read<'_> {
 
     /// Whether the run would stop with 44 if the tree had a field of nothing more.
     fn just_fits(&self) -> bool {
-        if self.input.tree[..2] != [0, 0] || self.tree.size() + 2 > limits::NODES {
+        let mut tree = without_counts(&self.input.slip);
+        if tree[..2] != [0, 0] || self.tree.size() + 2 > limits::NODES {
             return false;
         }
+        tree.splice(2..2, A_FIELD_MORE);
         let mut other = self.input.clone();
-        other.tree.splice(2..2, A_FIELD_MORE);
+        other.slip = slip(&self.grammar, &tree);
         other.budget = GREAT;
         matches!(
             reference_outcome(&other),
@@ -194,7 +197,7 @@ fn kinds_of_budget(read: &Read) -> Vec<&'static str> {
 /// The kinds of a run that is done and has replaced something: what became of the
 /// tree, and the limits it has come to.
 fn kinds_of_result(read: &Read, words: &[u32]) -> Vec<&'static str> {
-    let tree = Tree::read(&read.grammar, words).expect("a result is a tree");
+    let tree = Tree::read_slip(&read.grammar, words).expect("a result is a slip");
     let (before, after) = (read.tree.size(), tree.size());
     let same = tree == read.tree;
     let near_limit = before > limits::NODES - 5;
@@ -329,7 +332,7 @@ fn one_pass_rules_run_as_in_the_reference() {
 
 /// How the proved core ends a run with a budget: the stop and the attempts.
 fn proved(pad: &mut Pad, input: &Input, budget: u32) -> (Option<Stop>, u32) {
-    let posting = pad.run(&input.grammar, &input.rules, &input.tree, budget);
+    let posting = pad.run(&input.grammar, &input.rules, &input.slip, budget);
     match posting.outcome {
         tamarind::Outcome::Ended { stop, attempts, .. } => (stop, attempts),
         tamarind::Outcome::Refused(refusal) => panic!("{refusal}"),

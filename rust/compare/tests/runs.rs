@@ -13,8 +13,8 @@ const LEAST_RUNS: u64 = 20_000;
 const LEAST: u64 = 50;
 
 /// Done, the stops and the refusals.
-const ENDINGS: [u32; 24] = [
-    0, 40, 41, 42, 43, 44, 45, 1, 2, 3, 4, 5, 10, 11, 12, 20, 21, 22, 23, 24, 30, 31, 32, 33,
+const ENDINGS: [u32; 25] = [
+    0, 40, 41, 42, 43, 44, 45, 1, 2, 3, 4, 5, 10, 11, 12, 20, 21, 22, 23, 24, 30, 31, 32, 33, 34,
 ];
 
 #[test]
@@ -55,7 +55,7 @@ fn the_greatest_budget_can_be_spent() {
         budget: 1_000_000,
         grammar: vec![3, 8, 1, 1, 1, 4, 2, 1, 2],
         rules: vec![1, 9, 2, 2, 1, 2, 200, 1, 2, 200],
-        tree: vec![0, 0, 1, 0, 2, 500, 1, 0, 2, 200, 1, 1],
+        slip: vec![0, 0, 6, 1, 0, 5, 2, 500, 1, 1, 0, 3, 2, 200, 1, 1, 1, 1],
     };
     agrees(&input, 40);
     input.budget += 1;
@@ -73,6 +73,9 @@ fn the_workloads_agree() {
         }
         let text = std::fs::read(&path).expect("it can be read");
         let input = reference::bench::parse(&text).expect("a bench input");
+        // Slips of another edition would be refused by both, and compare nothing.
+        let checked = reference::check_slip(&input.grammar, &input.slip);
+        assert_eq!(checked, Ok(()), "{}", path.display());
         let mut counts = Counts::new();
         if let Err(disagreement) = compare_run(&input, &mut counts) {
             panic!("{}: {disagreement}", path.display());

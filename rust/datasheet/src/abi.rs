@@ -6,7 +6,7 @@ use generate::Input;
 use tamarind as _;
 
 /// The fewest words of the two memories that a run accepts.
-pub const RESULT_WORDS: usize = 4_096;
+pub const RESULT_WORDS: usize = 6_144;
 pub const WORK_WORDS: usize = 16_384;
 
 /// `tamarind_answer`.
@@ -43,14 +43,14 @@ extern "C" {
         ending: u32,
         filled: usize,
         result_len: usize,
-        tree_len: usize,
+        slip_len: usize,
     ) -> Posting;
     pub(crate) fn tamarind_check_grammar(grammar: *const u32, grammar_len: usize) -> Answer;
-    pub(crate) fn tamarind_check_tree(
+    pub(crate) fn tamarind_check_slip(
         grammar: *const u32,
         grammar_len: usize,
-        tree: *const u32,
-        tree_len: usize,
+        slip: *const u32,
+        slip_len: usize,
     ) -> Answer;
     pub(crate) fn tamarind_check_rules(
         grammar: *const u32,
@@ -63,8 +63,8 @@ extern "C" {
         grammar_len: usize,
         rules: *const u32,
         rules_len: usize,
-        tree: *const u32,
-        tree_len: usize,
+        slip: *const u32,
+        slip_len: usize,
         budget: u32,
         result: *mut u32,
         result_len: usize,
@@ -80,11 +80,11 @@ pub fn check_grammar(input: &Input) -> Answer {
     unsafe { tamarind_check_grammar(grammar.as_ptr(), grammar.len()) }
 }
 
-/// The single check of an input's tree.
-pub fn check_tree(input: &Input) -> Answer {
-    let (grammar, tree) = (&input.grammar, &input.tree);
+/// The single check of an input's slip.
+pub fn check_slip(input: &Input) -> Answer {
+    let (grammar, slip) = (&input.grammar, &input.slip);
     // SAFETY: as above, both slices.
-    unsafe { tamarind_check_tree(grammar.as_ptr(), grammar.len(), tree.as_ptr(), tree.len()) }
+    unsafe { tamarind_check_slip(grammar.as_ptr(), grammar.len(), slip.as_ptr(), slip.len()) }
 }
 
 /// The single check of an input's rule book.
@@ -104,8 +104,8 @@ pub fn run(input: &Input, result: &mut [u32], work: &mut [u32]) -> Outcome {
             input.grammar.len(),
             input.rules.as_ptr(),
             input.rules.len(),
-            input.tree.as_ptr(),
-            input.tree.len(),
+            input.slip.as_ptr(),
+            input.slip.len(),
             input.budget,
             result.as_mut_ptr(),
             result.len(),

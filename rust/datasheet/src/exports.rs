@@ -22,7 +22,7 @@ pub type Export = (&'static str, fn(&mut Stack, &Input) -> Measured);
 pub const EXPORTS: [Export; 6] = [
     ("tamarind_run", |stack, input| run(stack, input).1),
     ("tamarind_check_grammar", check_grammar),
-    ("tamarind_check_tree", check_tree),
+    ("tamarind_check_slip", check_slip),
     ("tamarind_check_rules", check_rules),
     ("tamarind_words_to_post", words_to_post),
     ("tamarind_edition", edition),
@@ -39,10 +39,10 @@ pub fn check_grammar(stack: &mut Stack, input: &Input) -> Measured {
     answer(stack, abi::tamarind_check_grammar as *const (), &arguments)
 }
 
-/// Measures the single check of the tree.
-pub fn check_tree(stack: &mut Stack, input: &Input) -> Measured {
-    let arguments = [passed(&input.grammar), passed(&input.tree)].concat();
-    answer(stack, abi::tamarind_check_tree as *const (), &arguments)
+/// Measures the single check of the slip.
+pub fn check_slip(stack: &mut Stack, input: &Input) -> Measured {
+    let arguments = [passed(&input.grammar), passed(&input.slip)].concat();
+    answer(stack, abi::tamarind_check_slip as *const (), &arguments)
 }
 
 /// Measures the single check of the rule book.
@@ -52,9 +52,9 @@ pub fn check_rules(stack: &mut Stack, input: &Input) -> Measured {
 }
 
 /// Measures the words to post of a run that is done, had it filled as many words
-/// as the tree has.
+/// as the slip has.
 pub fn words_to_post(stack: &mut Stack, input: &Input) -> Measured {
-    let words = input.tree.len();
+    let words = input.slip.len();
     let arguments = [0, words, RESULT_WORDS, words];
     answer(stack, abi::tamarind_words_to_post as *const (), &arguments)
 }
@@ -82,7 +82,7 @@ pub fn run(stack: &mut Stack, input: &Input) -> (Outcome, Measured) {
     let mut work = vec![u32::MAX; WORK_WORDS];
     let mut outcome = Outcome::default();
     let mut arguments = vec![&raw mut outcome as usize];
-    for words in [&input.grammar, &input.rules, &input.tree] {
+    for words in [&input.grammar, &input.rules, &input.slip] {
         arguments.extend(passed(words));
     }
     arguments.push(input.budget as usize);

@@ -125,7 +125,7 @@ pub fn by_length(stack: &mut Stack) -> Vec<(&'static str, [usize; SLIPS.len()])>
 }
 
 /// Inputs that drive each function as deep as is known: chains of all ways,
-/// alone and in turn, with each end, and trees at the limit and one past it.
+/// alone and in turn, with each end, and slips nested to the limit and one past it.
 pub fn deep_inputs() -> Vec<Input> {
     let chains = deep_chains(MOST_CALLS);
     let mut inputs: Vec<Input> = chains.iter().map(|c| c.on_slip_of(SLIPS[0])).collect();

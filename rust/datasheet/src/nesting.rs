@@ -1,6 +1,6 @@
 //! Inputs that nest: calls in each way, and trees.
 
-use generate::Input;
+use generate::{slip_of, Input};
 
 /// The calls that may be open at once, the main rule's among them.
 pub const MOST_CALLS: usize = 32;
@@ -89,7 +89,7 @@ impl Chain {
         Input {
             grammar: NUMBERS.to_vec(),
             rules: self.rules(),
-            tree: slip(nodes),
+            slip: slip(nodes),
             budget: BUDGET,
         }
     }
@@ -221,17 +221,19 @@ fn slip(nodes: usize) -> Vec<u32> {
     let mut tree = vec![0, 0];
     tree.extend([1, 0, NUMBER, 100].repeat(others));
     tree.extend([1, 0, NUMBER, SOUGHT, 1, 1]);
-    tree
+    slip_of(&NUMBERS, &tree)
 }
 
-/// A run on a tree of this nesting, at least 2, that is long: its deepest sequence
+/// A run on a slip of this nesting, at least 2, that is long: its deepest sequence
 /// has so many elements, none of which has any.
-pub fn long_tree(nesting: usize, elements: usize) -> Input {
+pub fn long_slip(nesting: usize, elements: usize) -> Input {
     let around = nesting - 2;
     let deepest = [[0, 0, 0, 1].repeat(elements), vec![0, 1]].concat();
+    let tree = [[0, 0].repeat(around), deepest, [0, 1].repeat(around)].concat();
+    let input = Nest::Sequence.input(nesting);
     Input {
-        tree: [[0, 0].repeat(around), deepest, [0, 1].repeat(around)].concat(),
-        ..Nest::Sequence.input(nesting)
+        slip: slip_of(&input.grammar, &tree),
+        ..input
     }
 }
 
@@ -247,12 +249,13 @@ pub enum Nest {
 impl Nest {
     pub const ALL: [Nest; 4] = [Nest::Forms, Nest::Optional, Nest::Sequence, Nest::InTurn];
 
-    /// A run on a tree of this nesting, by a rule that replaces it by itself.
+    /// A run on a slip of this nesting, by a rule that replaces it by itself.
     pub fn input(self, nesting: usize) -> Input {
+        let grammar = self.grammar();
         Input {
-            grammar: self.grammar(),
+            slip: slip_of(&grammar, &self.tree(nesting)),
+            grammar,
             rules: vec![1, 8, 0, 1, 64, 0, 1, 65, 0],
-            tree: self.tree(nesting),
             budget: BUDGET,
         }
     }

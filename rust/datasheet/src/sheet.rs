@@ -292,7 +292,7 @@ pub fn memory_table(figures: &[Figure]) -> Vec<String> {
     let pieces = [
         ("grammar, at most 4,096 words", 4 * 4_096),
         ("rule book, at most 16,384 words", 4 * 16_384),
-        ("tree, at most 4,096 words", 4 * 4_096),
+        ("slip, at most 6,144 words", 4 * 6_144),
         ("result", 4 * RESULT_WORDS),
         ("work", 4 * WORK_WORDS),
         ("code and constants", code),

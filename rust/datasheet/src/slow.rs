@@ -1,6 +1,6 @@
 //! Inputs of which one check takes long.
 
-use generate::{Input, Random};
+use generate::{slip_of, Input, Random};
 
 use crate::sequences::{built_elements, counted_elements, counted_grammar, elements};
 
@@ -9,17 +9,17 @@ use crate::sequences::{built_elements, counted_elements, counted_grammar, elemen
 pub fn slow_checks() -> [(&'static str, Input); 4] {
     [
         ("grammar", slow_grammar()),
-        ("tree", slow_tree()),
+        ("slip", slow_slip()),
         ("rules", slow_forms()),
         ("rules", slow_chains()),
     ]
 }
 
-fn unrun(grammar: Vec<u32>, rules: Vec<u32>, tree: Vec<u32>) -> Input {
+fn unrun(grammar: Vec<u32>, rules: Vec<u32>, slip: Vec<u32>) -> Input {
     Input {
         grammar,
         rules,
-        tree,
+        slip,
         budget: 1,
     }
 }
@@ -52,10 +52,11 @@ fn irregular_form(random: &mut Random, ty: u32) -> Vec<u32> {
 }
 
 /// A program of irregular elements, as many as fit.
-fn slow_tree() -> Input {
+fn slow_slip() -> Input {
     let sequence = counted_elements(&mut Random::new(0), 2_047);
     let tree = [vec![0, 0], sequence].concat();
-    unrun(counted_grammar(), vec![], tree)
+    let slip = slip_of(&counted_grammar(), &tree);
+    unrun(counted_grammar(), vec![], slip)
 }
 
 /// Rules whose parts build sequences of them.

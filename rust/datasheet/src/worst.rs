@@ -1,7 +1,7 @@
 //! Runs that are as slow as their attempts allow, each by one term of the formula
 //! of docs/DATASHEET.md, with the counts of the terms.
 
-use generate::{Input, Random};
+use generate::{slip_of, Input, Random};
 
 use crate::formula::Done;
 use crate::nesting::{Chain, Last, Way, MOST_CALLS};
@@ -22,9 +22,9 @@ impl Worst {
         Worst {
             name: name.to_string(),
             input: Input {
+                slip: slip_of(&grammar, &tree),
                 grammar,
                 rules,
-                tree,
                 budget: 1,
             },
             round,
@@ -40,7 +40,7 @@ impl Worst {
     }
 }
 
-/// Grammar, rules and tree.
+/// Grammar, rules and the tree of the slip, two words a node.
 type Words = (Vec<u32>, Vec<u32>, Vec<u32>);
 
 /// All of them.
@@ -129,14 +129,14 @@ fn searching_for_numbers() -> Worst {
     let head = vec![1, 13, 0, 2, 2, 0, 0, 64, 1];
     let parts = searching_parts(0, [2, 100], [2, 200]);
     let rules = [head, parts, vec![2, 0, 0, 65, 0]].concat();
-    let slip = [
+    let tree = [
         vec![0, 0],
         elements(1_022, &[2, 100]),
         vec![1, 0, 2, 200, 1, 1],
     ]
     .concat();
     let round = searched_round(1_023, 2_048, 0);
-    Worst::new("8 searches for 63 numbers", (grammar, rules, slip), round)
+    Worst::new("8 searches for 63 numbers", (grammar, rules, tree), round)
 }
 
 /// The pattern's elements are a variable bound to the slip's first element, of
@@ -151,16 +151,16 @@ fn searching_for_variables(numbers: usize) -> Worst {
     let size = numbers + 1;
     let count = (2_048 - 4) / (size + 1);
     let element = [vec![2, 0], [3, 0].repeat(numbers)].concat();
-    let slip = [
+    let tree = [
         vec![0, 0],
         elements(count, &element),
         vec![1, 0, 2, 1, 1, 1],
     ]
     .concat();
-    let round = searched_round(count, slip.len() / 2, size);
+    let round = searched_round(count, tree.len() / 2, size);
     let plural = if size == 1 { "" } else { "s" };
     let name = format!("8 searches for 62 variables of {size} node{plural}");
-    Worst::new(&name, (grammar, rules, slip), round)
+    Worst::new(&name, (grammar, rules, tree), round)
 }
 
 /// The sequence is one of sequences of its own type, most of them empty: a
@@ -173,7 +173,7 @@ fn searching_for_sequences() -> Worst {
     let head = vec![1, 13, 0, 2, 4, 0, 0, 1, 0, 64, 1, 64, 1, 8];
     let rules = [head, part.repeat(8), vec![4, 0, 0, 1, 0, 65, 0, 65, 1]].concat();
     let count = 1_021;
-    let slip = [vec![0, 0], elements(count, &[1, 1]), last, vec![1, 1]].concat();
+    let tree = [vec![0, 0], elements(count, &[1, 1]), last, vec![1, 1]].concat();
     let starts = count - 61;
     let round = Done {
         attempts: 1,
@@ -190,7 +190,7 @@ fn searching_for_sequences() -> Worst {
     };
     Worst::new(
         "8 searches for 61 variables, begun at each node",
-        (grammar, rules, slip),
+        (grammar, rules, tree),
         round,
     )
 }
@@ -201,7 +201,7 @@ fn searching_for_tokens() -> Worst {
     let part = [3, 2, 0, 1, 2, 200];
     let head = vec![1, 13, 0, 2, 2, 0, 0, 64, 1, 8];
     let rules = [head, part.repeat(8), vec![2, 0, 0, 65, 0]].concat();
-    let slip = [
+    let tree = [
         vec![0, 0],
         elements(1_022, &[2, 100]),
         vec![1, 0, 2, 200, 1, 1],
@@ -218,7 +218,7 @@ fn searching_for_tokens() -> Worst {
         behind: 2_048,
         ..Done::default()
     };
-    Worst::new("8 searches for a number", (grammar, rules, slip), round)
+    Worst::new("8 searches for a number", (grammar, rules, tree), round)
 }
 
 /// Half of the slip is compared with the other half, and eight times with
@@ -243,7 +243,7 @@ fn comparing(name: &str, numbers: Vec<u32>) -> Worst {
     let part = [1, 0, 1, 65, 0];
     let rules = [head, part.repeat(8), vec![3, 0, 0, 65, 0, 65, 0]].concat();
     let half = [numbers, vec![1, 1]].concat();
-    let slip = [vec![0, 0], half.clone(), half].concat();
+    let tree = [vec![0, 0], half.clone(), half].concat();
     let round = Done {
         attempts: 1,
         passed: 1,
@@ -256,7 +256,7 @@ fn comparing(name: &str, numbers: Vec<u32>) -> Worst {
         behind: 2_047,
         ..Done::default()
     };
-    Worst::new(name, (grammar, rules, slip), round)
+    Worst::new(name, (grammar, rules, tree), round)
 }
 
 /// Eight conditions of four applications each: rules that search the slip, of so
@@ -267,7 +267,7 @@ fn testing(nodes: usize) -> Worst {
     let main = [vec![13, 0, 2, 1, 64, 0, 8], part.repeat(8), vec![1, 65, 0]].concat();
     let tested = vec![1, 3, 1, 1, 64, 3];
     let rules = [vec![2], main, tested].concat();
-    let slip = [vec![0, 0], elements((nodes - 2) / 2, &[2, 100]), vec![1, 1]].concat();
+    let tree = [vec![0, 0], elements((nodes - 2) / 2, &[2, 100]), vec![1, 1]].concat();
     let round = Done {
         attempts: 1,
         passed: 32 * nodes + 1,
@@ -280,7 +280,7 @@ fn testing(nodes: usize) -> Worst {
         ..Done::default()
     };
     let name = format!("32 tests of a slip of {} nodes", written(nodes));
-    Worst::new(&name, (grammar, rules, slip), round)
+    Worst::new(&name, (grammar, rules, tree), round)
 }
 
 /// Eight constructs and a replacement, each with 18 chains of four applications
@@ -298,7 +298,7 @@ fn calling() -> Worst {
     .concat();
     let called = vec![9, 3, 1, 1, 64, 3, 1, 65, 0];
     let rules = [vec![2], main, called].concat();
-    let slip = [vec![0, 0], elements(18, &[2, 100]), vec![1, 1]].concat();
+    let tree = [vec![0, 0], elements(18, &[2, 100]), vec![1, 1]].concat();
     let applications = 9 * 18 * 4;
     let round = Done {
         attempts: 1,
@@ -313,7 +313,7 @@ fn calling() -> Worst {
     };
     Worst::new(
         "648 applications in one attempt",
-        (grammar, rules, slip),
+        (grammar, rules, tree),
         round,
     )
 }
@@ -327,7 +327,7 @@ fn operating() -> Worst {
     let part = [vec![4, 1], filled.clone()].concat();
     let head = vec![1, 13, 1, 2, 3, 1, 0, 64, 2, 64, 1, 8];
     let rules = [head, part.repeat(8), filled].concat();
-    let slip = [vec![0, 0], elements(11, &[2, 100]), vec![1, 1]].concat();
+    let tree = [vec![0, 0], elements(11, &[2, 100]), vec![1, 1]].concat();
     let round = Done {
         attempts: 1,
         passed: 2,
@@ -341,7 +341,7 @@ fn operating() -> Worst {
     };
     Worst::new(
         "396 operations in one attempt",
-        (grammar, rules, slip),
+        (grammar, rules, tree),
         round,
     )
 }
@@ -430,8 +430,8 @@ fn editing(
     let replacement = [vec![count + 1, 0, 0], put_back].concat();
     let rules = [pattern, vec![8], part.repeat(8), replacement].concat();
     let words = fields.iter().flat_map(|(_, words)| words.clone());
-    let slip: Vec<u32> = [0, 0].into_iter().chain(words).collect();
-    let nodes = slip.len() / 2;
+    let tree: Vec<u32> = [0, 0].into_iter().chain(words).collect();
+    let nodes = tree.len() / 2;
     let round = Done {
         attempts: 1,
         passed: 1,
@@ -443,7 +443,7 @@ fn editing(
         behind: nodes,
         ..Done::default()
     };
-    Worst::new(name, (grammar, rules, slip), round)
+    Worst::new(name, (grammar, rules, tree), round)
 }
 
 /// Eight constructs and a replacement that copy the slip.
@@ -453,7 +453,7 @@ fn copying() -> Worst {
     let head = vec![1, 13, 0, 2, 1, 64, 0, 8];
     let rules = [head, part.repeat(8), vec![1, 65, 0]].concat();
     let nodes = 550;
-    let slip = [vec![0, 0], elements((nodes - 2) / 2, &[2, 100]), vec![1, 1]].concat();
+    let tree = [vec![0, 0], elements((nodes - 2) / 2, &[2, 100]), vec![1, 1]].concat();
     let round = Done {
         attempts: 1,
         passed: 1,
@@ -466,7 +466,7 @@ fn copying() -> Worst {
     };
     Worst::new(
         "9 copies of a slip of 550 nodes",
-        (grammar, rules, slip),
+        (grammar, rules, tree),
         round,
     )
 }
@@ -478,7 +478,7 @@ fn filling() -> Worst {
     let part = [vec![4, 1], sequence.clone()].concat();
     let main = [vec![13, 1, 2, 1, 64, 1, 8], part.repeat(8), sequence].concat();
     let rules = [vec![1], main].concat();
-    let slip = [vec![0, 0], elements(63, &[2, 100]), vec![1, 1]].concat();
+    let tree = [vec![0, 0], elements(63, &[2, 100]), vec![1, 1]].concat();
     let round = Done {
         attempts: 1,
         passed: 2,
@@ -489,7 +489,7 @@ fn filling() -> Worst {
         behind: 128,
         ..Done::default()
     };
-    Worst::new("9 times 127 nodes written", (grammar, rules, slip), round)
+    Worst::new("9 times 127 nodes written", (grammar, rules, tree), round)
 }
 
 /// The same with sequences of elements that have 0 to 8 numbers, in no order.
@@ -506,7 +506,7 @@ fn filling_irregularly() -> Worst {
     let count = vec![pairs(sequence.len()) as u32];
     let head = vec![1, 13, 1, 2, 1, 64, 1, 8];
     let rules = [head, built.concat(), count, sequence.clone()].concat();
-    let slip = [vec![0, 0], sequence.clone()].concat();
+    let tree = [vec![0, 0], sequence.clone()].concat();
     let round = Done {
         attempts: 1,
         passed: 2,
@@ -514,10 +514,10 @@ fn filling_irregularly() -> Worst {
         pairs: 1,
         filled,
         built: filled,
-        behind: pairs(slip.len()),
+        behind: pairs(tree.len()),
         ..Done::default()
     };
-    let words = (counted_grammar(), rules, slip);
+    let words = (counted_grammar(), rules, tree);
     Worst::new("9 irregular sequences written", words, round)
 }
 
@@ -535,7 +535,7 @@ fn placing(name: &str, before: Vec<u32>, behind: Vec<u32>) -> Worst {
     let rules = [&[4][..], &main, &first, &second, &third].concat();
     let turned = [1, 0, 2, 1, 3, 0];
     let place = 3 + before.len() / 2;
-    let slip = [vec![0, 0], before, turned.to_vec(), behind, vec![1, 1]].concat();
+    let tree = [vec![0, 0], before, turned.to_vec(), behind, vec![1, 1]].concat();
     // One way the first and the third rule match, the other way the second.
     let round = Done {
         attempts: 8,
@@ -545,10 +545,10 @@ fn placing(name: &str, before: Vec<u32>, behind: Vec<u32>) -> Worst {
         filled: 2 * 5 + 3 + 1 + 2,
         built: 12,
         before: 2 * place,
-        behind: 2 * (slip.len() / 2 - place) + 6,
+        behind: 2 * (tree.len() / 2 - place) + 6,
         ..Done::default()
     };
-    Worst::new(name, (grammar, rules, slip), round)
+    Worst::new(name, (grammar, rules, tree), round)
 }
 
 /// Behind all others: each sequence above it is marked anew.
@@ -588,7 +588,7 @@ fn binding() -> Worst {
     let replacement = vec![3, 1, 0, 65, 0, 65, 1];
     let rules = [head, construct, condition, replacement].concat();
     let last = vec![1, 0, 2, 200, 1, 1];
-    let slip = [vec![0, 0], elements(1_022, &[2, 300]), last].concat();
+    let tree = [vec![0, 0], elements(1_022, &[2, 300]), last].concat();
     let round = Done {
         attempts: 1_023,
         passed: 2_046,
@@ -602,7 +602,7 @@ fn binding() -> Worst {
     };
     Worst::new(
         "attempts that fail in their 2nd part",
-        (grammar, rules, slip),
+        (grammar, rules, tree),
         round,
     )
 }
@@ -614,12 +614,6 @@ fn nesting() -> Worst {
         reach: 2,
         ..Chain::in_turn(MOST_CALLS, ways, 4, Last::ConstructsBySum)
     };
-    let Input {
-        grammar,
-        rules,
-        tree,
-        ..
-    } = chain.on_slip_of(4);
     let round = Done {
         attempts: MOST_CALLS,
         passed: MOST_CALLS + 2,
@@ -631,5 +625,10 @@ fn nesting() -> Worst {
         behind: MOST_CALLS + 3,
         ..Done::default()
     };
-    Worst::new("32 nested calls", (grammar, rules, tree), round)
+    let input = Input {
+        budget: 1,
+        ..chain.on_slip_of(4)
+    };
+    let name = "32 nested calls".to_string();
+    Worst { name, input, round }
 }

@@ -4,11 +4,11 @@ use std::arch::global_asm;
 
 use datasheet::archive::given;
 use datasheet::bench;
-use datasheet::exports::{check_tree, needed, run};
+use datasheet::exports::{check_slip, needed, run};
 use datasheet::figures::{by_length, deep_chains, figures, growth, nested, stack_at};
 use datasheet::figures::{Growth, MOST_READ, SLIPS};
 use datasheet::frames::read_frames;
-use datasheet::nesting::{long_tree, Nest, MOST_CALLS, MOST_NESTING};
+use datasheet::nesting::{long_slip, Nest, MOST_CALLS, MOST_NESTING};
 use datasheet::painted::Stack;
 use datasheet::sheet;
 
@@ -167,12 +167,12 @@ fn the_growth_is_that_of_the_sheet_and_of_the_frames() {
 }
 
 #[test]
-fn the_check_of_a_tree_takes_what_the_growth_says_of_its_nesting() {
-    let growth = growth_of("tamarind_check_tree");
+fn the_check_of_a_slip_takes_what_the_growth_says_of_its_nesting() {
+    let growth = growth_of("tamarind_check_slip");
     let mut stack = Stack::new();
     for nest in Nest::ALL {
         for nesting in 1..=MOST_READ {
-            let taken = check_tree(&mut stack, &nest.input(nesting)).stack;
+            let taken = check_slip(&mut stack, &nest.input(nesting)).stack;
             let what = format!("{nest:?} at {nesting}");
             assert_holds(&what, growth.at(nesting, 1), taken);
         }
@@ -211,9 +211,9 @@ fn at_the_deepest_nesting_neither_check_nor_run_follows_the_length() {
     let mut stack = Stack::new();
     let longest = (2_048 - (2 * MOST_NESTING - 3)) / 2;
     let taken = [1, 37, longest].map(|elements| {
-        let input = long_tree(MOST_NESTING, elements);
-        assert_eq!(input.tree.len(), 2 * (2 * MOST_NESTING - 3 + 2 * elements));
-        let checked = check_tree(&mut stack, &input);
+        let input = long_slip(MOST_NESTING, elements);
+        assert_eq!(input.slip.len(), 3 * (2 * MOST_NESTING - 3 + 2 * elements));
+        let checked = check_slip(&mut stack, &input);
         let (outcome, run) = run(&mut stack, &input);
         assert_eq!((checked.number, outcome.ending), (0, DONE), "{elements}");
         (checked.stack, run.stack)
@@ -227,7 +227,7 @@ fn the_stack_does_not_follow_the_length_of_the_slip() {
     for chain in deep_chains(MOST_CALLS).iter().step_by(5) {
         let runs = SLIPS.map(|nodes| {
             let (outcome, measured) = run(&mut stack, &chain.on_slip_of(nodes));
-            assert_eq!((outcome.ending, outcome.filled), (DONE, 2 * nodes));
+            assert_eq!((outcome.ending, outcome.filled), (DONE, 3 * nodes));
             // All numbers are tried: half of the nodes but the first and the last.
             let numbers = (nodes - 2) / 2;
             assert_eq!(outcome.attempts as usize, numbers + MOST_CALLS - 1);
@@ -242,8 +242,8 @@ fn trees_of_nesting_64_are_read_and_deeper_ones_refused() {
     let mut stack = Stack::new();
     for nest in Nest::ALL {
         let (deep, deeper) = (nest.input(MOST_NESTING), nest.input(MOST_NESTING + 1));
-        assert_eq!(check_tree(&mut stack, &deep).number, 0, "{nest:?}");
-        assert_eq!(check_tree(&mut stack, &deeper).number, 33, "{nest:?}");
+        assert_eq!(check_slip(&mut stack, &deep).number, 0, "{nest:?}");
+        assert_eq!(check_slip(&mut stack, &deeper).number, 33, "{nest:?}");
         let (outcome, _) = run(&mut stack, &deep);
         assert_eq!(
             (outcome.ending, outcome.replacements),

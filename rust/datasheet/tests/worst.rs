@@ -21,7 +21,7 @@ fn each_run_repeats_its_round_until_the_budget_is_spent() {
             let (outcome, _) = run(&mut stack, &input);
             assert_eq!(outcome.number, BUDGET_SPENT, "{name}");
             assert_eq!(outcome.attempts, input.budget, "{name}");
-            assert_eq!(outcome.filled, input.tree.len(), "{name}");
+            assert_eq!(outcome.filled, input.slip.len(), "{name}");
             outcome.replacements
         });
         assert!(once > 0, "{name}");
@@ -34,7 +34,7 @@ fn the_slow_checks_pass() {
     for (check, input) in slow_checks() {
         let answer = match check {
             "grammar" => abi::check_grammar(&input),
-            "tree" => abi::check_tree(&input),
+            "slip" => abi::check_slip(&input),
             _ => abi::check_rules(&input),
         };
         assert_eq!((answer.number, answer.position), (0, 0), "{check}");

@@ -6,6 +6,7 @@ use reference::limits;
 
 use crate::random::Random;
 use crate::rulebooks::{write_rules, Pair, PartText, RuleText};
+use crate::slips::slip_of;
 
 /// A program of a sequence of numbers.
 const LIST: &[u32] = &[3, 8, 1, 1, 1, 4, 2, 1, 2];
@@ -51,11 +52,12 @@ pub(crate) fn construct(ty: u32, replacement: &[Pair]) -> PartText {
     }
 }
 
+/// An input with the slip of a tree that is written two words a node.
 pub(crate) fn input(grammar: &[u32], rules: &[RuleText], tree: Vec<u32>, budget: usize) -> Input {
     Input {
         grammar: grammar.to_vec(),
         rules: write_rules(rules),
-        tree,
+        slip: slip_of(grammar, &tree),
         budget: budget as u32,
     }
 }

@@ -13,7 +13,8 @@ use crate::one_pass;
 use crate::random::Random;
 use crate::rulebooks::{damaged_rules, rules};
 use crate::sequences;
-use crate::trees::{damaged_tree, random_tree, tree_at_limits, Shapes};
+use crate::slips::{damaged_slip, slip, slip_at_limits, SLIP_NODE};
+use crate::trees::{random_tree, Shapes};
 
 /// The greatest budget of most generated runs, so that each is short.
 const MOST_ATTEMPTS: u32 = 2_000;
@@ -22,7 +23,7 @@ const MOST_ENDLESS_ATTEMPTS: u32 = 20_000;
 /// The most nodes of a tree that is given that budget.
 const MOST_ENDLESS_NODES: usize = 40;
 
-/// An input whose grammar, rules and tree pass their checks, but for rules
+/// An input whose grammar, rules and slip pass their checks, but for rules
 /// that sometimes do not.
 pub fn typed_input(seed: u64) -> Input {
     let mut random = Random::new(seed);
@@ -33,8 +34,8 @@ pub fn typed_input(seed: u64) -> Input {
         if !shapes.has_tree() {
             continue;
         }
-        let tree_words = random_tree(&mut random, &shapes);
-        let Ok(tree) = Tree::read(&grammar, &tree_words) else {
+        let slip = slip(&grammar, &random_tree(&mut random, &shapes));
+        let Ok(tree) = Tree::read_slip(&grammar, &slip) else {
             continue;
         };
         // Many grammars have only tiny trees; some of those are enough.
@@ -44,14 +45,14 @@ pub fn typed_input(seed: u64) -> Input {
         return Input {
             rules: rules(u64::from(random.word()), &grammar, &tree),
             grammar: words,
-            tree: tree_words,
+            slip,
             budget: random.between(1, MOST_ATTEMPTS as usize) as u32,
         };
     }
 }
 
 /// An input for the checks: mostly with one fault in its grammar, its rules or
-/// its tree.
+/// its slip.
 pub fn check_input(seed: u64) -> Input {
     let mut random = Random::new(seed);
     let mut input = typed_input(u64::from(random.word()));
@@ -62,12 +63,12 @@ pub fn check_input(seed: u64) -> Input {
         20..=22 => input.grammar = long_grammar(seed),
         23..=25 => input.grammar = any_grammar(seed),
         26..=63 => {
-            if let Ok(tree) = Tree::read(&decoded, &input.tree) {
+            if let Ok(tree) = Tree::read_slip(&decoded, &input.slip) {
                 input.rules = damaged_rules(seed, &decoded, &tree);
             }
         }
-        64..=85 => input.tree = damaged_tree(seed, &decoded),
-        86..=89 => input.tree = tree_at_limits(seed, &decoded),
+        64..=84 => input.slip = damaged_slip(seed, &decoded),
+        85..=89 => input.slip = slip_at_limits(seed, &decoded),
         90 => input.budget = random.pick(&[0, 1, limits::BUDGET, limits::BUDGET + 1, u32::MAX]),
         91..=95 => input = damaged_family(&mut random, seed),
         96 | 97 => input = families::numbers_at_limit(seed),
@@ -145,10 +146,10 @@ pub fn refused_input(seed: u64) -> Input {
     let other = check_input(u64::from(random.word()));
     match random.below(10) {
         0 => input.budget = random.pick(&[0, limits::BUDGET + 1, u32::MAX]),
-        1 => input.tree = other.tree,
+        1 => input.slip = other.slip,
         2 => input.rules = other.rules,
         3 => input.grammar = other.grammar,
-        4 => input = with_tree_at_limits(seed),
+        4 => input = with_slip_at_limits(seed),
         _ => {}
     }
     // What passes after all must not run for long.
@@ -158,11 +159,11 @@ pub fn refused_input(seed: u64) -> Input {
     input
 }
 
-/// An input in which only the tree may be refused, at a limit.
-fn with_tree_at_limits(seed: u64) -> Input {
+/// An input in which only the slip may be refused, at a limit.
+fn with_slip_at_limits(seed: u64) -> Input {
     let mut input = typed_input(seed);
     let decoded = Grammar::read(&input.grammar).expect("a valid grammar");
-    input.tree = tree_at_limits(seed, &decoded);
+    input.slip = slip_at_limits(seed, &decoded);
     input
 }
 
@@ -179,7 +180,7 @@ pub fn with_large_budget(seed: u64, mut input: Input) -> Input {
     );
     let most = if ends {
         limits::BUDGET
-    } else if input.tree.len() <= 2 * MOST_ENDLESS_NODES {
+    } else if input.slip.len() <= SLIP_NODE * MOST_ENDLESS_NODES {
         MOST_ENDLESS_ATTEMPTS
     } else {
         return input;
@@ -215,7 +216,7 @@ pub(crate) fn run_with(input: &Input, budget: u32) -> Outcome {
     run(
         &input.grammar,
         &input.rules,
-        &input.tree,
+        &input.slip,
         budget,
         limits::RESULT_WORDS,
         limits::WORK_WORDS,

@@ -3,6 +3,7 @@
 //! input.
 
 mod blanks;
+mod counts;
 mod families;
 mod grammars;
 mod inputs;
@@ -13,9 +14,11 @@ mod random;
 mod rulebooks;
 mod sequences;
 mod shrink;
+mod slips;
 mod trees;
 
 pub use blanks::blank_fields;
+pub use counts::{with_wrong_count, WrongCount};
 pub use families::{
     calls_near_limit, conditions, counting_down, live_nodes_at_limit, live_nodes_near_limit,
     nesting_near_limit, nodes_near_limit, numbers_at_limit, operations_near_limit, rounding,
@@ -33,7 +36,8 @@ pub use reference::bench::Input;
 pub use rulebooks::{damaged_rules, rules};
 pub use sequences::{sequence_operations, sequences_near_limit};
 pub use shrink::shrink;
-pub use trees::{damaged_tree, tree, tree_at_limits};
+pub use slips::{damaged_slip, slip, slip_at_limits, slip_of, without_counts};
+pub use trees::tree;
 
 /// An input in the bench format, on one line.
 pub fn to_bench(input: &Input) -> String {

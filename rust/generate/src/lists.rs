@@ -40,11 +40,20 @@ pub fn run_list(seed: u64) -> RunList {
     }
 }
 
-/// A memory of at least so many words, seldom of fewer. Its words are random,
-/// or small like those of trees and counts, or all the same.
+/// A memory of at least so many words, seldom of fewer: two thirds of a result
+/// were enough for two words a node. Its words are random, or small like those
+/// of trees and counts, or all the same.
 fn memory(random: &mut Random, least: usize) -> Vec<u32> {
     let length = match random.below(20) {
-        0 => random.pick(&[0, 1, least / 2, least - 2, least - 1]),
+        0 => random.pick(&[
+            0,
+            1,
+            2 * least / 3,
+            least - 3,
+            least - 2,
+            least - 1,
+            least - 1,
+        ]),
         1..=11 => least,
         12..=14 => least + random.between(1, 3),
         15..=18 => least + random.below(1_000),

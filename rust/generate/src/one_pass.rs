@@ -9,6 +9,7 @@ use crate::families::{construct, input};
 use crate::inputs::run_with;
 use crate::random::Random;
 use crate::rulebooks::{Pair, PartText, RuleText, CHAIN, NEW_VARIABLE, VARIABLE};
+use crate::slips::{SLIP_NODE, TREE_NODE};
 
 /// The root holds a sequence of fields, or a field and such a sequence. A field is
 /// a number, a field, two fields, a sequence of fields, an optional field, nothing,
@@ -354,7 +355,7 @@ fn deep(levels: usize, innermost: &[u32]) -> Vec<u32> {
 /// A tree of so many nodes that holds these fields, and behind one of them so many
 /// fields of numbers or nothing that no rule here matches.
 fn filled_up(random: &mut Random, mut elements: Vec<Vec<u32>>, nodes: usize) -> Vec<u32> {
-    let missing = nodes.saturating_sub(tree_of(&elements).len() / 2);
+    let missing = nodes.saturating_sub(tree_of(&elements).len() / TREE_NODE);
     let mut filling = vec![vec![FIELD, NOTHING]; missing / 2];
     if missing % 2 == 1 && missing > 1 {
         filling[0] = vec![FIELD, A_NUMBER, NUMBER, 900];
@@ -519,8 +520,8 @@ fn numbers_in_a_later_replacement(random: &mut Random) -> Input {
 fn with_budget(random: &mut Random, mut input: Input) -> Input {
     let target = input.rules[2];
     let nodes = input
-        .tree
-        .chunks(2)
+        .slip
+        .chunks(SLIP_NODE)
         .filter(|node| node[0] == target)
         .count() as u32;
     let needed = match run_with(&input, MOST_ATTEMPTS) {

@@ -7,6 +7,7 @@ use reference::grammar::Grammar;
 use reference::rules::{read_layout, Pairs, PartKind, RuleLayout};
 
 use crate::rulebooks::{pair_fields, Field, Pair};
+use crate::slips::{slip, without_counts, SLIP_NODE};
 
 /// The most inputs that are tried.
 const MOST_TRIES: usize = 20_000;
@@ -14,7 +15,9 @@ const MOST_TRIES: usize = 20_000;
 /// Shortens and zeroes the words of an input as long as it still fails.
 ///
 /// Rules that keep their layout lose whole rules, parts and pairs, with the
-/// counts of these lowered; any words lose stretches and are lowered.
+/// counts of these lowered. A slip loses nodes and is counted anew, but a count
+/// that was wrong stays as far off as it was. Any words lose stretches and are
+/// lowered.
 pub fn shrink(input: Input, still_fails: impl Fn(&Input) -> bool) -> Input {
     let mut shrinking = Shrinking {
         best: input,
@@ -25,7 +28,8 @@ pub fn shrink(input: Input, still_fails: impl Fn(&Input) -> bool) -> Input {
         let before = shrinking.best.clone();
         shrinking.shrink_budget();
         shrinking.remove_from_rules();
-        for part in [WordsOf::Tree, WordsOf::Rules, WordsOf::Grammar] {
+        shrinking.lift_trees();
+        for part in [Part::Nodes, Part::Slip, Part::Rules, Part::Grammar] {
             shrinking.remove_stretches(part);
             shrinking.lower_words(part);
         }
@@ -35,30 +39,72 @@ pub fn shrink(input: Input, still_fails: impl Fn(&Input) -> bool) -> Input {
     }
 }
 
-/// One of the three word lists of an input.
+/// What of an input is made smaller: one of its three word lists, or the nodes
+/// of its slip.
 #[derive(Clone, Copy)]
-enum WordsOf {
+enum Part {
     Grammar,
     Rules,
-    Tree,
+    Slip,
+    Nodes,
 }
 
-impl WordsOf {
-    fn of(self, input: &Input) -> &Vec<u32> {
+impl Part {
+    /// The words of the least stretch that is taken out.
+    fn unit(self) -> usize {
         match self {
-            WordsOf::Grammar => &input.grammar,
-            WordsOf::Rules => &input.rules,
-            WordsOf::Tree => &input.tree,
+            Part::Nodes => SLIP_NODE,
+            _ => 1,
         }
     }
 
-    fn of_mut(self, input: &mut Input) -> &mut Vec<u32> {
+    /// How many such stretches there are.
+    fn units(self, input: &Input) -> usize {
         match self {
-            WordsOf::Grammar => &mut input.grammar,
-            WordsOf::Rules => &mut input.rules,
-            WordsOf::Tree => &mut input.tree,
+            Part::Grammar => input.grammar.len(),
+            Part::Rules => input.rules.len(),
+            Part::Slip => input.slip.len(),
+            Part::Nodes => input.slip.len() / SLIP_NODE,
         }
     }
+
+    /// Changes the words of the part.
+    fn change(self, input: &mut Input, change: impl Fn(&mut Vec<u32>)) {
+        match self {
+            Part::Grammar => change(&mut input.grammar),
+            Part::Rules => change(&mut input.rules),
+            Part::Slip => change(&mut input.slip),
+            Part::Nodes => {
+                // Without a grammar there is nothing to count by.
+                if let Ok(grammar) = Grammar::read(&input.grammar) {
+                    let mut nodes = with_counts_off(&grammar, &input.slip);
+                    change(&mut nodes);
+                    input.slip = with_counts_back(&grammar, &nodes);
+                }
+            }
+        }
+    }
+}
+
+/// A slip's nodes, each with how far its count is off in the count's place.
+fn with_counts_off(grammar: &Grammar, words: &[u32]) -> Vec<u32> {
+    combined(grammar, words, u32::wrapping_sub)
+}
+
+/// The slip of such nodes: each count is as far off as is said there.
+fn with_counts_back(grammar: &Grammar, nodes: &[u32]) -> Vec<u32> {
+    combined(grammar, nodes, u32::wrapping_add)
+}
+
+/// Puts the third word of each node together with the node's right count.
+fn combined(grammar: &Grammar, words: &[u32], put: fn(u32, u32) -> u32) -> Vec<u32> {
+    let right = slip(grammar, &without_counts(words));
+    let nodes = words
+        .chunks_exact(SLIP_NODE)
+        .zip(right.chunks_exact(SLIP_NODE));
+    nodes
+        .flat_map(|(node, right)| [node[0], node[1], put(node[2], right[2])])
+        .collect()
 }
 
 /// A stretch of the rules that can go, and the counts to be lowered with it:
@@ -115,31 +161,49 @@ impl<F: Fn(&Input) -> bool> Shrinking<F> {
         }
     }
 
-    /// Takes out stretches, long ones first.
-    fn remove_stretches(&mut self, part: WordsOf) {
-        let mut length = part.of(&self.best).len();
-        while length > 0 {
-            let mut end = part.of(&self.best).len();
-            while end >= length {
-                let start = end - length;
+    /// Puts trees of the slip in the place of those around them, as long as
+    /// that goes.
+    fn lift_trees(&mut self) {
+        while self.tries_left > 0 {
+            let lifted = liftings(&self.best).into_iter().any(|(outer, inner)| {
                 self.try_change(|input| {
-                    part.of_mut(input).drain(start..end);
+                    Part::Nodes.change(input, |nodes| {
+                        nodes.drain(inner.end..outer.end);
+                        nodes.drain(outer.start..inner.start);
+                    });
+                })
+            });
+            if !lifted {
+                return;
+            }
+        }
+    }
+
+    /// Takes out stretches, long ones first.
+    fn remove_stretches(&mut self, part: Part) {
+        let unit = part.unit();
+        let mut length = part.units(&self.best);
+        while length > 0 && self.tries_left > 0 {
+            let mut end = part.units(&self.best);
+            while end >= length {
+                let stretch = unit * (end - length)..unit * end;
+                self.try_change(|input| {
+                    part.change(input, |words| drop(words.drain(stretch.clone())));
                 });
                 // Long stretches overlap by half, short ones lie anywhere.
                 let step = if length > 16 { length / 2 } else { 1 };
-                end = end.saturating_sub(step).min(part.of(&self.best).len());
+                end = end.saturating_sub(step).min(part.units(&self.best));
             }
             length = if length > 16 { length / 2 } else { length - 1 };
         }
     }
 
     /// Makes single words 0, half or one less.
-    fn lower_words(&mut self, part: WordsOf) {
-        for position in 0..part.of(&self.best).len() {
+    fn lower_words(&mut self, part: Part) {
+        for position in 0..part.unit() * part.units(&self.best) {
             let lowered = |lower: fn(u32) -> u32| {
                 move |input: &mut Input| {
-                    let word = &mut part.of_mut(input)[position];
-                    *word = lower(*word);
+                    part.change(input, |words| words[position] = lower(words[position]));
                 }
             };
             if self.try_change(lowered(|_| 0)) {
@@ -149,6 +213,28 @@ impl<F: Fn(&Input) -> bool> Shrinking<F> {
             self.try_change(lowered(|word| word.saturating_sub(1)));
         }
     }
+}
+
+/// The words of trees of a slip, each with those of the last or the first tree
+/// of the same type inside it.
+fn liftings(input: &Input) -> Vec<(Range<usize>, Range<usize>)> {
+    let Ok(grammar) = Grammar::read(&input.grammar) else {
+        return Vec::new();
+    };
+    let right = slip(&grammar, &without_counts(&input.slip));
+    let nodes: Vec<&[u32]> = right.chunks_exact(SLIP_NODE).collect();
+    let tree = |place: usize| place..place + nodes[place][2] as usize;
+    let words = |tree: Range<usize>| SLIP_NODE * tree.start..SLIP_NODE * tree.end;
+    let mut liftings = Vec::new();
+    for place in 0..nodes.len() {
+        let same_type = |inner: &usize| nodes[*inner][0] == nodes[place][0];
+        let inside = tree(place).skip(1).filter(same_type);
+        let (last, first) = (inside.clone().next_back(), inside.clone().next());
+        for inner in last.into_iter().chain(first) {
+            liftings.push((words(tree(place)), words(tree(inner))));
+        }
+    }
+    liftings
 }
 
 /// What can be taken out of the rules of an input, great things first.

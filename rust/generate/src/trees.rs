@@ -1,12 +1,12 @@
-//! Random trees of a grammar: small, bushy, deep and long ones, ones just
-//! beyond the limits, and damaged ones.
+//! Random trees of a grammar, two words a node: small, bushy, deep and long
+//! ones, ones just beyond the limits, and damaged ones.
 
 use reference::grammar::{Grammar, Kind, OpenPlaces, TokenClass, TypeNumber};
 use reference::limits;
 use reference::tree::{Piece, Tree};
 
-use crate::labeled::change_length;
 use crate::random::Random;
+use crate::slips::{slip, TREE_NODE};
 
 /// What trees of each type of a grammar can be.
 #[derive(Clone, Debug)]
@@ -134,9 +134,9 @@ impl<'a> Shapes<'a> {
         let mut reserved = self.least_size[ty as usize];
         while let Some(place) = places.pop() {
             reserved -= self.least_size[place.ty as usize];
-            let used = words.len() / 2 + reserved;
-            let room = bounds.nodes.saturating_sub(used);
-            if words.len() > 4 * limits::TREE_WORDS {
+            let grown = words.len() / TREE_NODE;
+            let room = bounds.nodes.saturating_sub(grown + reserved);
+            if grown > 4 * limits::NODES {
                 break;
             }
             let value = self.choose_value(random, place, room, bounds.nesting, style);
@@ -245,7 +245,7 @@ impl<'a> Shapes<'a> {
             nesting: limits::NESTING,
         };
         let words = self.grow(random, ty, bounds, Style::Small);
-        let pieces = words.chunks_exact(2).map(|node| Piece::Node {
+        let pieces = words.chunks_exact(TREE_NODE).map(|node| Piece::Node {
             ty: node[0],
             value: node[1],
         });
@@ -356,10 +356,10 @@ pub fn random_tree(random: &mut Random, shapes: &Shapes) -> Vec<u32> {
     let mut greatest = Vec::new();
     for _ in 0..4 {
         let words = shapes.grow(random, 0, Bounds { nodes, nesting }, style);
-        if words.len() > greatest.len() && Tree::read(shapes.grammar, &words).is_ok() {
+        if words.len() > greatest.len() && fits(shapes.grammar, &words) {
             greatest = words;
         }
-        if greatest.len() > nodes {
+        if greatest.len() / TREE_NODE > nodes / 2 {
             break;
         }
     }
@@ -369,19 +369,22 @@ pub fn random_tree(random: &mut Random, shapes: &Shapes) -> Vec<u32> {
     greatest
 }
 
+/// Whether a tree fits its grammar and keeps the limits.
+fn fits(grammar: &Grammar, tree: &[u32]) -> bool {
+    Tree::read_slip(grammar, &slip(grammar, tree)).is_ok()
+}
+
 /// A tree that is just within the limits or passes one of them by a little.
-pub fn tree_at_limits(seed: u64, grammar: &Grammar) -> Vec<u32> {
-    let mut random = Random::new(seed);
-    let shapes = Shapes::new(grammar);
+pub fn tree_at_limits(random: &mut Random, shapes: &Shapes) -> Vec<u32> {
     let (nodes, nesting, style) = match random.below(4) {
         0 => (limits::NODES, random.between(64, 66), Style::Deep),
         1 => (limits::NODES + random.below(3), 64, Style::Long),
         2 => (limits::NODES + random.below(3), 64, Style::Bushy),
         _ => (limits::NODES, random.between(64, 65), Style::Bushy),
     };
-    let mut words = shapes.grow(&mut random, 0, Bounds { nodes, nesting }, style);
+    let mut words = shapes.grow(random, 0, Bounds { nodes, nesting }, style);
     if random.chance(25) {
-        damage_beyond_nesting(&mut random, grammar, &mut words);
+        damage_beyond_nesting(random, shapes.grammar, &mut words);
     }
     words
 }
@@ -390,7 +393,7 @@ pub fn tree_at_limits(seed: u64, grammar: &Grammar) -> Vec<u32> {
 /// tree there.
 fn damage_beyond_nesting(random: &mut Random, grammar: &Grammar, words: &mut Vec<u32>) {
     let mut places = OpenPlaces::new(grammar, 0);
-    for node in (0..words.len()).step_by(2) {
+    for node in (0..words.len()).step_by(TREE_NODE) {
         let Some(place) = places.next_place() else {
             return;
         };
@@ -406,14 +409,12 @@ fn damage_beyond_nesting(random: &mut Random, grammar: &Grammar, words: &mut Vec
     }
 }
 
-/// A tree with one fault put into it. A few turn out valid again.
-pub fn damaged_tree(seed: u64, grammar: &Grammar) -> Vec<u32> {
-    let mut random = Random::new(seed);
-    let shapes = Shapes::new(grammar);
-    let mut words = random_tree(&mut random, &shapes);
+/// Puts one fault into a tree. A few are trees again.
+pub fn damage_tree(random: &mut Random, shapes: &Shapes, words: &mut Vec<u32>) {
+    let grammar = shapes.grammar;
     let types = grammar.types.len() as u32;
-    let node = 2 * random.below(words.len() / 2);
-    match random.below(8) {
+    let node = TREE_NODE * random.below(words.len() / TREE_NODE);
+    match random.below(5) {
         0 | 1 => {
             // A value: just outside its range, or another one.
             let values = match grammar.kind(words[node]) {
@@ -431,21 +432,11 @@ pub fn damaged_tree(seed: u64, grammar: &Grammar) -> Vec<u32> {
         3 => {
             // Whole nodes cut off, or left over.
             if random.chance(50) {
-                words.truncate(node.max(2));
+                words.truncate(node.max(TREE_NODE));
             } else {
                 words.extend_from_within(node..);
             }
         }
-        4 => change_length(&mut random, &mut words),
-        5 => {
-            let length = random.pick(&[0, 1, node + 1, 4_097, 4_098]);
-            words.resize(length, 0);
-        }
-        6 => {
-            words.remove(node);
-            words.remove(node);
-        }
-        _ => return tree_at_limits(seed, grammar),
+        _ => drop(words.drain(node..node + TREE_NODE)),
     }
-    words
 }

@@ -12,10 +12,15 @@ use reference::grammar::Grammar;
 use reference::limits;
 use reference::rules::{read_layout, Reach};
 use reference::tree::Tree;
-use reference::{check_grammar, check_rules, check_tree, Outcome};
+use reference::{check_grammar, check_rules, check_slip, Outcome};
 
 const INPUTS: u64 = 20_000;
+const LISTS: u64 = 8_000;
 const LEAST: u32 = 50;
+
+/// The refusals that the single checks give: all but those of the memories and
+/// the budget.
+const REFUSALS_OF_CHECKS: [u32; 15] = [4, 5, 10, 11, 12, 20, 21, 22, 23, 24, 30, 31, 32, 33, 34];
 
 #[test]
 fn every_refusal_of_the_checks_is_given_often() {
@@ -27,7 +32,7 @@ fn every_refusal_of_the_checks_is_given_often() {
             Err(refusal) => vec![Err(refusal)],
             Ok(()) => vec![
                 check_rules(&input.grammar, &input.rules),
-                check_tree(&input.grammar, &input.tree),
+                check_slip(&input.grammar, &input.slip),
             ],
         };
         passed += u32::from(results.iter().all(Result::is_ok));
@@ -36,7 +41,33 @@ fn every_refusal_of_the_checks_is_given_often() {
         }
     }
     println!("of {INPUTS} inputs for the checks {passed} pass; refusals: {counts:?}");
-    for number in [4, 5, 10, 11, 12, 20, 21, 22, 23, 24, 30, 31, 32, 33] {
+    for number in REFUSALS_OF_CHECKS {
+        let count = counts.get(&number).copied().unwrap_or(0);
+        assert!(count >= LEAST, "refusal {number} is given {count} times");
+    }
+}
+
+#[test]
+fn every_refusal_of_runs_is_given_often() {
+    let mut counts: BTreeMap<u32, u32> = BTreeMap::new();
+    for seed in 0..LISTS {
+        let list = run_list(seed);
+        for input in &list.inputs {
+            let outcome = reference::run(
+                &input.grammar,
+                &input.rules,
+                &input.slip,
+                input.budget,
+                list.result.len(),
+                list.work.len(),
+            );
+            if let Outcome::Refused(refusal) = outcome {
+                *counts.entry(refusal.number).or_default() += 1;
+            }
+        }
+    }
+    println!("refusals of the runs of {LISTS} lists: {counts:?}");
+    for number in [1, 2, 3].into_iter().chain(REFUSALS_OF_CHECKS) {
         let count = counts.get(&number).copied().unwrap_or(0);
         assert!(count >= LEAST, "refusal {number} is given {count} times");
     }
@@ -77,7 +108,7 @@ fn typed_rules_usually_pass_and_often_match() {
     for seed in 0..2_000 {
         let input = typed_input(seed);
         assert_eq!(check_grammar(&input.grammar), Ok(()));
-        assert_eq!(check_tree(&input.grammar, &input.tree), Ok(()));
+        assert_eq!(check_slip(&input.grammar, &input.slip), Ok(()));
         if let Outcome::Ended { replacements, .. } = reference_outcome(&input) {
             passed += 1;
             replaced += u32::from(replacements > 0);
@@ -100,7 +131,7 @@ fn trees_reach_every_size_and_depth() {
     for seed in 0..4_000 {
         let input = typed_input(seed);
         let grammar = Grammar::read(&input.grammar).expect("a valid grammar");
-        let tree = Tree::read(&grammar, &input.tree).expect("a valid tree");
+        let tree = Tree::read_slip(&grammar, &input.slip).expect("a valid slip");
         sizes[[0, 10, 100, 1_000].partition_point(|&least| least <= tree.size()) - 1] += 1;
         depths[[0, 5, 20, 60].partition_point(|&least| least <= tree.height()) - 1] += 1;
         largest += u32::from(tree.size() >= 2_047);
@@ -115,7 +146,7 @@ fn trees_reach_every_size_and_depth() {
 }
 
 #[test]
-fn results_are_trees_and_budgets_only_cut_runs_off() {
+fn results_are_slips_and_budgets_only_cut_runs_off() {
     for seed in 0..3_000 {
         let mut input = run_input(seed);
         let outcome = reference_outcome(&input);
@@ -128,7 +159,7 @@ fn results_are_trees_and_budgets_only_cut_runs_off() {
         else {
             continue;
         };
-        assert_eq!(check_tree(&input.grammar, words), Ok(()), "seed {seed}");
+        assert_eq!(check_slip(&input.grammar, words), Ok(()), "seed {seed}");
         if stop == Some(40) || attempts < 2 {
             continue;
         }
@@ -164,7 +195,7 @@ fn shrinking_keeps_the_failure_and_makes_it_small() {
             Outcome::Ended { stop: Some(45), .. }
         )
     };
-    let words = |input: &Input| input.grammar.len() + input.rules.len() + input.tree.len();
+    let words = |input: &Input| input.grammar.len() + input.rules.len() + input.slip.len();
     // Some families have a grammar that nothing can be taken out of.
     let found = (0..INPUTS).map(run_input).filter(stops_45).take(16);
     let mut sizes = Vec::new();
@@ -218,7 +249,7 @@ fn halves_of_odd_and_even_wholes_are_rounded_and_just_missed() {
         else {
             panic!("seed {seed} is not done: round never stops");
         };
-        for (before, after) in input.tree.chunks(2).zip(words.chunks(2)) {
+        for (before, after) in input.slip.chunks(3).zip(words.chunks(3)) {
             if before[0] == 2 {
                 assert_eq!(after[1] % 100, 0, "seed {seed}");
                 to_the_greatest += u32::from(after[1] == limits::NUMBER_VALUE);
@@ -258,7 +289,7 @@ fn numbers_at_the_limits_pass_and_one_more_is_refused() {
             continue;
         }
         let checks = [
-            (check_tree(&input.grammar, &input.tree), &input.tree),
+            (check_slip(&input.grammar, &input.slip), &input.slip),
             (check_rules(&input.grammar, &input.rules), &input.rules),
         ];
         for (result, words) in checks {
@@ -278,7 +309,7 @@ fn numbers_at_the_limits_pass_and_one_more_is_refused() {
             }
         }
     }
-    println!("trees and rules that pass with a number at a limit: {passed:?}");
+    println!("slips and rules that pass with a number at a limit: {passed:?}");
     println!("refusals at a number one over the limit: {refused:?}");
     for number in [999_999_999, 1_000_000_000, limits::NUMBER_VALUE] {
         let count = passed.get(&number).copied().unwrap_or(0);
@@ -297,13 +328,13 @@ fn operations_reach_the_limits_and_just_pass_them() {
         let Outcome::Ended { stop, words, .. } = outcome else {
             panic!("seed {seed} is refused");
         };
-        let new = |word: &u32| words.contains(word) && !input.tree.contains(word);
+        let new = |word: &u32| words.contains(word) && !input.slip.contains(word);
         for word in AROUND_LIMITS.into_iter().filter(new) {
             *made.entry(word).or_default() += 1;
         }
         // The first two numbers, which a stop with no replacement left there.
-        if stop == Some(45) && words == input.tree {
-            let sum = u64::from(words[5]) + u64::from(words[9]);
+        if stop == Some(45) && words == input.slip {
+            let sum = u64::from(words[7]) + u64::from(words[13]);
             one_over += u32::from(sum == u64::from(limits::NUMBER_VALUE) + 1);
             over_32_bits += u32::from(sum > u64::from(u32::MAX));
         }

@@ -2,7 +2,7 @@
 
 use std::hint::black_box;
 
-use generate::Random;
+use generate::{slip_of, Random};
 
 use crate::inputs::{numbers, sequence};
 use crate::timing::times;
@@ -32,12 +32,12 @@ pub fn print_table() {
         );
         print_row("grammar", name, grammar.len(), times);
     }
-    for (name, grammar, tree) in trees() {
+    for (name, grammar, slip) in slips() {
         let times = times(
-            || _ = black_box(tamarind::check_tree(black_box(&grammar), black_box(&tree))),
-            || _ = black_box(reference::check_tree(black_box(&grammar), black_box(&tree))),
+            || _ = black_box(tamarind::check_slip(black_box(&grammar), black_box(&slip))),
+            || _ = black_box(reference::check_slip(black_box(&grammar), black_box(&slip))),
         );
-        print_row("tree", name, tree.len(), times);
+        print_row("slip", name, slip.len(), times);
     }
     for (name, text) in BOOKS {
         let input = reference::bench::parse(text).expect("a bench input");
@@ -121,21 +121,30 @@ fn grammars() -> Vec<(&'static str, Vec<u32>)> {
     ]
 }
 
-/// A grammar and a tree of it: small, a sequence of 1,023 elements, 1,535 nodes
-/// in forms of two children, and nesting 64.
-fn trees() -> Vec<(&'static str, Vec<u32>, Vec<u32>)> {
-    let small = sequence([200, 500]);
-    let long = sequence(0..1_023);
+/// A grammar and a slip of it: small, sequences of no elements, of 50 and of
+/// 1,023, 1,535 nodes in forms of two children, and nesting 64.
+fn slips() -> Vec<(&'static str, Vec<u32>, Vec<u32>)> {
     // Form 0 is a name, form 1 two trees: a full tree of ten levels.
     let pairs = vec![2, 8, 2, 1, 1, 2, 0, 0, 1, 1];
-    let full = full_tree(9);
+    let full = slip_of(&pairs, &full_tree(9));
     // An opt of itself.
     let opts = vec![1, 2, 0];
     let mut deep = vec![0; 128];
     deep[127] = 1;
+    let deep = slip_of(&opts, &deep);
     vec![
-        ("the paper's", numbers(), small),
-        ("a sequence of 1,023 elements", numbers(), long),
+        ("the paper's", numbers(), sequence([200, 500])),
+        ("2 nodes, an empty sequence", numbers(), sequence([])),
+        (
+            "102 nodes, a sequence of 50 elements",
+            numbers(),
+            sequence(0..50),
+        ),
+        (
+            "2,048 nodes, a sequence of 1,023 elements",
+            numbers(),
+            sequence(0..1_023),
+        ),
         ("a full tree of two children a node", pairs, full),
         ("nesting 64", opts, deep),
     ]
@@ -148,4 +157,20 @@ fn full_tree(levels: u32) -> Vec<u32> {
     }
     let half = full_tree(levels - 1);
     [&[0, 1], half.as_slice(), half.as_slice()].concat()
+}
+
+#[cfg(test)]
+mod tests {
+    use super::*;
+
+    #[test]
+    fn each_slip_passes_and_has_the_nodes_that_its_name_says() {
+        let slips = slips();
+        for (name, grammar, slip) in &slips {
+            assert_eq!(tamarind::check_slip(grammar, slip), Ok(()), "{name}");
+            assert_eq!(reference::check_slip(grammar, slip), Ok(()), "{name}");
+        }
+        let nodes: Vec<usize> = slips.iter().map(|(.., slip)| slip.len() / 3).collect();
+        assert_eq!(nodes, [6, 2, 102, 2_048, 1_535, 64]);
+    }
 }

@@ -6,13 +6,13 @@
 //! Nothing is subtracted. Each time of the proved core includes the clearing of
 //! 16,384 words of work memory, about 1.3 microseconds whatever the input, and
 //! each time of either core the checks of the inputs, of which only that of the
-//! tree grows with the nodes and none with the budget. So where runs are short
+//! slip grows with the nodes and none with the budget. So where runs are short
 //! the factor is under 2; what doubles there is the growth from one size to the
 //! next.
 
 use std::hint::black_box;
 
-use generate::{reference_outcome, Input};
+use generate::{reference_outcome, slip_of, Input};
 use reference::Outcome;
 
 use crate::inputs::{numbers, sequence};
@@ -168,7 +168,7 @@ fn one_search(rules: Vec<u32>, nodes: u32) -> Input {
         budget: tamarind::GREATEST_BUDGET,
         grammar: numbers(),
         rules,
-        tree: sequence(300..300 + count),
+        slip: sequence(300..300 + count),
     }
 }
 
@@ -210,39 +210,33 @@ fn replace_heavy() -> Input {
 /// `replace_heavy` takes on average.
 fn replace_evenly() -> Input {
     let mut input = replace_heavy();
-    let amounts = amounts(&input.tree);
+    let amounts = amounts(&input.slip);
     for &at in &amounts {
-        input.tree[at] = 0;
+        input.slip[at] = 0;
     }
-    input.tree[amounts[amounts.len() / 2]] = 999_999_999;
+    input.slip[amounts[amounts.len() / 2]] = 999_999_999;
     input
 }
 
-/// The places of the amounts in a tree of `replace_heavy`, in which a node of
+/// The places of the amounts in a slip of `replace_heavy`, in which a node of
 /// type 3 has one child, its amount.
-fn amounts(tree: &[u32]) -> Vec<usize> {
-    let nodes = tree.chunks_exact(2).enumerate();
+fn amounts(slip: &[u32]) -> Vec<usize> {
+    let nodes = slip.chunks_exact(3).enumerate();
     nodes
         .filter(|(_, node)| node[0] == 3)
-        .map(|(index, _)| 2 * (index + 1) + 1)
+        .map(|(index, _)| 3 * (index + 1) + 1)
         .collect()
 }
 
 /// Each amount of a tree of so many nodes is doubled, once.
 fn one_pass(nodes: u32) -> Input {
-    let mut input = workload(ONE_PASS);
-    input.tree.truncate(2 * nodes as usize - 2);
-    input.tree.extend([1, 1]);
-    input
+    cut(workload(ONE_PASS), nodes as usize - 1)
 }
 
 /// So many optional amounts are taken away, each with one that moves all behind it
 /// and has fewer nodes.
 fn one_pass_shrink(fields: u32) -> Input {
-    let mut input = workload(ONE_PASS_SHRINK);
-    input.tree.truncate(2 + 6 * fields as usize);
-    input.tree.extend([1, 1]);
-    input
+    cut(workload(ONE_PASS_SHRINK), 1 + 3 * fields as usize)
 }
 
 /// Each round takes half of the elements and joins them with themselves.
@@ -268,13 +262,22 @@ fn set_position(input: &mut Input, from: u32, to: u32) {
     *word.expect("a position") = 100 * to;
 }
 
-/// A workload on a sequence of numbers, at the end of its tree, with so many of
+/// A workload on a sequence of numbers, at the end of its slip, with so many of
 /// its elements.
 fn first_elements(text: &[u8], elements: u32) -> Input {
-    let mut input = workload(text);
-    let cut = 4 * (ELEMENTS[2] - elements) as usize;
-    input.tree.truncate(input.tree.len() - 2 - cut);
-    input.tree.extend([1, 1]);
+    let input = workload(text);
+    let others = 2 * (ELEMENTS[2] - elements) as usize;
+    let kept = input.slip.len() / 3 - 1 - others;
+    cut(input, kept)
+}
+
+/// An input whose slip has so many of its nodes and then the end of its sequence,
+/// all counted anew.
+fn cut(mut input: Input, nodes: usize) -> Input {
+    let kept = input.slip.chunks_exact(3).take(nodes);
+    let mut tree: Vec<u32> = kept.flat_map(|node| [node[0], node[1]]).collect();
+    tree.extend([1, 1]);
+    input.slip = slip_of(&input.grammar, &tree);
     input
 }
 
@@ -323,7 +326,7 @@ mod tests {
         let [numbers, sequences, ..] = all_series();
         for series in [&numbers, &sequences] {
             for (nodes, input) in &series.inputs {
-                assert_eq!(input.tree.len(), 2 * *nodes as usize);
+                assert_eq!(input.slip.len(), 3 * *nodes as usize);
             }
         }
         let tried = |ends| NODES.map(|nodes| (nodes, None, (nodes - 2) / 2 + ends, 0));
@@ -355,7 +358,7 @@ mod tests {
     fn one_pass_replaces_each_field_once() {
         let [_, _, _, _, _, one_pass, one_pass_shrink, ..] = all_series();
         for (nodes, input) in &one_pass.inputs {
-            assert_eq!(input.tree.len(), 2 * *nodes as usize);
+            assert_eq!(input.slip.len(), 3 * *nodes as usize);
         }
         let fields = |nodes: u32| (nodes - 2) / 2;
         let each_once = NODES.map(|nodes| (nodes, None, fields(nodes), fields(nodes)));
@@ -371,12 +374,13 @@ mod tests {
             let rounds = ELEMENTS.map(|elements| (elements, None, 101, 100));
             assert_eq!(outcomes(series), rounds, "{}", series.name);
             for (elements, input) in &series.inputs {
-                let own = input.tree.chunks_exact(2).filter(|node| *node == [1, 0]);
+                let nodes = input.slip.chunks_exact(3);
+                let own = nodes.filter(|node| node[..2] == [1, 0]);
                 assert_eq!(own.count(), *elements as usize, "{}", series.name);
                 let Outcome::Ended { words, .. } = reference_outcome(input) else {
                     panic!("{} is refused", series.name);
                 };
-                assert_eq!(words.len(), input.tree.len(), "{}", series.name);
+                assert_eq!(words.len(), input.slip.len(), "{}", series.name);
             }
         }
     }

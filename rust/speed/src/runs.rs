@@ -7,6 +7,7 @@ use compare::{compare_run, Counts};
 use generate::{reference_outcome, Input};
 use reference::Outcome;
 
+use crate::inputs::{numbers, sequence};
 use crate::timing::{medians, times};
 
 /// Runs as bench inputs.
@@ -74,8 +75,38 @@ pub fn print_table() {
         let input = reference::bench::parse(text).expect("a bench input");
         print_row(name, &input, &mut memories);
     }
+    print_row("read_write", &read_write(), &mut memories);
     print_clearing(&mut memories);
+    print_slip(&mut memories);
     print_replacement(&mut memories);
+}
+
+/// A run that reads the greatest slip and writes it as it was: its only attempt
+/// is at the root, where the first number is not 2.00.
+fn read_write() -> Input {
+    let pattern = [4, 0, 0, 1, 0, 2, 200, 64, 1];
+    let replacement = [4, 0, 0, 1, 0, 2, 200, 65, 0];
+    Input {
+        budget: 1,
+        grammar: numbers(),
+        rules: [&[1, 8, 0], &pattern[..], &replacement].concat(),
+        slip: sequence(300..300 + 1_023),
+    }
+}
+
+/// Prints how long it takes to read and to write the greatest slip: a run that
+/// changes nothing, beside its check alone and the clearing of work memory.
+fn print_slip(memories: &mut Memories) {
+    let input = read_write();
+    let nodes = input.slip.len() / 3;
+    let mut work = vec![u32::MAX; tamarind::WORK_WORDS];
+    let [run, check, clearing] = medians(|number| match number {
+        0 => _ = black_box(memories.run(black_box(&input))),
+        1 => _ = black_box(tamarind::check_slip(&input.grammar, black_box(&input.slip))),
+        _ => black_box(&mut work).fill(0),
+    });
+    println!();
+    println!("A run that changes nothing reads and writes {nodes} nodes in {run:.0} ns: the check of the slip takes {check:.0} of them, the clearing of work memory {clearing:.0}.");
 }
 
 /// Prints how long the smallest run takes beside the clearing of its work memory,
@@ -144,7 +175,7 @@ impl Memories {
         tamarind::run(
             &input.grammar,
             &input.rules,
-            &input.tree,
+            &input.slip,
             input.budget,
             &mut self.result,
             &mut self.work,
@@ -172,7 +203,7 @@ fn print_row(name: &str, input: &Input, memories: &mut Memories) {
     println!("| {name} | {cells} | {proved:.0} | {reference:.0} | {ratio:.2} |");
 }
 
-/// How the run ends, its attempts and replacements, and the nodes of the tree
+/// How the run ends, its attempts and replacements, and the nodes of the slip
 /// before and after it. A refused run has only a number.
 fn outcome_cells(input: &Input) -> String {
     match reference_outcome(input) {
@@ -184,7 +215,7 @@ fn outcome_cells(input: &Input) -> String {
             words,
         } => {
             let ending = ending(stop);
-            let (before, after) = (input.tree.len() / 2, words.len() / 2);
+            let (before, after) = (input.slip.len() / 3, words.len() / 3);
             format!("{ending} | {attempts} | {replacements} | {before} | {after}")
         }
     }
@@ -193,4 +224,32 @@ fn outcome_cells(input: &Input) -> String {
 /// The ending of a run that nothing refuses, as the bench has it.
 pub fn ending(stop: Option<u32>) -> String {
     stop.map_or("done".to_string(), |number| format!("stopped {number}"))
+}
+
+#[cfg(test)]
+mod tests {
+    use super::*;
+
+    #[test]
+    fn what_reads_and_writes_makes_one_attempt_and_changes_nothing() {
+        let input = read_write();
+        assert_eq!(input.slip.len(), tamarind::limits::MOST_SLIP_WORDS);
+        let due = Outcome::Ended {
+            stop: None,
+            attempts: 1,
+            replacements: 0,
+            words: input.slip.clone(),
+        };
+        assert_eq!(reference_outcome(&input), due);
+        assert_eq!(compare_run(&input, &mut Counts::new()), Ok(()));
+    }
+
+    #[test]
+    fn the_slip_of_each_workload_passes() {
+        for (name, text) in WORKLOADS {
+            let input = reference::bench::parse(text).expect("a bench input");
+            let checked = tamarind::check_slip(&input.grammar, &input.slip);
+            assert_eq!(checked, Ok(()), "{name}");
+        }
+    }
 }

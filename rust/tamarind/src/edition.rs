@@ -13,7 +13,9 @@ use crate::foreign;
 /// 5 is T-05: in a pattern a variable whose tree holds an empty name or string
 /// matches nothing.
 /// 6 is T-06: reach 3, the one-pass rule.
-pub const EDITION: u32 = 6;
+/// 7 is T-07: each node of a slip and of a result has a third word, the number
+/// of nodes in its tree.
+pub const EDITION: u32 = 7;
 
 /// The edition of the archive that is linked.
 pub fn edition() -> u32 {

@@ -58,7 +58,7 @@ const DONE: u32 = 0;
 const STOPPED: u32 = 1;
 const REFUSED: u32 = 2;
 
-const POST_TREE: u32 = 0;
+const POST_SLIP: u32 = 0;
 const POST_RESULT: u32 = 1;
 
 impl From<RunAnswer> for Outcome {
@@ -89,9 +89,9 @@ pub fn check_grammar(grammar: &[u32]) -> Answer {
     unsafe { tamarind_check_grammar(grammar.as_ptr(), grammar.len()) }
 }
 
-pub fn check_tree(grammar: &[u32], tree: &[u32]) -> Answer {
+pub fn check_slip(grammar: &[u32], slip: &[u32]) -> Answer {
     // SAFETY: as above, both slices.
-    unsafe { tamarind_check_tree(grammar.as_ptr(), grammar.len(), tree.as_ptr(), tree.len()) }
+    unsafe { tamarind_check_slip(grammar.as_ptr(), grammar.len(), slip.as_ptr(), slip.len()) }
 }
 
 pub fn check_rules(grammar: &[u32], rules: &[u32]) -> Answer {
@@ -102,7 +102,7 @@ pub fn check_rules(grammar: &[u32], rules: &[u32]) -> Answer {
 pub fn run(
     grammar: &[u32],
     rules: &[u32],
-    tree: &[u32],
+    slip: &[u32],
     budget: u32,
     result: &mut [u32],
     work: &mut [u32],
@@ -115,8 +115,8 @@ pub fn run(
             grammar.len(),
             rules.as_ptr(),
             rules.len(),
-            tree.as_ptr(),
-            tree.len(),
+            slip.as_ptr(),
+            slip.len(),
             budget,
             result.as_mut_ptr(),
             result.len(),
@@ -137,12 +137,12 @@ fn ending_of(outcome: &Outcome) -> (u32, usize) {
     }
 }
 
-pub fn words_to_post<'a>(outcome: &Outcome, result: &'a [u32], tree: &'a [u32]) -> &'a [u32] {
+pub fn words_to_post<'a>(outcome: &Outcome, result: &'a [u32], slip: &'a [u32]) -> &'a [u32] {
     let (ending, filled) = ending_of(outcome);
     // SAFETY: no pointer is passed.
-    let post = unsafe { tamarind_words_to_post(ending, filled, result.len(), tree.len()) };
+    let post = unsafe { tamarind_words_to_post(ending, filled, result.len(), slip.len()) };
     match post.source {
-        POST_TREE => &tree[..post.words],
+        POST_SLIP => &slip[..post.words],
         POST_RESULT => &result[..post.words],
         source => unreachable!("the core has no source {source}"),
     }
@@ -159,14 +159,14 @@ extern "C" {
         ending: u32,
         filled: usize,
         result_len: usize,
-        tree_len: usize,
+        slip_len: usize,
     ) -> Posting;
     fn tamarind_check_grammar(grammar: *const u32, grammar_len: usize) -> Answer;
-    fn tamarind_check_tree(
+    fn tamarind_check_slip(
         grammar: *const u32,
         grammar_len: usize,
-        tree: *const u32,
-        tree_len: usize,
+        slip: *const u32,
+        slip_len: usize,
     ) -> Answer;
     fn tamarind_check_rules(
         grammar: *const u32,
@@ -179,8 +179,8 @@ extern "C" {
         grammar_len: usize,
         rules: *const u32,
         rules_len: usize,
-        tree: *const u32,
-        tree_len: usize,
+        slip: *const u32,
+        slip_len: usize,
         budget: u32,
         result: *mut u32,
         result_len: usize,

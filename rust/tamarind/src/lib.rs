@@ -1,7 +1,10 @@
 //! The proved rewriting core of the counter pad, for Rust programs.
 //!
-//! It rewrites a slip, a tree of words, by a rule book into the words that are
-//! posted. A [`Pad`] owns the memory for it:
+//! It rewrites a slip, a tree in words, by a rule book into the words that are
+//! posted. A slip has three words for each node of its tree, a parent's before
+//! its children's: the node's type, its value, and its count, which is the
+//! number of nodes in its tree, itself included. A [`Pad`] owns the memory for
+//! it:
 //!
 //! ```
 //! use tamarind::Pad;
@@ -10,14 +13,28 @@
 //! // A program is a sequence of numbers; replace every 2.00 by 42.00.
 //! let grammar = [3, 8, 1, 1, 1, 4, 2, 1, 2];
 //! let rules = [1, 9, 2, 2, 1, 2, 200, 1, 2, 4200];
-//! // The list 2.00, 5.00.
-//! let tree = [0, 0, 1, 0, 2, 200, 1, 0, 2, 500, 1, 1];
+//! // The slip of 2.00, 5.00.
+//! let slip = [0, 0, 6, 1, 0, 5, 2, 200, 1, 1, 0, 3, 2, 500, 1, 1, 1, 1];
 //!
 //! let mut pad = Pad::new();
-//! let posting = pad.run(&grammar, &rules, &tree, 3);
+//! let posting = pad.run(&grammar, &rules, &slip, 3);
 //! assert!(posting.outcome.is_done());
-//! assert_eq!(posting.words, [0, 0, 1, 0, 2, 4200, 1, 0, 2, 500, 1, 1]);
+//! let posted = [0, 0, 6, 1, 0, 5, 2, 4200, 1, 1, 0, 3, 2, 500, 1, 1, 1, 1];
+//! assert_eq!(posting.words, posted);
 //! # Ok::<(), tamarind::WrongEdition>(())
+//! ```
+//!
+//! Every count is right in a slip that [`check_slip`] passes, and in what a run
+//! has filled of its result. So a field is stepped over by its count:
+//!
+//! ```
+//! # let slip = [0, 0, 6, 1, 0, 5, 2, 200, 1, 1, 0, 3, 2, 500, 1, 1, 1, 1];
+//! // From the first number to what stands behind it, and from there to the end.
+//! let mut at = 6;
+//! at += 3 * slip[at + 2] as usize;
+//! assert_eq!(slip[at..at + 3], [1, 0, 3]);
+//! at += 3 * slip[at + 2] as usize;
+//! assert_eq!(at, slip.len());
 //! ```
 //!
 //! `docs/bench.md` takes these words apart, and says what each refusal and stop
@@ -62,15 +79,20 @@ pub fn check_grammar(grammar: &[u32]) -> Result<(), Refusal> {
     foreign::check_grammar(grammar).into()
 }
 
-/// Checks a tree against a grammar (refusals 4, 10 to 12, 30 to 33).
+/// Checks a slip against a grammar (refusals 4, 10 to 12, 30 to 34). The grammar
+/// alone says where the tree ends; the counts are held to it last, so 34 is given
+/// only where 30 to 33 find nothing in the whole slip.
 ///
 /// ```
 /// # let grammar = [3, 8, 1, 1, 1, 4, 2, 1, 2];
-/// let refusal = tamarind::check_tree(&grammar, &[0, 0]).unwrap_err();
-/// assert_eq!((refusal.number, refusal.position), (31, 2));
+/// let refusal = tamarind::check_slip(&grammar, &[0, 0, 1]).unwrap_err();
+/// assert_eq!((refusal.number, refusal.position), (31, 3));
+/// // The root's tree has two nodes.
+/// let refusal = tamarind::check_slip(&grammar, &[0, 0, 1, 1, 1, 1]).unwrap_err();
+/// assert_eq!((refusal.number, refusal.position), (34, 2));
 /// ```
-pub fn check_tree(grammar: &[u32], tree: &[u32]) -> Result<(), Refusal> {
-    foreign::check_tree(grammar, tree).into()
+pub fn check_slip(grammar: &[u32], slip: &[u32]) -> Result<(), Refusal> {
+    foreign::check_slip(grammar, slip).into()
 }
 
 /// Checks a rule book against a grammar (refusals 4, 5, 10 to 12, 20 to 24).

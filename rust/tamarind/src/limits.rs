@@ -3,7 +3,7 @@
 //! What passes one is refused or stopped by the number that is named.
 
 /// The fewest words of result memory that a run accepts (refusal 1).
-pub const RESULT_WORDS: usize = 4_096;
+pub const RESULT_WORDS: usize = 6_144;
 /// The fewest words of work memory that a run accepts (refusal 2).
 pub const WORK_WORDS: usize = 16_384;
 /// The least budget that a run accepts (refusal 3).
@@ -14,8 +14,8 @@ pub const GREATEST_BUDGET: u32 = 1_000_000;
 pub const MOST_GRAMMAR_WORDS: usize = 4_096;
 /// Most words of a rule book (refusal 5).
 pub const MOST_RULES_WORDS: usize = 16_384;
-/// Most words of a tree (refusal 30).
-pub const MOST_TREE_WORDS: usize = 4_096;
+/// Most words of a slip, three for each node (refusal 30).
+pub const MOST_SLIP_WORDS: usize = 6_144;
 
 /// Most types of a grammar (refusal 11).
 pub const MOST_TYPES: u32 = 64;

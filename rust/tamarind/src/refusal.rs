@@ -54,14 +54,16 @@ impl Refusal {
     pub const RULES_PAIR: u32 = 23;
     /// A rule has too many variables, or is nested too deep.
     pub const RULES_LIMIT: u32 = 24;
-    /// The tree's count of words is not allowed.
-    pub const TREE_SIZE: u32 = 30;
-    /// The tree does not end where it must.
-    pub const TREE_END: u32 = 31;
-    /// A word of the tree is not allowed.
-    pub const TREE_WORD: u32 = 32;
-    /// The tree is nested too deep.
-    pub const TREE_NESTING: u32 = 33;
+    /// The slip's number of words is not allowed.
+    pub const SLIP_SIZE: u32 = 30;
+    /// The slip does not end where it must.
+    pub const SLIP_END: u32 = 31;
+    /// A type or value of the slip is not allowed.
+    pub const SLIP_WORD: u32 = 32;
+    /// The slip is nested too deep.
+    pub const SLIP_NESTING: u32 = 33;
+    /// A count of the slip is not the number of nodes in its node's tree.
+    pub const SLIP_COUNT: u32 = 34;
 }
 
 impl Refusal {

@@ -11,9 +11,9 @@ use crate::{foreign, Refusal, Stop};
 /// ```
 /// # let grammar = [3, 8, 1, 1, 1, 4, 2, 1, 2];
 /// # let rules = [1, 9, 2, 2, 1, 2, 200, 1, 2, 4200];
-/// # let tree = [0, 0, 1, 0, 2, 200, 1, 0, 2, 500, 1, 1];
+/// # let slip = [0, 0, 6, 1, 0, 5, 2, 200, 1, 1, 0, 3, 2, 500, 1, 1, 1, 1];
 /// let mut pad = tamarind::Pad::new();
-/// let done = pad.run(&grammar, &rules, &tree, 3).outcome;
+/// let done = pad.run(&grammar, &rules, &slip, 3).outcome;
 /// assert_eq!(done.to_string(), "done, attempts 3, replacements 1");
 /// ```
 #[derive(Clone, Copy, Debug, PartialEq, Eq)]
@@ -22,7 +22,8 @@ pub enum Outcome {
     /// Nothing was run; the result and the work memory are unchanged, and there
     /// is nothing to reset.
     Refused(Refusal),
-    /// The run is over: the result holds a tree, the work memory only zeros.
+    /// The run is over: the result holds a slip, of which every count is right,
+    /// and the work memory only zeros.
     Ended {
         /// Why it ended early, or `None` if it is done.
         stop: Option<Stop>,
@@ -30,8 +31,8 @@ pub enum Outcome {
         attempts: u32,
         /// The replacements that the first call put in place.
         replacements: u32,
-        /// How many words of the result are the tree, from word 0 on. The
-        /// words behind them are unchanged.
+        /// How many words of the result are the slip, from word 0 on, three for
+        /// each node. The words behind them are unchanged.
         filled: usize,
     },
 }
@@ -64,8 +65,8 @@ impl fmt::Display for Outcome {
     }
 }
 
-/// Checks everything and rewrites the tree by the rule book into the result,
-/// with at most `budget` attempts. [`Pad::run`](crate::Pad::run) is the same
+/// Checks everything and rewrites the slip's tree by the rule book into the
+/// result, with at most `budget` attempts. [`Pad::run`](crate::Pad::run) is the same
 /// over memories of its own.
 ///
 /// Both memories may hold any words. [`RESULT_WORDS`](crate::RESULT_WORDS),
@@ -77,33 +78,34 @@ impl fmt::Display for Outcome {
 ///
 /// let grammar = [3, 8, 1, 1, 1, 4, 2, 1, 2];
 /// let rules = [1, 9, 2, 2, 1, 2, 200, 1, 2, 4200];
-/// let tree = [0, 0, 1, 0, 2, 200, 1, 1];
+/// let slip = [0, 0, 4, 1, 0, 3, 2, 200, 1, 1, 1, 1];
 /// let (mut result, mut work) = ([0; RESULT_WORDS], [0; WORK_WORDS]);
-/// let outcome = run(&grammar, &rules, &tree, 9, &mut result, &mut work);
-/// assert_eq!(output(&outcome, &result, &tree), [0, 0, 1, 0, 2, 4200, 1, 1]);
+/// let outcome = run(&grammar, &rules, &slip, 9, &mut result, &mut work);
+/// let posted = [0, 0, 4, 1, 0, 3, 2, 4200, 1, 1, 1, 1];
+/// assert_eq!(output(&outcome, &result, &slip), posted);
 /// ```
 pub fn run(
     grammar: &[u32],
     rules: &[u32],
-    tree: &[u32],
+    slip: &[u32],
     budget: u32,
     result: &mut [u32],
     work: &mut [u32],
 ) -> Outcome {
-    foreign::run(grammar, rules, tree, budget, result, work).into()
+    foreign::run(grammar, rules, slip, budget, result, work).into()
 }
 
 /// The words to post after a run: the filled part of the result if the run is
-/// done, otherwise the tree itself. A filled count past the result's end gives
-/// the tree as well.
+/// done, otherwise the slip itself. A filled number past the result's end gives
+/// the slip as well.
 ///
 /// ```
 /// use tamarind::{output, Outcome, Refusal};
 ///
-/// let (number, position) = (Refusal::TREE_SIZE, 0);
+/// let (number, position) = (Refusal::SLIP_SIZE, 0);
 /// let refused = Outcome::Refused(Refusal { number, position });
 /// assert_eq!(output(&refused, &[7, 7, 7, 7], &[1, 2]), [1, 2]);
 /// ```
-pub fn output<'a>(outcome: &Outcome, result: &'a [u32], tree: &'a [u32]) -> &'a [u32] {
-    foreign::words_to_post(outcome, result, tree)
+pub fn output<'a>(outcome: &Outcome, result: &'a [u32], slip: &'a [u32]) -> &'a [u32] {
+    foreign::words_to_post(outcome, result, slip)
 }

@@ -17,6 +17,9 @@ enum-told c = search needs
 fill-requires : tie.Need-fill-requires
 fill-requires c κs = (check-accepted (c .before .before .before .before .before .before .before .args .gs .now) (c .before .before .before .before .before .before .before .args .slip .now) (c .before .before .before .before .check-grammar .ensures) (c .before .before .enum-told .given .1), refl, refl)
 
+slice-aggregate-read-slip : tie.Need-slice-aggregate-read-slip
+slice-aggregate-read-slip c = search needs
+
 read-slip-requires : tie.Need-read-slip-requires
 read-slip-requires c κs = (_, c .before .before .before .fill .ensures)
 
@@ -24,7 +27,7 @@ returns : tie.Need-returns
 returns c = check-refused (c .before .before .before .before .before .before .args .gs .now) (c .before .before .before .before .before .before .args .slip .now) (c .before .before .before .check-grammar .ensures) (c .before .c .given .1)
 
 returns-2 : tie.Need-returns-2
-returns-2 c = check-read (c .before .before .before .before .before .before .before .before .before .before .before .before .args .gs .now) (c .before .before .before .before .before .before .before .before .before .before .before .before .args .slip .now) (c .before .before .before .before .before .before .before .before .before .check-grammar .ensures) (c .before .before .before .before .before .before .before .enum-told .given .1) (c .before .before .before .before .fill .ensures) (c .read-slip .ensures)
+returns-2 c = check-read (c .before .before .before .before .before .before .before .before .before .before .before .before .before .args .gs .now) (c .before .before .before .before .before .before .before .before .before .before .before .before .before .args .slip .now) (c .before .before .before .before .before .before .before .before .before .before .check-grammar .ensures) (c .before .before .before .before .before .before .before .before .enum-told .given .1) (c .before .before .before .before .before .fill .ensures) (c .before .read-slip .ensures)
 
 pub check-slip-spec : {M : Type 1} → statement M
 check-slip-spec =
@@ -34,6 +37,7 @@ check-slip-spec =
     enum-known-c
     enum-told
     fill-requires
+    slice-aggregate-read-slip
     read-slip-requires
     returns
     returns-2)

@@ -1,73 +1,59 @@
 -- `slips::read_slip` meets its contract. Assumes nothing.
-use Prim.Native.Nat.{_*_, _/_}
-use lib.ListN.{length, length-take}
+use Prim.Native.Nat.{ℕ, _*_, _/_}
+use mathlib.Core.Path.{sym}
+use lib.ListN.{length, length-take, length-replicate}
+use lib.Seq.{length-take-le}
 use native.Mathlib.Omega.{arith}
-use Rattle.slips.proofs.Reading.{slip-empty, slip-long, slip-uneven, slip-within, slip-refused, slip-passed}
+use Rattle.slips.proofs.Loading.{beside-refused, beside-short, slip-fits, buffer-long, beside-passed}
 use borrow.Author.Needs.{needs}
 use Rattle.slips.proofs.read_slip.Statement.{statement}
 use Rattle.slips.proofs.read_slip.Tie as tie
 
+read-beside-requires : tie.Need-read-beside-requires
+read-beside-requires c κs = search needs
+
+enum-known-c : tie.Need-enum-known-c
+enum-known-c c = search needs
+
+enum-known-c-2 : tie.Need-enum-known-c-2
+enum-known-c-2 c = search needs
+
 returns : tie.Need-returns
-returns c = slip-empty (c .before .before .args .slip .now) (c .before .before .args .heads .now) (c .before .before .args .rows .now) (c .before .before .args .buffer .now) (c .if1 .taken)
-
-returns-2 : tie.Need-returns-2
-returns-2 c = slip-long (c .before .before .before .args .slip .now) (c .before .before .before .args .heads .now) (c .before .before .before .args .rows .now) (c .before .before .before .args .buffer .now) (c .if2 .taken)
-
-returns-3 : tie.Need-returns-3
-returns-3 c = slip-uneven (c .before .before .before .before .args .slip .now) (c .before .before .before .before .args .heads .now) (c .before .before .before .before .args .rows .now) (c .before .before .before .before .args .buffer .now) (c .before .before .if1 .left) (c .before .if2 .left) (c .if3 .taken)
+returns c = beside-short (c .before .before .before .before .before .before .before .before .args .heads .now) (c .before .before .before .before .before .before .before .before .args .rows .now) (c .before .before .before .before .before .before .before .before .args .slip .now) _ _ (c .before .before .before .before .before .before .before .before .args .memory .now) _ (c .before .before .before .before .read-beside .ensures) (c .before .before .c2 .given .1) (c .if1 .taken)
 
 mul-end : tie.Need-mul-end
 mul-end c = search needs
 
-uncount-requires : tie.Need-uncount-requires
-uncount-requires c κs = search needs
+slice-aggregate-tree : tie.Need-slice-aggregate-tree
+slice-aggregate-tree c = omega (arith, buffer-long (c .before .before .before .before .before .before .before .before .before .args .heads .now) (c .before .before .before .before .before .before .before .before .before .args .rows .now) (c .before .before .before .before .before .before .before .before .before .args .slip .now) _ _ (c .before .before .before .before .before .before .before .before .before .args .memory .now) _ (c .before .before .before .before .before .read-beside .ensures) (c .before .before .before .c2 .given .1) (c .before .before .before .before .before .before .before .before .before .pre) (omega (arith, length-replicate {A = ℕ} 4096 0)), length-replicate {A = ℕ} 4096 0)
 
-slice-aggregate-read-tree : tie.Need-slice-aggregate-read-tree
-slice-aggregate-read-tree c = omega (arith, length-take (2 * (length (c .before .before .before .before .before .before .before .before .before .args .slip .now) / 3)) (c .before .before .before .uncount .last .1 .0), c .before .before .before .uncount .kept, c .before .before .before .before .before .before .if2 .left)
+slice-aggregate-load : tie.Need-slice-aggregate-load
+slice-aggregate-load c = sym (length-take-le _ _ (omega (arith, slip-fits (c .before .before .before .before .before .before .before .before .before .before .args .heads .now) (c .before .before .before .before .before .before .before .before .before .before .args .rows .now) (c .before .before .before .before .before .before .before .before .before .before .args .slip .now) _ _ (c .before .before .before .before .before .before .before .before .before .before .args .memory .now) _ (c .before .before .before .before .before .before .read-beside .ensures) (c .before .before .before .before .c2 .given .1) (c .before .before .before .before .before .before .before .before .before .before .pre), buffer-long (c .before .before .before .before .before .before .before .before .before .before .args .heads .now) (c .before .before .before .before .before .before .before .before .before .before .args .rows .now) (c .before .before .before .before .before .before .before .before .before .before .args .slip .now) _ _ (c .before .before .before .before .before .before .before .before .before .before .args .memory .now) _ (c .before .before .before .before .before .before .read-beside .ensures) (c .before .before .before .before .c2 .given .1) (c .before .before .before .before .before .before .before .before .before .before .pre) (omega (arith, length-replicate {A = ℕ} 4096 0)), length-replicate {A = ℕ} 4096 0)))
 
-read-tree-requires : tie.Need-read-tree-requires
-read-tree-requires c κs = search needs
+load-requires : tie.Need-load-requires
+load-requires c κs = omega (arith, length-take (2 * (length (c .before .before .before .before .before .before .before .before .before .before .before .args .slip .now) / 3)) (c .before .before .before .before .before .before .before .read-beside .last .1 .1 .1 .0), slip-fits (c .before .before .before .before .before .before .before .before .before .before .before .args .heads .now) (c .before .before .before .before .before .before .before .before .before .before .before .args .rows .now) (c .before .before .before .before .before .before .before .before .before .before .before .args .slip .now) _ _ (c .before .before .before .before .before .before .before .before .before .before .before .args .memory .now) _ (c .before .before .before .before .before .before .before .read-beside .ensures) (c .before .before .before .before .before .c2 .given .1) (c .before .before .before .before .before .before .before .before .before .before .before .pre), c .before .before .before .if1 .left)
 
-enum-known-a : tie.Need-enum-known-a
-enum-known-a c = search needs
+returns-2 : tie.Need-returns-2
+returns-2 c = beside-refused (c .before .before .before .before .before .before .before .args .heads .now) (c .before .before .before .before .before .before .before .args .rows .now) (c .before .before .before .before .before .before .before .args .slip .now) _ _ (c .before .before .before .before .before .before .before .args .memory .now) _ (c .before .before .before .read-beside .ensures) (c .before .c .given .1)
 
-place-in-requires : tie.Need-place-in-requires
-place-in-requires c κs = slip-within (c .before .before .before .before .before .before .before .before .before .before .before .before .before .args .slip .now) (c .before .before .before .before .before .before .before .before .before .before .before .before .before .args .heads .now) (c .before .before .before .before .before .before .before .before .before .before .before .before .before .args .rows .now) (c .before .before .before .before .before .before .before .before .before .before .before .before .before .args .buffer .now) (c .before .before .before .before .before .before .before .before .before .before .before .if1 .left) (c .before .before .before .before .before .before .before .before .before .before .if2 .left) (c .before .before .before .before .before .before .before .before .before .if3 .left) (c .before .before .before .before .before .before .before .uncount .last .1 .0) (c .before .before .before .before .before .before .before .uncount .ensures) _ (c .before .before .before .read-tree .ensures) (c .before .before .before .before .before .before .before .before .before .before .before .before .before .pre) (c .before .a .given .1)
+same-length : tie.Need-same-length
+same-length c = search needs
 
-enum-told : tie.Need-enum-told
-enum-told c = search needs
-
-mark-tree-requires : tie.Need-mark-tree-requires
-mark-tree-requires c κs = search needs
-
-slice-aggregate-check-counts : tie.Need-slice-aggregate-check-counts
-slice-aggregate-check-counts c = omega (arith, length-take (2 * (length (c .before .before .before .before .before .before .before .before .before .before .before .before .before .before .before .before .before .args .slip .now) / 3)) (c .before .before .before .mark-tree .last .1 .1 .0), c .before .before .before .mark-tree .kept, c .before .before .before .before .before .before .before .before .before .before .before .uncount .kept, c .before .before .before .before .before .before .before .before .before .before .before .before .before .before .if2 .left)
-
-check-counts-requires : tie.Need-check-counts-requires
-check-counts-requires c κs = omega (arith, length-take (2 * (length (c .before .before .before .before .before .before .before .before .before .before .before .before .before .before .before .before .before .args .slip .now) / 3)) (c .before .before .before .mark-tree .last .1 .1 .0), c .before .before .before .mark-tree .kept, c .before .before .before .before .before .before .before .before .before .before .before .uncount .kept, c .before .before .before .before .before .before .before .before .before .before .before .before .before .before .if2 .left)
-
-returns-4 : tie.Need-returns-4
-returns-4 c = slip-refused (c .before .before .before .before .before .before .before .before .before .before .before .before .before .before .args .slip .now) (c .before .before .before .before .before .before .before .before .before .before .before .before .before .before .args .heads .now) (c .before .before .before .before .before .before .before .before .before .before .before .before .before .before .args .rows .now) (c .before .before .before .before .before .before .before .before .before .before .before .before .before .before .args .buffer .now) (c .before .before .before .before .before .before .before .before .before .before .before .before .if1 .left) (c .before .before .before .before .before .before .before .before .before .before .before .if2 .left) (c .before .before .before .before .before .before .before .before .before .before .if3 .left) (c .before .before .before .before .before .before .before .before .uncount .last .1 .0) (c .before .before .before .before .before .before .before .before .uncount .ensures) _ (c .before .before .before .before .read-tree .ensures) (c .before .before .a .given .1) _ (c .place-in .ensures)
-
-returns-5 : tie.Need-returns-5
-returns-5 c = slip-passed (c .before .before .before .before .before .before .before .before .before .before .before .before .before .before .before .before .before .before .args .slip .now) (c .before .before .before .before .before .before .before .before .before .before .before .before .before .before .before .before .before .before .args .heads .now) (c .before .before .before .before .before .before .before .before .before .before .before .before .before .before .before .before .before .before .args .rows .now) (c .before .before .before .before .before .before .before .before .before .before .before .before .before .before .before .before .before .before .args .buffer .now) (c .before .before .before .before .before .before .before .before .before .before .before .before .before .before .before .before .if1 .left) (c .before .before .before .before .before .before .before .before .before .before .before .before .before .before .before .if2 .left) (c .before .before .before .before .before .before .before .before .before .before .before .before .before .before .if3 .left) (c .before .before .before .before .before .before .before .before .before .before .before .before .uncount .last .1 .0) (c .before .before .before .before .before .before .before .before .before .before .before .before .uncount .ensures) _ (c .before .before .before .before .before .before .before .before .read-tree .ensures) (c .before .before .before .before .before .before .enum-told .given .1) (c .before .before .before .before .mark-tree .last .1 .1 .0) (c .before .before .before .before .mark-tree .ensures) _ (c .check-counts .ensures)
+returns-3 : tie.Need-returns-3
+returns-3 c = beside-passed (c .before .before .before .before .before .before .before .before .before .before .before .before .before .before .args .heads .now) (c .before .before .before .before .before .before .before .before .before .before .before .before .before .before .args .rows .now) (c .before .before .before .before .before .before .before .before .before .before .before .before .before .before .args .slip .now) _ _ (c .before .before .before .before .before .before .before .before .before .before .before .before .before .before .args .memory .now) _ (c .before .before .before .before .before .before .before .before .before .before .read-beside .ensures) (c .before .before .before .before .before .before .before .before .c2 .given .1) (c .before .before .before .before .before .before .before .before .before .before .before .before .before .before .pre) (omega (arith, slip-fits (c .before .before .before .before .before .before .before .before .before .before .before .before .before .before .args .heads .now) (c .before .before .before .before .before .before .before .before .before .before .before .before .before .before .args .rows .now) (c .before .before .before .before .before .before .before .before .before .before .before .before .before .before .args .slip .now) _ _ (c .before .before .before .before .before .before .before .before .before .before .before .before .before .before .args .memory .now) _ (c .before .before .before .before .before .before .before .before .before .before .read-beside .ensures) (c .before .before .before .before .before .before .before .before .c2 .given .1) (c .before .before .before .before .before .before .before .before .before .before .before .before .before .before .pre), buffer-long (c .before .before .before .before .before .before .before .before .before .before .before .before .before .before .args .heads .now) (c .before .before .before .before .before .before .before .before .before .before .before .before .before .before .args .rows .now) (c .before .before .before .before .before .before .before .before .before .before .before .before .before .before .args .slip .now) _ _ (c .before .before .before .before .before .before .before .before .before .before .before .before .before .before .args .memory .now) _ (c .before .before .before .before .before .before .before .before .before .before .read-beside .ensures) (c .before .before .before .before .before .before .before .before .c2 .given .1) (c .before .before .before .before .before .before .before .before .before .before .before .before .before .before .pre) (omega (arith, length-replicate {A = ℕ} 4096 0)), length-replicate {A = ℕ} 4096 0)) (c .before .before .before .before .before .before .if1 .left) _ (c .before .before .load .ensures)
 
 pub read-slip-spec : {M : Type 1} → statement M
 read-slip-spec =
     tie.close
     (tie.spec
+    read-beside-requires
+    enum-known-c
+    enum-known-c-2
     returns
-    returns-2
-    returns-3
     mul-end
-    uncount-requires
-    slice-aggregate-read-tree
-    read-tree-requires
-    enum-known-a
-    place-in-requires
-    enum-told
-    mark-tree-requires
-    slice-aggregate-check-counts
-    check-counts-requires
-    returns-4
-    returns-5)
+    slice-aggregate-tree
+    slice-aggregate-load
+    load-requires
+    returns-2
+    same-length
+    returns-3)

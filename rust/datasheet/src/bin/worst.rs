@@ -157,7 +157,7 @@ fn checks_table() -> Vec<String> {
 fn words_of<'a>(check: &str, input: &'a Input) -> &'a [u32] {
     match check {
         "grammar" => &input.grammar,
-        "tree" => &input.tree,
+        "slip" => &input.slip,
         _ => &input.rules,
     }
 }
@@ -166,7 +166,7 @@ fn words_of<'a>(check: &str, input: &'a Input) -> &'a [u32] {
 fn check_timed<'a>(check: &str, input: &'a Input) -> Timed<'a> {
     let call = match check {
         "grammar" => abi::check_grammar,
-        "tree" => abi::check_tree,
+        "slip" => abi::check_slip,
         _ => abi::check_rules,
     };
     Box::new(move || _ = black_box(call(black_box(input))))

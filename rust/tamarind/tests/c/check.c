@@ -8,7 +8,8 @@
 
 static const uint32_t grammar[] = {3, 8, 1, 1, 1, 4, 2, 1, 2};
 static const uint32_t endless[] = {1, 8, 1, 1, 0};
-static const uint32_t tree[] = {0, 0, 1, 0, 2, 200, 1, 0, 2, 500, 1, 1};
+static const uint32_t slip[] = {0, 0, 6, 1, 0, 5, 2, 200, 1, 1, 0, 3, 2, 500, 1, 1, 1, 1};
+static const uint32_t miscounted[] = {0, 0, 6, 1, 0, 5, 2, 200, 1, 1, 0, 2, 2, 500, 1, 1, 1, 1};
 static const uint32_t rules[] = {1, 9, 2, 2, 1, 2, 200, 1, 2, 4200};
 static const uint32_t untyped[] = {1, 9, 2, 2, 1, 2, 200, 1, 1, 1};
 
@@ -29,8 +30,8 @@ static void fill(uint32_t *words, size_t count) {
 
 /* What is posted after an outcome: which words, and how many. */
 static const char *posted(const tamarind_outcome *outcome, size_t result_len, size_t *words) {
-    const uint32_t *post = tamarind_output(outcome, result, result_len, tree, 12, words);
-    return post == result ? "result" : post == tree ? "tree" : "neither";
+    const uint32_t *post = tamarind_output(outcome, result, result_len, slip, 18, words);
+    return post == result ? "result" : post == slip ? "slip" : "neither";
 }
 
 /* Runs over dirty memories and prints the outcome, whether both memories are as
@@ -42,11 +43,11 @@ static void run(const uint32_t *book, size_t book_len, uint32_t budget, const ui
     memcpy(result_due, result, sizeof result);
     memcpy(work_due, work, sizeof work);
     if (filled) {
-        memcpy(result_due, filled, 12 * sizeof *filled);
+        memcpy(result_due, filled, 18 * sizeof *filled);
         memset(work_due, 0, WORK * sizeof *work_due);
     }
     tamarind_outcome outcome =
-        tamarind_run(grammar, 9, book, book_len, tree, 12, budget, result, RESULT, work, WORK);
+        tamarind_run(grammar, 9, book, book_len, slip, 18, budget, result, RESULT, work, WORK);
     printf("%u %u %zu %u %u %zu", (unsigned)outcome.ending, (unsigned)outcome.number,
            outcome.position, (unsigned)outcome.attempts, (unsigned)outcome.replacements,
            outcome.filled);
@@ -68,13 +69,15 @@ int main(void) {
     print(tamarind_check_grammar(grammar, 9));
     print(tamarind_check_grammar(grammar, 8));
     print(tamarind_check_grammar(endless, 5));
-    print(tamarind_check_tree(grammar, 9, tree, 12));
-    print(tamarind_check_tree(grammar, 9, tree, 2));
-    print(tamarind_check_tree(endless, 5, tree, 12));
+    print(tamarind_check_slip(grammar, 9, slip, 18));
+    print(tamarind_check_slip(grammar, 9, slip, 3));
+    print(tamarind_check_slip(grammar, 9, slip, 17));
+    print(tamarind_check_slip(grammar, 9, miscounted, 18));
+    print(tamarind_check_slip(endless, 5, slip, 18));
     print(tamarind_check_rules(grammar, 9, rules, 10));
     print(tamarind_check_rules(grammar, 9, rules, 9));
     print(tamarind_check_rules(endless, 5, rules, 10));
-    const uint32_t rewritten[] = {0, 0, 1, 0, 2, 4200, 1, 0, 2, 500, 1, 1};
+    const uint32_t rewritten[] = {0, 0, 6, 1, 0, 5, 2, 4200, 1, 1, 0, 3, 2, 500, 1, 1, 1, 1};
     run(rules, 10, 3, rewritten);
     run(rules, 10, 2, rewritten);
     run(untyped, 10, 3, NULL);

@@ -10,9 +10,9 @@ tamarind_answer tamarind_check_grammar(const uint32_t *grammar, size_t grammar_l
     abort();
 }
 
-tamarind_answer tamarind_check_tree(const uint32_t *grammar, size_t grammar_len,
-                                    const uint32_t *tree, size_t tree_len) {
-    (void)grammar, (void)grammar_len, (void)tree, (void)tree_len;
+tamarind_answer tamarind_check_slip(const uint32_t *grammar, size_t grammar_len,
+                                    const uint32_t *slip, size_t slip_len) {
+    (void)grammar, (void)grammar_len, (void)slip, (void)slip_len;
     abort();
 }
 
@@ -24,17 +24,17 @@ tamarind_answer tamarind_check_rules(const uint32_t *grammar, size_t grammar_len
 
 tamarind_outcome tamarind_run(const uint32_t *grammar, size_t grammar_len,
                               const uint32_t *rules, size_t rules_len,
-                              const uint32_t *tree, size_t tree_len,
+                              const uint32_t *slip, size_t slip_len,
                               uint32_t budget,
                               uint32_t *result, size_t result_len,
                               uint32_t *work, size_t work_len) {
-    (void)grammar, (void)grammar_len, (void)rules, (void)rules_len, (void)tree, (void)tree_len;
+    (void)grammar, (void)grammar_len, (void)rules, (void)rules_len, (void)slip, (void)slip_len;
     (void)budget, (void)result, (void)result_len, (void)work, (void)work_len;
     abort();
 }
 
 tamarind_posting tamarind_words_to_post(uint32_t ending, size_t filled,
-                                        size_t result_len, size_t tree_len) {
-    (void)ending, (void)filled, (void)result_len, (void)tree_len;
+                                        size_t result_len, size_t slip_len) {
+    (void)ending, (void)filled, (void)result_len, (void)slip_len;
     abort();
 }

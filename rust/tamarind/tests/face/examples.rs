@@ -75,8 +75,8 @@ fn both_print_the_expected_text_and_stop_at_another_edition() {
 #[test]
 fn what_is_posted_is_what_the_bench_prints() {
     let bench = read(format!("{ROOT}/crates/bench/stdout"));
-    let tree = bench.lines().nth(1).expect("a tree");
+    let slip = bench.lines().nth(1).expect("a slip");
     let expected = read(format!("{ROOT}/examples/post.stdout"));
     let posted = expected.lines().find_map(|line| line.strip_prefix("post "));
-    assert_eq!(posted, Some(tree));
+    assert_eq!(posted, Some(slip));
 }

@@ -7,13 +7,16 @@ use tamarind::{meaning, EDITION};
 
 use crate::{compiler, folder, output, ARCHIVE, CRATE, STRICT};
 
-const CHECKS: &str = "0 0\n10 8\n12 1\n0 0\n31 2\n12 1\n0 0\n20 9\n12 1\n";
+const CHECKS: &str = "\
+    0 0\n10 8\n12 1\n\
+    0 0\n31 3\n30 0\n34 11\n12 1\n\
+    0 0\n20 9\n12 1\n";
 const RUNS: &str = "\
-    0 0 0 3 1 12 memories right, post result 12\n\
-    1 40 0 2 1 12 memories right, post tree 12\n\
-    2 23 8 0 0 0 memories right, post tree 12\n\
-    2 3 0 0 0 0 memories right, post tree 12\n";
-const POSTS: &str = "post result 8\npost tree 12\npost tree 12\n";
+    0 0 0 3 1 18 memories right, post result 18\n\
+    1 40 0 2 1 18 memories right, post slip 18\n\
+    2 23 8 0 0 0 memories right, post slip 18\n\
+    2 3 0 0 0 0 memories right, post slip 18\n";
+const POSTS: &str = "post result 8\npost slip 18\npost slip 18\n";
 
 fn expected() -> String {
     let edition = format!("edition {EDITION} 1\n");

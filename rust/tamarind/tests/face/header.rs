@@ -2,10 +2,11 @@
 //! compiler that lays the structs out otherwise refuses it.
 
 use std::collections::{BTreeMap, BTreeSet};
+use std::fs;
 
 use tamarind::{meaning, Stop};
 
-use crate::{compiler, ended, read, CRATE, ROOT};
+use crate::{compiler, ended, folder, read, CRATE, ROOT};
 
 type Constants = BTreeMap<String, u64>;
 
@@ -57,14 +58,14 @@ fn upper(name: &str) -> String {
 /// Where the proved code has each limit, the edition and the sources of a posting.
 const PROVED: [(&str, &str, &str); 26] = [
     ("EDITION", "tamarind/src/lib.rt", "EDITION"),
-    ("POST_TREE", "tamarind/src/lib.rt", "POST_TREE"),
+    ("POST_SLIP", "tamarind/src/lib.rt", "POST_SLIP"),
     ("POST_RESULT", "tamarind/src/lib.rt", "POST_RESULT"),
     ("RESULT_WORDS", "tamarind/src/lib.rt", "LEAST_RESULT"),
     ("WORK_WORDS", "tamarind/src/lib.rt", "LEAST_WORK"),
     ("GREATEST_BUDGET", "tamarind/src/lib.rt", "MOST_BUDGET"),
     ("MOST_GRAMMAR_WORDS", "grammar/src/limits.rt", "MOST_WORDS"),
     ("MOST_RULES_WORDS", "rules/src/limits.rt", "MOST_WORDS"),
-    ("MOST_TREE_WORDS", "tree/src/limits.rt", "MOST_WORDS"),
+    ("MOST_SLIP_WORDS", "tree/src/limits.rt", "MOST_SLIP_WORDS"),
     ("MOST_TYPES", "grammar/src/limits.rt", "MOST_TYPES"),
     ("MOST_FORMS", "grammar/src/limits.rt", "MOST_FORMS"),
     ("MOST_ELEMENTS", "grammar/src/limits.rt", "MOST_ELEMENTS"),
@@ -162,7 +163,7 @@ fn the_texts_name_the_limits() {
         (5, "MOST_RULES_WORDS", 0),
         (24, "MOST_VARIABLES", 1),
         (24, "MOST_NESTING", 0),
-        (30, "MOST_TREE_WORDS", 0),
+        (30, "MOST_SLIP_WORDS", 0),
         (33, "MOST_NESTING", 0),
         (41, "MOST_NESTED_CALLS", 1),
         (42, "MOST_NODES", 0),
@@ -173,6 +174,36 @@ fn the_texts_name_the_limits() {
         let text = meaning(number);
         let value = grouped(limits[limit] + one_more);
         assert!(text.contains(&value), "{text}: not {value}");
+    }
+}
+
+/// Whether a program compiles that names this.
+fn compiles(name: &str) -> bool {
+    let file = folder("named").join("named.c");
+    let text = "#include \"tamarind.h\"\nsize_t named(void);\n";
+    let used = format!("{text}size_t named(void) {{ return (size_t){name}; }}\n");
+    fs::write(&file, used).expect("written");
+    let mut gcc = compiler("gcc");
+    ended(gcc.arg("-fsyntax-only").arg(&file)).0
+}
+
+/// A program for two words a node must be looked at before it is compiled again.
+#[test]
+fn the_names_of_two_words_a_node_are_gone() {
+    for (now, before) in [
+        ("tamarind_check_slip", "tamarind_check_tree"),
+        ("TAMARIND_MOST_SLIP_WORDS", "TAMARIND_MOST_TREE_WORDS"),
+        ("TAMARIND_POST_SLIP", "TAMARIND_POST_TREE"),
+        ("TAMARIND_REFUSAL_SLIP_SIZE", "TAMARIND_REFUSAL_TREE_SIZE"),
+        ("TAMARIND_REFUSAL_SLIP_END", "TAMARIND_REFUSAL_TREE_END"),
+        ("TAMARIND_REFUSAL_SLIP_WORD", "TAMARIND_REFUSAL_TREE_WORD"),
+        (
+            "TAMARIND_REFUSAL_SLIP_NESTING",
+            "TAMARIND_REFUSAL_TREE_NESTING",
+        ),
+    ] {
+        assert!(compiles(now), "{now}");
+        assert!(!compiles(before), "{before}");
     }
 }
 
