@@ -1,7 +1,7 @@
 -- Laws of marked trees. Assumes nothing.
 use Prim.Native.Nat.{ℕ, zero, suc, _+_, _*_, _<_, _≤_, max}
 use mathlib.Core.Path.{_≡_, refl, sym, ap, ap₂, _∙_}
-use mathlib.Core.List.{List, [], _∷_, _++_, map}
+use mathlib.Core.List.{List, [], _∷_, _++_, map, append-assoc}
 use mathlib.Core.Bool.{Bool, true, false}
 use native.Mathlib.Omega.{arith}
 use lib.ListN.{length, getD, drop}
@@ -11,7 +11,7 @@ use Rattle.words.specs.Reader.{Words, pick}
 use Rattle.grammar.specs.Grammar.{Kind, token, opt, sequence, forms, Grammar}
 use Rattle.grammar.specs.Kinds.{kindOf, children}
 use Rattle.tree.specs.Tree.{Trees, none, node, size, levelsOf, levels, nestingFrom, nesting, first, after, firstTree}
-use Rattle.tree.proofs.Trees.{tells, first-same}
+use Rattle.tree.proofs.Trees.{tells, split, first-append, first-after}
 use Rattle.marks.specs.Marked.{mark, typeIn, sizeIn, nestingIn, markOf, marked, unmarked}
 
 -- WHAT A MARK SAYS
@@ -54,6 +54,14 @@ unmarked-value (w ∷ v ∷ ws) h zero e l = refl
 unmarked-value (w ∷ v ∷ ws) h (suc zero) e l = absurd (omega arith)
 unmarked-value (w ∷ v ∷ ws) zero (suc (suc q)) e l = absurd (omega arith)
 unmarked-value (w ∷ v ∷ ws) (suc h) (suc (suc q)) e l = unmarked-value ws h q (omega arith) (omega arith)
+
+-- the first tree is the same, whatever follows the trees
+first-same : {g : Grammar} {t v : ℕ} {ts : List ℕ} {ws : Words} → Trees g (t ∷ ts) (t ∷ v ∷ ws) → (b : Words) → firstTree g (t ∷ v ∷ (ws ++ b)) ≡ firstTree g (t ∷ v ∷ ws)
+first-same {g} {t} {v} {ts} {ws} r b =
+    let s = split (t ∷ v ∷ ws) (t ∷ []) ts r in
+    let e : (t ∷ v ∷ ws) ++ b ≡ firstTree g (t ∷ v ∷ ws) ++ (after g (t ∷ v ∷ ws) 1 ++ b) =
+    ap (λ l. l ++ b) (sym (first-after g (t ∷ v ∷ ws) 1)) ∙ append-assoc (firstTree g (t ∷ v ∷ ws)) (after g (t ∷ v ∷ ws) 1) b in
+    ap (firstTree g) e ∙ first-append (s .front) (after g (t ∷ v ∷ ws) 1 ++ b)
 
 pub marked-append : {g : Grammar} {ts : List ℕ} {u : Words} → Trees g ts u → (b : Words) → marked g (u ++ b) ≡ marked g u ++ marked g b
 unfolding marked markOf

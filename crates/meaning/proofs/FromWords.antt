@@ -6,7 +6,7 @@ use native.Mathlib.Omega.{arith}
 use lib.Dec.{leb}
 use borrow.Author.Tests.{leb-true}
 use Rattle.words.specs.Reader as R
-use Rattle.words.specs.Reader.{Read, value, accepted}
+use Rattle.words.specs.Reader.{Read, value}
 use Rattle.words.proofs.Laws.{then-value, require-value}
 use Rattle.grammar.specs.Grammar.{readGrammar}
 use Rattle.tree.specs.Tree.{Tree}

@@ -71,7 +71,7 @@ table =
     ∷ inWords 3 (3 ∷ 8 ∷ 1 ∷ 1 ∷ 1 ∷ 4 ∷ 2 ∷ 1 ∷ 2 ∷ []) (1 ∷ 9 ∷ 1 ∷ 1 ∷ 5 ∷ 1 ∷ 0 ∷ 64 ∷ 2 ∷ 1 ∷ 0 ∷ 64 ∷ 2 ∷ 64 ∷ 1 ∷ 6 ∷ 1 ∷ 0 ∷ 66 ∷ 0 ∷ 1 ∷ 0 ∷ 1002 ∷ 1 ∷ 65 ∷ 1 ∷ 65 ∷ 2 ∷ []) (0 ∷ 0 ∷ 6 ∷ 1 ∷ 0 ∷ 5 ∷ 2 ∷ 1000 ∷ 1 ∷ 1 ∷ 0 ∷ 3 ∷ 2 ∷ 300 ∷ 1 ∷ 1 ∷ 1 ∷ 1 ∷ []) (ended done 1 1 (0 ∷ 0 ∷ 4 ∷ 1 ∷ 0 ∷ 3 ∷ 2 ∷ 300 ∷ 1 ∷ 1 ∷ 1 ∷ 1 ∷ []))
     ∷ []
 
--- the words to post, with a result of five words and the slip 0 0 1 1: done with four filled, stopped with four, done with five, done with six
+-- the words to post, with a result of five words and the words 0 0 1 1 for the slip: done with four filled, stopped with four, done with five, done with six
 posted : List Words
 posted =
     output true 4 (8 ∷ 8 ∷ 9 ∷ 9 ∷ 7 ∷ []) (0 ∷ 0 ∷ 1 ∷ 1 ∷ [])

@@ -14,7 +14,7 @@ use Rattle.words.proofs.Stretches.{drop-pair}
 use Rattle.grammar.specs.Grammar.{Grammar}
 use Rattle.tree.specs.Tree.{Trees, size, nesting, firstTree}
 use Rattle.tree.specs.Slip.{uncounted, rightCounts}
-use Rattle.marks.specs.Marked.{mark, typeIn, sizeIn, markOf, marked}
+use Rattle.marks.specs.Marked.{typeIn, sizeIn, markOf, marked}
 use Rattle.marks.proofs.Marks.{mark-type, mark-size}
 use Rattle.marks.proofs.Marking.{type-there}
 use Rattle.marks.proofs.Spans.{node-of, first-size}

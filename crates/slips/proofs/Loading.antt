@@ -5,17 +5,16 @@ use mathlib.Core.List.{_++_}
 use native.Mathlib.Omega.{arith}
 use lib.ListN.{length, getD, take, drop, set, length-set, length-append, length-drop}
 use lib.Seq.{take-at, length-take-le}
-use Rattle.words.specs.Reader.{Words, Read, value}
+use Rattle.words.specs.Reader.{Words, value}
 use Rattle.words.specs.Views.{answer}
 use Rattle.words.specs.declared.Check.{Check}
 use Rattle.words.specs.declared.Check.the-variants.{Passed, Refused}
 use Rattle.words.proofs.Laws.{answer-passed}
 use Rattle.words.proofs.Stretches.{over-length, over, over-store, over-all}
 use Rattle.grammar.specs.Grammar.{Grammar}
-use Rattle.tables.specs.Tables.{Tables}
 use Rattle.tree.specs.Limits.{mostTreeWords}
 use Rattle.tree.specs.Tree.{Tree}
-use Rattle.tree.specs.Slip.{counted, readSlip}
+use Rattle.tree.specs.Slip.{readSlip}
 use Rattle.tree.specs.Views.{AreTables}
 use Rattle.tree.proofs.Trees.{trees-even}
 use Rattle.tree.proofs.Slip.{counted-length, slip-sound}
@@ -49,6 +48,7 @@ module _ (heads rows slip b b′ w : Words) (c : Check) (s : ReadBeside (λ g. r
     answered = λ g t. sym e ∙ s .answered g t;
     long = refl;
     kept = λ h. refl;
+    short = λ h. refl;
     tree = λ g ws next t q room. let h : Refused n p ≡ Passed next = sym e ∙ s .answered g t ∙ ap answer q in let z : _≡_ {A = ℕ} 0 1 = cc in absurd (omega arith);
   }
 
@@ -60,7 +60,7 @@ module _ (heads rows slip b b′ w : Words) (c : Check) (s : ReadBeside (λ g. r
     no-refusal h = let z : _≡_ {A = ℕ} 0 1 = cc in absurd (omega arith)
 
     pub beside-short : length w < mostTreeWords → Answers w (Passed p)
-    beside-short few = record { answered = λ g t. sym e ∙ s .answered g t; long = refl; kept = λ h. refl; tree = λ g ws next t q room. absurd (omega arith) }
+    beside-short few = record { answered = λ g t. sym e ∙ s .answered g t; long = refl; kept = λ h. refl; short = λ h. refl; tree = λ g ws next t q room. absurd (omega arith) }
 
     -- the slip is a tree with its counts, so that it has as many nodes as the tree
     record Whole (g : Grammar) (ws : Words) : Type 0 where
@@ -95,6 +95,7 @@ module _ (heads rows slip b b′ w : Words) (c : Check) (s : ReadBeside (λ g. r
           answered = λ g t. sym e ∙ s .answered g t;
           long = ap length is ∙ over-length (take end b′) w (omega (arith, part-long, slip-fits));
           kept = λ h. no-refusal h;
+          short = λ h. absurd (omega arith);
           tree = λ g ws next t q r.
               let n : end ≡ length ws = whole g ws next q .words in
               let there : take end b′ ≡ marked g ws = ap (λ i. take i b′) n ∙ ap (take (length ws)) (s .tree g ws next t q) ∙ take-at (marked g ws) (drop (length ws) b) (length ws) (marked-length g ws) in

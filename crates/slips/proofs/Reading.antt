@@ -1,8 +1,8 @@
 -- The check of a slip: its tree is read and marked in the buffer, then each count is held against its mark. Assumes nothing.
 use Prim.Native.Nat.{ℕ, _-_, _*_, _/_, _%_, _<_, _≤_}
-use mathlib.Core.Path.{_≡_, refl, sym, ap, _∙_}
+use mathlib.Core.Path.{_≡_, sym, ap, _∙_}
 use mathlib.Core.List.{[], _∷_, _++_}
-use mathlib.Core.Bool.{Bool, true, false}
+use mathlib.Core.Bool.{true}
 use native.Mathlib.Omega.{arith}
 use lib.ListN.{length, take, drop}
 use lib.Seq.{take-at, drop-at}
@@ -19,9 +19,8 @@ use Rattle.tables.specs.Tables.{Tables, readOf}
 use Rattle.tree.specs.Limits.{mostTreeWords, mostSlipWords}
 use Rattle.tree.specs.Tree.{Tree}
 use Rattle.tree.specs.Reading.{readTree}
-use Rattle.tree.specs.Slip.{uncounted, placeIn, inSlip, rightCounts, readSlip, readEdition, checkSlip}
+use Rattle.tree.specs.Slip.{uncounted, placeIn, inSlip, rightCounts, readSlip, checkSlip}
 use Rattle.tree.specs.Views.{InTables, AreTables}
-use Rattle.tree.proofs.Trees.{trees-even}
 use Rattle.tree.proofs.Accepted.{accepted-tree, tree-refused-within}
 use Rattle.tree.proofs.Slip.{uncounted-length}
 use Rattle.marks.specs.Marked.{marked, UnderWay}

@@ -1,5 +1,5 @@
 -- What the functions on slips promise. Assumes nothing: these are definitions.
-use Prim.Native.Nat.{ℕ, _+_, _≤_}
+use Prim.Native.Nat.{ℕ, _+_, _<_, _≤_}
 use mathlib.Core.Path.{_≡_}
 use mathlib.Core.List.{List, [], _∷_, _++_}
 use lib.ListN.{length, drop}
@@ -31,12 +31,13 @@ pub record ReadBeside (reading : Grammar → Read Words) (heads rows b b′ : Wo
   pub answered : InTables heads rows (λ g. r ≡ answer (reading g))
   pub tree : (g : Grammar) (ws : Words) (next : ℕ) → Tables g heads rows → reading g ≡ value ws next → b′ ≡ marked g ws ++ drop (length ws) b
 
--- the answer of a reading of a slip, and the memory afterwards: a refusal changes nothing; where the reading passes and there is room for every tree, the slip's
--- tree stands at its start, marked, and what is behind it is unchanged
+-- the answer of a reading of a slip, and the memory afterwards: a refusal changes nothing, nor does a slip where there is no room for every tree; otherwise the
+-- slip's tree stands at its start, marked, and what is behind it is unchanged
 pub record SlipRead (reading : Grammar → Read Words) (heads rows w w′ : Words) (r : Check) : Type 0 where
   pub answered : InTables heads rows (λ g. r ≡ answer (reading g))
   pub long : length w′ ≡ length w
   pub kept : {n p : ℕ} → r ≡ Refused n p → w′ ≡ w
+  pub short : length w < mostTreeWords → w′ ≡ w
   pub tree : (g : Grammar) (ws : Words) (next : ℕ) → Tables g heads rows → reading g ≡ value ws next → mostTreeWords ≤ length w → w′ ≡ marked g ws ++ drop (length ws) w
 
 -- the tree of the part is written to the result with its counts; what is behind them is unchanged

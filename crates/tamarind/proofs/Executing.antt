@@ -23,7 +23,7 @@ use Rattle.meaning.specs.Sound.{WellEnded, Sound}
 use Rattle.meaning.proofs.FromWords.{Read-all, read-all, read-typed, read-sound}
 use Rattle.slips.specs.Slips.{SlipWritten}
 use Rattle.rewrite.specs.Vars.{Vars, EnvAt, startsOf}
-use Rattle.calls.specs.Engine.{givenOf, Setting, EndedAs, Tree, Left, Calls}
+use Rattle.calls.specs.Engine.{givenOf, Setting, EndedAs, Left, Calls}
 use Rattle.calls.specs.declared.Called.{Called}
 use Rattle.tamarind.specs.declared.Stop.{Stop}
 use Rattle.tamarind.specs.declared.Outcome as Code

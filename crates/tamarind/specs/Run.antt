@@ -1,14 +1,13 @@
 -- WHAT `run` PROMISES: its answer is the meaning's outcome, and both memories afterwards are the meaning's too. Assumes nothing: these are definitions.
 use Prim.Native.Nat.{ℕ, _-_, _/_, _≤_}
 use mathlib.Core.Path.{_≡_}
-use mathlib.Core.Bool.{true}
 use lib.ListN.{length, take}
-use Rattle.words.specs.Reader.{Words, Read, value, andThen, return, accepted}
+use Rattle.words.specs.Reader.{Words, Read, value, andThen, return}
 use Rattle.words.specs.Views.{answer}
 use Rattle.words.specs.declared.Check.{Check}
 use Rattle.words.specs.declared.Check.the-variants as Check
-use Rattle.grammar.specs.Grammar.{Grammar, readGrammar}
-use Rattle.tables.specs.Tables.{Tables, readOf}
+use Rattle.grammar.specs.Grammar.{readGrammar}
+use Rattle.tables.specs.Tables.{Tables}
 use Rattle.tree.specs.Slip.{readSlip}
 use Rattle.judgement.specs.Typing.{readRules}
 use Rattle.meaning.specs.Meaning.{Ending, done, stopped}

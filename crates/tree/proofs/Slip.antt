@@ -1,21 +1,20 @@
 -- THE READER OF A SLIP ACCEPTS EXACTLY THE TREES of type 0 within the limits, with their counts; and the laws of counts. Assumes nothing.
-use Prim.Native.Nat.{ℕ, zero, suc, _+_, _*_, _/_, _%_, _<_}
+use Prim.Native.Nat.{ℕ, suc, _+_, _*_, _/_, _%_}
 use mathlib.Core.Path.{_≡_, refl, sym, ap, ap₂, subst, _∙_}
-use mathlib.Core.List.{List, [], _∷_, _++_}
+use mathlib.Core.List.{[], _∷_}
 use mathlib.Core.Bool.{Bool, true, false}
 use native.Mathlib.Omega.{arith}
-use lib.ListN.{length, getD, take, drop}
-use lib.Seq.{drop-nil, take-at}
+use lib.ListN.{length}
 use lib.Dec.{eqb}
 use borrow.Author.Tests.{le-leb, eq-eqb, eqb-true}
 use Rattle.words.specs.Reader.{Words, pick, and, between, Read, value, refused, andThen, return, accepted}
 use Rattle.words.proofs.Laws.{then-value, require-value, accepted-value, and-both}
 use Rattle.grammar.specs.Grammar.{Grammar}
 use Rattle.tree.specs.Limits.{mostSlipWords}
-use Rattle.tree.specs.Tree.{Trees, none, node, Tree, size, after, firstTree}
+use Rattle.tree.specs.Tree.{Tree, size, firstTree}
 use Rattle.tree.specs.Reading.{readTree}
 use Rattle.tree.specs.Slip.{uncounted, counted, inSlip, rightCounts, readSlip, readEdition, inEdition, SlipExactly}
-use Rattle.tree.proofs.Trees.{Even, no-odd, even-tail, trees-even, tree-some, split, first-same, first-after}
+use Rattle.tree.proofs.Trees.{Even, no-odd, even-tail, trees-even, tree-some}
 use Rattle.tree.proofs.Accepted.{accepted-tree, tree-is-accepted, tree-next}
 
 -- THREE WORDS A NODE, and two
@@ -26,13 +25,6 @@ uncounted-length [] = refl
 uncounted-length (t ∷ []) = refl
 uncounted-length (t ∷ v ∷ []) = refl
 uncounted-length (t ∷ v ∷ c ∷ ws) = let e = uncounted-length ws in omega arith
-
-pub uncounted-size : (ws : Words) → size (uncounted ws) ≡ length ws / 3
-unfolding uncounted size
-uncounted-size [] = refl
-uncounted-size (t ∷ []) = refl
-uncounted-size (t ∷ v ∷ []) = refl
-uncounted-size (t ∷ v ∷ c ∷ ws) = let e = uncounted-size ws in omega arith
 
 pub counted-length : (g : Grammar) (ws : Words) → length (counted g ws) ≡ 3 * size ws
 unfolding counted size
@@ -119,64 +111,3 @@ slip-exactly false g ws tree = record {
 pub slip-accepted : (g : Grammar) (ws : Words) → (accepted (readSlip g ws) ≡ true → (tree : Words) × Tree g 0 tree × (ws ≡ counted g tree)) × ((tree : Words) → Tree g 0 tree → ws ≡ counted g tree → accepted (readSlip g ws) ≡ true)
 slip-accepted g ws =
     (λ e. let a = accepted-value (readSlip g ws) e in let b = slip-sound g ws (a .0) (a .1) (a .2) in (a .0, b .0, b .1), λ tree x e. rw (e, slip-complete x))
-
--- A NODE OF THE SLIP, i nodes on: its type, its value, and its tree's number of nodes
-
-pub counted-drop : (g : Grammar) (ws : Words) (i : ℕ) → drop (3 * i) (counted g ws) ≡ counted g (drop (2 * i) ws)
-unfolding counted
-counted-drop g ws zero = refl
-counted-drop g [] (suc i) = rw (drop-nil {A = ℕ} (3 * suc i), drop-nil {A = ℕ} (2 * suc i))
-counted-drop g (t ∷ []) (suc i) =
-    let b : 2 * suc i ≡ suc (suc (2 * i)) = omega arith in
-    rw (drop-nil {A = ℕ} (3 * suc i), b, drop-nil {A = ℕ} (suc (2 * i)))
-counted-drop g (t ∷ v ∷ ws) (suc i) =
-    let a : 3 * suc i ≡ suc (suc (suc (3 * i))) = omega arith in
-    let b : 2 * suc i ≡ suc (suc (2 * i)) = omega arith in
-    rw (a, b) (counted-drop g ws i)
-
-pub uncounted-drop : (ws : Words) (i : ℕ) → drop (2 * i) (uncounted ws) ≡ uncounted (drop (3 * i) ws)
-unfolding uncounted
-uncounted-drop ws zero = refl
-uncounted-drop [] (suc i) = rw (drop-nil {A = ℕ} (3 * suc i), drop-nil {A = ℕ} (2 * suc i))
-uncounted-drop (t ∷ []) (suc i) =
-    let a : 3 * suc i ≡ suc (suc (suc (3 * i))) = omega arith in
-    rw (drop-nil {A = ℕ} (2 * suc i), a, drop-nil {A = ℕ} (suc (suc (3 * i))))
-uncounted-drop (t ∷ v ∷ []) (suc i) =
-    let a : 3 * suc i ≡ suc (suc (suc (3 * i))) = omega arith in
-    rw (drop-nil {A = ℕ} (2 * suc i), a, drop-nil {A = ℕ} (suc (3 * i)))
-uncounted-drop (t ∷ v ∷ c ∷ ws) (suc i) =
-    let a : 3 * suc i ≡ suc (suc (suc (3 * i))) = omega arith in
-    let b : 2 * suc i ≡ suc (suc (2 * i)) = omega arith in
-    rw (a, b) (uncounted-drop ws i)
-
-pub record NodeCounted (g : Grammar) (ws slip : Words) (i : ℕ) : Type 0 where
-  pub type : getD slip (3 * i) 0 ≡ getD ws (2 * i) 0
-  pub value : getD slip (3 * i + 1) 0 ≡ getD ws (2 * i + 1) 0
-  pub count : getD slip (3 * i + 2) 0 ≡ size (firstTree g (drop (2 * i) ws))
-
-pub node-counted : (g : Grammar) (ws : Words) (i : ℕ) → i < size ws → NodeCounted g ws (counted g ws) i
-unfolding counted size
-node-counted g [] i h = absurd (omega arith)
-node-counted g (t ∷ []) i h = absurd (omega arith)
-node-counted g (t ∷ v ∷ ws) zero h = record { type = refl; value = refl; count = refl }
-node-counted g (t ∷ v ∷ ws) (suc i) h =
-    let n = node-counted g ws i (omega arith) in
-    let a : 3 * suc i ≡ suc (suc (suc (3 * i))) = omega arith in
-    let b : 2 * suc i ≡ suc (suc (2 * i)) = omega arith in
-    let a₁ : 3 * suc i + 1 ≡ suc (suc (suc (3 * i + 1))) = omega arith in
-    let b₁ : 2 * suc i + 1 ≡ suc (suc (2 * i + 1)) = omega arith in
-    let a₂ : 3 * suc i + 2 ≡ suc (suc (suc (3 * i + 2))) = omega arith in
-    record { type = rw (a, b) (n .type); value = rw (a₁, b₁) (n .value); count = rw (a₂, b) (n .count) }
-
--- THE TREE OF A NODE IS A STRETCH OF THE SLIP: its own slip
-
-pub counted-append : {g : Grammar} {ts : List ℕ} {u : Words} → Trees g ts u → (b : Words) → counted g (u ++ b) ≡ counted g u ++ counted g b
-unfolding counted
-counted-append none b = refl
-counted-append (node {t} {v} {ts} {ws} fine q) b = rw (first-same (node {ts = ts} fine q) b, counted-append q b)
-
-pub counted-first : {g : Grammar} {t : ℕ} {ts : List ℕ} (ws : Words) → Trees g (t ∷ ts) ws → take (3 * size (firstTree g ws)) (counted g ws) ≡ counted g (firstTree g ws)
-counted-first {g} {t} {ts} ws r =
-    let s = split ws (t ∷ []) ts r in
-    ap (λ l. take (3 * size (firstTree g ws)) (counted g l)) (sym (first-after g ws 1)) ∙ ap (take (3 * size (firstTree g ws))) (counted-append (s .front) (after g ws 1))
-    ∙ take-at (counted g (firstTree g ws)) (counted g (after g ws 1)) (3 * size (firstTree g ws)) (counted-length g (firstTree g ws))

@@ -12,7 +12,7 @@ use Rattle.words.proofs.Laws.{and-both}
 use Rattle.grammar.specs.Grammar.{Kind, token, opt, sequence, forms, Grammar}
 use Rattle.grammar.specs.Kinds.{kindOf, allowed, childrenOf, children}
 use Rattle.tree.specs.Limits.{mostNodes, mostNesting}
-use Rattle.tree.specs.Tree.{Trees, none, node, size, levelsOf, levels, nestingFrom, nesting, Tree, areTrees, isTree, first, after, firstTree, typeOf}
+use Rattle.tree.specs.Tree.{Trees, none, node, size, levelsOf, levels, nestingFrom, nesting, Tree, areTrees, isTree, first, after, typeOf}
 use Rattle.tree.specs.Rest.{Positive}
 
 -- TWO WORDS A NODE
@@ -169,14 +169,6 @@ after-append {g} (node {t} {v} {ts} {ws} fine q) b =
 pub no-prefix : {g : Grammar} {xs : List ℕ} {u : Words} → Trees g xs u → (b : Words) → Trees g xs (u ++ b) → b ≡ []
 no-prefix {g} {xs} {u} q b r =
     sym (after-append q b) ∙ none-left (after g (u ++ b) (length xs)) (split (u ++ b) xs [] (rw append-nil r) .back)
-
--- the first tree is the same, whatever follows the trees
-pub first-same : {g : Grammar} {t v : ℕ} {ts : List ℕ} {ws : Words} → Trees g (t ∷ ts) (t ∷ v ∷ ws) → (b : Words) → firstTree g (t ∷ v ∷ (ws ++ b)) ≡ firstTree g (t ∷ v ∷ ws)
-first-same {g} {t} {v} {ts} {ws} r b =
-    let s = split (t ∷ v ∷ ws) (t ∷ []) ts r in
-    let e : (t ∷ v ∷ ws) ++ b ≡ firstTree g (t ∷ v ∷ ws) ++ (after g (t ∷ v ∷ ws) 1 ++ b) =
-    ap (λ l. l ++ b) (sym (first-after g (t ∷ v ∷ ws) 1)) ∙ append-assoc (firstTree g (t ∷ v ∷ ws)) (after g (t ∷ v ∷ ws) 1) b in
-    ap (firstTree g) e ∙ first-append (s .front) (after g (t ∷ v ∷ ws) 1 ++ b)
 
 -- .. so the words at a place show the tree there: if they begin with a tree, that is it
 pub prefix-first : {g : Grammar} {xs : List ℕ} {u : Words} → Trees g xs u → (r : Words) → take (length u) r ≡ u → first g r (length xs) ≡ u

@@ -351,8 +351,10 @@ fn operations_reach_the_limits_and_just_pass_them() {
 #[test]
 fn lists_have_refused_runs_and_memories_of_every_kind() {
     let (mut short, mut least, mut longer, mut between) = (0, 0, 0, 0);
+    let mut results: BTreeMap<usize, u32> = BTreeMap::new();
     for seed in 0..1_000 {
         let list = run_list(seed);
+        *results.entry(list.result.len()).or_default() += 1;
         for (words, limit) in [
             (&list.result, limits::RESULT_WORDS),
             (&list.work, limits::WORK_WORDS),
@@ -372,6 +374,11 @@ fn lists_have_refused_runs_and_memories_of_every_kind() {
     println!("of 2000 memories {short} are too short, {least} just long enough, {longer} longer");
     println!("{between} of 1000 lists have a refused run between two accepted ones");
     assert!(short >= LEAST && least >= LEAST && longer >= LEAST && between >= LEAST);
+    // Two words a node would need 4,096.
+    for length in [0, 4_096, 6_141, 6_142, 6_143, 6_144, 6_145, 6_146, 6_147] {
+        let count = results.get(&length).copied().unwrap_or(0);
+        assert!(count >= 3, "a result of {length} words comes {count} times");
+    }
 }
 
 #[test]
