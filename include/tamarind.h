@@ -2,10 +2,12 @@
  * 64-bit x86 Linux. Link with libtamarind.a.
  *
  * It rewrites a slip, a tree in 32-bit words, by a rule book into the words
- * that are posted. Each function promises its whole outcome on every input: any
- * words of any length may be passed, and what is not allowed is refused with a
- * number and a position. docs/bench.md says what each number asks of a rule
- * writer, docs/DATASHEET.md what a call costs; a release has both beside this.
+ * that are posted, and it converts slips of an old grammar to a new one. Each
+ * function promises its whole outcome on every input: any words of any length
+ * may be passed, and what is not allowed is refused with a number and a
+ * position. docs/bench.md says what each number asks of a rule writer,
+ * docs/convert.md how a grammar is renumbered, docs/DATASHEET.md what a call
+ * costs; a release has them beside this.
  *
  * A slip has three words for each node of its tree, a parent's before its
  * children's: the node's type, its value, and its count, which is the number of
@@ -15,8 +17,10 @@
  *
  * and a terminal steps over the field that begins at slip[at] by its count:
  * at += 3 * slip[at + 2]. Every count is right in a slip that
- * tamarind_check_slip passes, and in what a run has filled of its result.
- * Grammars and rule books have no counts.
+ * tamarind_check_slip passes, and in what a run or a conversion has filled of
+ * its result. Grammars, rule books and tables have no counts. Slips of two words
+ * a node, without counts, are of older editions: only tamarind_convert takes
+ * them, where its caller says so.
  *
  * What a caller guarantees of every call:
  * - A pointer points to as many words as its length says, aligned as uint32_t
@@ -32,11 +36,13 @@
  *   call.
  * - Any number of threads may call at once, each with a result and a work
  *   memory of its own.
- * - Nothing is written but `result` and `work` of a run, as said there.
+ * - Nothing is written but `result` and `work` of a run and `result` of a
+ *   conversion, as said there.
  */
 #ifndef TAMARIND_H
 #define TAMARIND_H
 
+#include <stdbool.h>
 #include <stddef.h>
 #include <stdint.h>
 
@@ -51,13 +57,14 @@ extern "C" {
  * sequences. 5 is T-05: in a pattern a variable whose tree holds an empty name
  * or string matches nothing. 6 is T-06: reach 3, the one-pass rule. 7 is T-07:
  * each node of a slip and of a result has a third word, the number of nodes in
- * its tree.
+ * its tree. 8 is T-08: tamarind_convert, which converts a slip of one grammar to
+ * a slip of another.
  *
  * tamarind_edition() is the archive's. A program asks tamarind_is_this_edition()
  * once when it starts, and makes no other call if the answer is 0: header and
  * archive do not belong together. An archive that is older than editions does
  * not link. */
-#define TAMARIND_EDITION 7
+#define TAMARIND_EDITION 8
 
 uint32_t tamarind_edition(void);
 
@@ -103,7 +110,8 @@ static inline int tamarind_is_this_edition(void) {
 #define TAMARIND_MOST_NESTED_CALLS 32
 #define TAMARIND_MOST_LIVE_NODES 6144
 
-/* Refusals: nothing was run. tamarind_meaning says what each stands for. */
+/* Refusals: nothing was run or converted. tamarind_meaning says what each stands
+ * for. */
 #define TAMARIND_REFUSAL_RESULT_TOO_SHORT 1
 #define TAMARIND_REFUSAL_WORK_TOO_SHORT 2
 #define TAMARIND_REFUSAL_BUDGET 3
@@ -122,6 +130,8 @@ static inline int tamarind_is_this_edition(void) {
 #define TAMARIND_REFUSAL_SLIP_WORD 32
 #define TAMARIND_REFUSAL_SLIP_NESTING 33
 #define TAMARIND_REFUSAL_SLIP_COUNT 34
+#define TAMARIND_REFUSAL_TABLE_NAMES 60
+#define TAMARIND_REFUSAL_TABLE_FIT 61
 
 /* Stops: the run ended before it was done. */
 #define TAMARIND_STOP_BUDGET_SPENT 40
@@ -148,11 +158,13 @@ static inline const char *tamarind_meaning(uint32_t number) {
     case TAMARIND_REFUSAL_RULES_REFERENCE: return "variable not there yet, rule or operation not there or not usable here or on its scope, or argument count";
     case TAMARIND_REFUSAL_RULES_PAIR: return "a pair, value, type or variable's type that cannot stand there, or pairs short or over";
     case TAMARIND_REFUSAL_RULES_LIMIT: return "17th variable of a rule, or a pattern or replacement nested over 64";
-    case TAMARIND_REFUSAL_SLIP_SIZE: return "slip of no words, of a count that is no multiple of three, or over 6,144";
+    case TAMARIND_REFUSAL_SLIP_SIZE: return "slip of no words, of a count that is no multiple of three, or over 6,144; at two words a node an odd count, or over 4,096";
     case TAMARIND_REFUSAL_SLIP_END: return "slip ends early, or words left over";
     case TAMARIND_REFUSAL_SLIP_WORD: return "type, form or value not allowed in the slip";
     case TAMARIND_REFUSAL_SLIP_NESTING: return "slip nested over 64";
     case TAMARIND_REFUSAL_SLIP_COUNT: return "a count in the slip is wrong";
+    case TAMARIND_REFUSAL_TABLE_NAMES: return "the table is too short, too long or names something not in the new grammar";
+    case TAMARIND_REFUSAL_TABLE_FIT: return "a mapped type differs in kind or class, a mapped element or form differs in its mapped types, or type 0 does not map to type 0";
     case TAMARIND_STOP_BUDGET_SPENT: return "an attempt is due and the budget is spent";
     case TAMARIND_STOP_CALLS_TOO_DEEP: return "a 33rd nested call, main being the first";
     case TAMARIND_STOP_TOO_MANY_NODES: return "a tree would pass 2,048 nodes";
@@ -244,6 +256,48 @@ static inline const uint32_t *tamarind_output(const tamarind_outcome *outcome,
     return posting.source == TAMARIND_POST_RESULT ? result : slip;
 }
 
+/* Which grammar of a conversion is at fault. */
+#define TAMARIND_OLD_GRAMMAR 1
+#define TAMARIND_NEW_GRAMMAR 2
+
+/* What came of a conversion. */
+typedef struct {
+    uint32_t number;  /* of the refusal; 0 when converted */
+    size_t position;  /* of a refusal, otherwise 0 */
+    uint32_t grammar; /* one of the two above for refusals 4 and 10 to 12, otherwise 0 */
+    size_t filled;    /* words of the result that are the new slip; 0 when refused */
+} tamarind_conversion;
+
+/* Converts a slip of the old grammar to a slip of the new one, for a bank that
+ * renumbers its grammar. docs/convert.md has an example, word by word.
+ *
+ * The table has for each type of the old grammar, in order, its type in the new
+ * one, and after it, if the type has forms, the number in the new grammar of
+ * each form. Literals may differ, in place and count too. The table is checked
+ * whole, so that nothing depends on which slip is converted.
+ *
+ * `counted` says how the slip is written: true, three words a node; false, two
+ * words a node, type and value, at most 4,096 words. Either way the result has
+ * three words a node.
+ *
+ * The first fault is told: 1, the result is under 6,144 words, whatever the slip
+ * needs; 4 of the old grammar, 4 of the new one; 10 to 12 of the old one, 10 to
+ * 12 of the new one; 60, then 61, of the table; 30 to 34 of the slip, against
+ * the old grammar, with positions at the slip's own words a node. A slip of two
+ * words a node has no counts, and so no 34.
+ *
+ * The result may hold any words, and is not the slip itself: no slip is
+ * converted in its own place. Converted, its first `filled` words are a slip
+ * of the new grammar, node for node that of the old: types and forms as the
+ * table says, all other values kept, every count right. Its other words are
+ * unchanged. A refused conversion has changed no word of it. */
+tamarind_conversion tamarind_convert(const uint32_t *old_grammar, size_t old_grammar_len,
+                                     const uint32_t *new_grammar, size_t new_grammar_len,
+                                     const uint32_t *table, size_t table_len,
+                                     const uint32_t *slip, size_t slip_len,
+                                     bool counted,
+                                     uint32_t *result, size_t result_len);
+
 #ifdef __cplusplus
 }
 #endif
@@ -273,6 +327,12 @@ TAMARIND_LAYOUT(outcome_filled, offsetof(tamarind_outcome, filled) == 24);
 TAMARIND_LAYOUT(posting_size, sizeof(tamarind_posting) == 16);
 TAMARIND_LAYOUT(posting_source, offsetof(tamarind_posting, source) == 0);
 TAMARIND_LAYOUT(posting_words, offsetof(tamarind_posting, words) == 8);
+TAMARIND_LAYOUT(bool_has_1_byte, sizeof(bool) == 1);
+TAMARIND_LAYOUT(conversion_size, sizeof(tamarind_conversion) == 32);
+TAMARIND_LAYOUT(conversion_number, offsetof(tamarind_conversion, number) == 0);
+TAMARIND_LAYOUT(conversion_position, offsetof(tamarind_conversion, position) == 8);
+TAMARIND_LAYOUT(conversion_grammar, offsetof(tamarind_conversion, grammar) == 16);
+TAMARIND_LAYOUT(conversion_filled, offsetof(tamarind_conversion, filled) == 24);
 
 #undef TAMARIND_LAYOUT
 

@@ -36,6 +36,13 @@ childrenOf (forms fs) t v = getD fs v []
 unfoldable pub children : Grammar → ℕ → ℕ → List ℕ
 children g t v = childrenOf (kindOf g t) t v
 
+-- the types of each form of a kind; only a kind with forms has any
+unfoldable pub formsOf : Kind → List (List ℕ)
+formsOf (token c) = []
+formsOf (opt e) = []
+formsOf (sequence style e) = []
+formsOf (forms fs) = fs
+
 -- is the kind a sequence, whose second child is "the rest"?
 unfoldable pub isSequenceKind : Kind → Bool
 isSequenceKind (token c) = false

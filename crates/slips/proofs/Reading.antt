@@ -1,8 +1,8 @@
 -- The check of a slip: its tree is read and marked in the buffer, then each count is held against its mark. Assumes nothing.
 use Prim.Native.Nat.{ℕ, _-_, _*_, _/_, _%_, _<_, _≤_}
-use mathlib.Core.Path.{_≡_, sym, ap, _∙_}
+use mathlib.Core.Path.{_≡_, refl, sym, ap, _∙_}
 use mathlib.Core.List.{[], _∷_, _++_}
-use mathlib.Core.Bool.{true}
+use mathlib.Core.Bool.{Bool, true, false}
 use native.Mathlib.Omega.{arith}
 use lib.ListN.{length, take, drop}
 use lib.Seq.{take-at, drop-at}
@@ -19,9 +19,10 @@ use Rattle.tables.specs.Tables.{Tables, readOf}
 use Rattle.tree.specs.Limits.{mostTreeWords, mostSlipWords}
 use Rattle.tree.specs.Tree.{Tree}
 use Rattle.tree.specs.Reading.{readTree}
-use Rattle.tree.specs.Slip.{uncounted, placeIn, inSlip, rightCounts, readSlip, checkSlip}
+use Rattle.tree.specs.Slip.{uncounted, placeIn, inSlip, rightCounts, readSlip, readEdition, checkSlip}
 use Rattle.tree.specs.Views.{InTables, AreTables}
 use Rattle.tree.proofs.Accepted.{accepted-tree, tree-refused-within}
+use Rattle.tree.proofs.Trees.{trees-even}
 use Rattle.tree.proofs.Slip.{uncounted-length}
 use Rattle.marks.specs.Marked.{marked, UnderWay}
 use Rattle.marks.specs.Post.{span, TreeMarked}
@@ -113,6 +114,40 @@ module _ (slip heads rows b : Words) where
                 let n : end ≡ length ws = sym (uncounted-length slip) ∙ ap length same in
                 whole g t ∙ rw (same, n);
           }
+
+-- THE TWO-WORD EDITION
+
+module _ (slip heads rows b : Words) (a : Check) (read : InTables heads rows (λ g. a ≡ answer (readTree g slip))) where
+  pub plain-refused : {n p : ℕ} → a ≡ Refused n p → ReadBeside (λ g. readEdition false g slip) heads rows b b (Refused n p)
+  unfolding readEdition
+  plain-refused e = refused-read (λ g t. rw (answer-refused (readTree g slip) a (read g t) e))
+
+  module _ {p : ℕ} (e : a ≡ Passed p) where
+    tree-here : (g : Grammar) → Tables g heads rows → Tree g 0 slip
+    tree-here g t = accepted-tree g 0 slip (rw (answer-passed (readTree g slip) a (read g t) e .1))
+
+    pub plain-fits : AreTables heads rows → length slip ≤ mostTreeWords
+    plain-fits t = let x = tree-here (t .0) (t .1) in omega (arith, trees-even (x .typed), x .nodes)
+
+    pub plain-passed : (b₁ : Words) → b₁ ≡ slip ++ drop (length slip) b → (b₂ : Words) → TreeMarked heads rows b₁ b₂ 0 (length slip) → ReadBeside (λ g. readEdition false g slip) heads rows b b₂ (Passed p)
+    unfolding readEdition
+    plain-passed b₁ eb b₂ m = record {
+      answered = λ g t. rw (answer-passed (readTree g slip) a (read g t) e .1);
+      tree = λ g ws next t h.
+          let q = then-value (readTree g slip) (λ u. return slip) h .3 in
+          let same : slip ≡ ws = cc in
+          laid-marked g slip heads rows b b₁ b₂ (length slip) refl t (tree-here g t) eb m ∙ rw same;
+    }
+
+-- EITHER EDITION
+
+module _ (counted : Bool) (slip heads rows b b′ : Words) (r : Check) where
+  pub edition-counted : counted ≡ true → ReadBeside (λ g. readSlip g slip) heads rows b b′ r → ReadBeside (λ g. readEdition counted g slip) heads rows b b′ r
+  unfolding readEdition
+  edition-counted e s = rw e s
+
+  pub edition-plain : counted ≡ false → ReadBeside (λ g. readEdition false g slip) heads rows b b′ r → ReadBeside (λ g. readEdition counted g slip) heads rows b b′ r
+  edition-plain e s = rw e s
 
 -- THE SINGLE CHECK
 

@@ -7,11 +7,12 @@ use tree::limits::MOST_WORDS;
 use words::Check;
 ghost use mathlib.Core.Path.{_≡_};
 ghost use mathlib.Core.List.{_++_};
+ghost use mathlib.Core.Bool.{false};
 ghost use Prim.Native.Nat.{_*_, _/_, _≤_};
 ghost use lib.ListN.{length, drop};
 ghost use Rattle.words.specs.Views.{answer};
 ghost use Rattle.tree.specs.Limits.{mostTreeWords};
-ghost use Rattle.tree.specs.Slip.{placeIn, uncounted, readSlip, checkSlip};
+ghost use Rattle.tree.specs.Slip.{placeIn, uncounted, readSlip, readEdition, checkSlip};
 ghost use Rattle.tree.specs.Views.{AreTables};
 ghost use Rattle.slips.specs.Slips.{countsAs, ReadBeside, SlipRead, SlipWritten};
 
@@ -96,6 +97,45 @@ fn load(ws: &[u32], memory: &mut [u32])
         memory[i] = ws[i];
         i = i + 1;
     }
+}
+
+// The same in the two-word edition, which has no counts.
+fn read_plain(
+    heads: &[u32; HEADS],
+    rows: &[u8; ROWS],
+    slip: &[u32],
+    buffer: &mut [u32; MOST_WORDS],
+) -> Check
+    requires { ⌜ AreTables (now heads) (now rows) ⌝ }
+    ensures { λ r. ⌜ ReadBeside (λ g. readEdition false g (now (slip .entry))) (now (heads .entry)) (now (rows .entry)) (now (buffer .entry)) (now (buffer .exit)) r ⌝ }
+{
+    let a = tree::read_tree(heads, rows, slip);
+    match a {
+        Check::Refused(no, p) => Check::Refused(no, p),
+        Check::Passed(p) => {
+            let end = slip.len();
+            load(slip, buffer);
+            marks::mark_tree(heads, rows, buffer, 0, end);
+            Check::Passed(p)
+        }
+    }
+}
+
+// The check of a slip in the three-word edition, or else in the two-word one. Where nothing is refused, its tree stands at the start of the buffer, marked.
+pub fn read_edition(
+    heads: &[u32; HEADS],
+    rows: &[u8; ROWS],
+    counted: bool,
+    slip: &[u32],
+    buffer: &mut [u32; MOST_WORDS],
+) -> Check
+    requires { ⌜ AreTables (now heads) (now rows) ⌝ }
+    ensures { λ r. ⌜ ReadBeside (λ g. readEdition counted g (now (slip .entry))) (now (heads .entry)) (now (rows .entry)) (now (buffer .entry)) (now (buffer .exit)) r ⌝ }
+{
+    if counted {
+        return read_beside(heads, rows, slip, buffer);
+    }
+    read_plain(heads, rows, slip, buffer)
 }
 
 // The check of a slip against the grammar whose tables these are. Where nothing is refused and the memory has room for every tree, the slip's tree stands at its

@@ -20,7 +20,7 @@ use Rattle.tables.specs.Filling.{listOf, kindRead, nextOf, typeCount, ro
 use Rattle.tables.proofs.Records.{element-at, FormAt, form-at, KindAt, isToken, isOpt, isSequence, hasForms, RecordAt, record-at}
 
 -- a sequence's map is no other kind's
-style-map : (s : Style) → (4 ≤ mapIn s) × (mapIn s ≡ 8 → ⊥)
+pub style-map : (s : Style) → (4 ≤ mapIn s) × (mapIn s ≡ 8 → ⊥)
 style-map repeat = (omega arith, λ e. omega arith)
 style-map list = (omega arith, λ e. omega arith)
 

@@ -10,10 +10,10 @@ use borrow.Author.Tests.{eq-eqb, ne-eqb}
 use Rattle.words.specs.Reader.{pick, or}
 use Rattle.grammar.specs.Limits.{greatestName, greatestNumber}
 use Rattle.grammar.specs.Grammar.{repeat, list, Kind, token, opt, sequence, forms, Grammar}
-use Rattle.grammar.specs.Kinds.{kindOf, allowed, childrenOf, children, isSequenceKind, isSequence, isNumberKind, isNumber, isTextKind, isText}
+use Rattle.grammar.specs.Kinds.{kindOf, allowed, childrenOf, children, isSequenceKind, isSequence, isNumberKind, isNumber, isTextKind, isText, formsOf}
 use Rattle.grammar.specs.Values.{valuesOf}
 use Rattle.grammar.proofs.Values.{values-allow}
-use Rattle.tables.specs.Tables.{mapOf, isToken, formsOf, Heads, Rows, rowAt, Counted}
+use Rattle.tables.specs.Tables.{mapOf, isToken, Heads, Rows, rowAt, Counted}
 
 -- A TYPE THAT IS NOT THERE
 

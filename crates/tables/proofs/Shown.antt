@@ -11,9 +11,9 @@ use Rattle.words.specs.Reader.{Words, value, andThen, _>>=_, _>>_, return, many
 use Rattle.words.proofs.Laws.{accepted-value, then-value, in-value, many-suc, many-length}
 use Rattle.words.proofs.Sets.{getD-below, getD-above, getD-within}
 use Rattle.grammar.specs.Grammar.{Kind, token, opt, sequence, forms, Grammar, field, form, kind, grammar, finite, finiteRecords, readGrammar}
-use Rattle.grammar.specs.Kinds.{kindOf, childrenOf, children}
+use Rattle.grammar.specs.Kinds.{kindOf, childrenOf, children, formsOf}
 use Rattle.grammar.specs.Values.{valuesOf}
-use Rattle.tables.specs.Tables.{mapOf, formsOf, Heads, Rows, rowAt, Tables, readOf}
+use Rattle.tables.specs.Tables.{mapOf, Heads, Rows, rowAt, Tables, readOf}
 use Rattle.tables.specs.Filling.{typeCount, rowOf, rowsOf, putRows, putKinds, putHeads}
 use Rattle.tables.proofs.Records.{form-short, KindAt, isToken, isOpt, isSequence, hasForms, record-at}
 use Rattle.tables.proofs.Filling.{FillLoop}
@@ -176,7 +176,7 @@ children-many g s t v h = children-rows g t v ∙ List·getD-eq-default (rowsOf 
 children-most : (g : Grammar) → AllSmall g → (t v : ℕ) → length (children g t v) ≤ 8
 children-most g s t v = rw (children-rows g t v) (short-at (rowsOf t (kindOf g t)) v (small-at g s t .short t))
 
-zeros-clear : (n j : ℕ) → _≡_ {A = ℕ} (getD (replicate n 0) j 0) 0
+pub zeros-clear : (n j : ℕ) → _≡_ {A = ℕ} (getD (replicate n 0) j 0) 0
 zeros-clear zero j = refl
 zeros-clear (suc n) zero = refl
 zeros-clear (suc n) (suc j) = zeros-clear n j

@@ -8,7 +8,7 @@ use lib.Dec.{eqb}
 use Rattle.words.specs.Reader.{Read, value, refused}
 use Rattle.grammar.specs.Limits.{mostTypes, mostForms, mostElements}
 use Rattle.grammar.specs.Grammar.{mapIn, Kind, token, opt, sequence, forms, Grammar}
-use Rattle.grammar.specs.Kinds.{kindOf, children}
+use Rattle.grammar.specs.Kinds.{kindOf, children, formsOf}
 use Rattle.grammar.specs.Values.{valuesOf}
 
 -- the map of a kind's record; 0 for a type that is not there
@@ -22,13 +22,6 @@ mapOf (forms (f ∷ fs)) = 8
 -- is the type a token, whose nodes have no children?
 unfoldable pub isToken : Grammar → ℕ → Bool
 isToken g t = eqb (mapOf (kindOf g t)) 1
-
--- the forms of a kind
-unfoldable pub formsOf : Kind → List (List ℕ)
-formsOf (token c) = []
-formsOf (opt e) = []
-formsOf (sequence style e) = []
-formsOf (forms fs) = fs
 
 -- `heads` has two words a type: the map of its record, and how many values its nodes may have
 pub record Heads (g : Grammar) (heads : List ℕ) : Type 0 where

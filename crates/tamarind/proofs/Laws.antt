@@ -1,8 +1,9 @@
--- What is exported of a check's answer is what is exported of the reading, of a run's answer what is exported of the outcome, and that says the outcome again.
+-- What is exported of a check's answer is what is exported of the reading, of a run's answer what is exported of the outcome, and that says the outcome again; the same of a conversion.
 -- Assumes nothing.
 use mathlib.Core.Path.{_≡_, refl, ap, _∙_}
 use Prim.Native.Nat.{ℕ}
 use mathlib.Core.List.{List}
+use mathlib.Core.Bool.{Bool}
 use lib.ListN.{length, drop}
 use lib.Seq.{take-at}
 use Rattle.words.specs.Reader.{Words, Read, value, refused}
@@ -14,13 +15,17 @@ use Rattle.meaning.specs.Meaning.{done, stopped, cannotGoOn}
 use Rattle.meaning.specs.Outcome.{Inputs, ended, outcome, resultAfter, filledBy}
 use Rattle.meaning.specs.Outcome as Meant
 use Rattle.meaning.specs.Runs.{Memories, Ran}
+use Rattle.convert.specs.Conversion.{conversion, Converts}
+use Rattle.convert.specs.declared.Converted.{Converted}
+use Rattle.convert.specs.declared.Converted.the-variants.{Filled, Refusal}
 use Rattle.tamarind.specs.declared.Stop.{Stop}
 use Rattle.tamarind.specs.declared.Counts.{Counts}
 use Rattle.tamarind.specs.declared.RunAnswer.{RunAnswer}
+use Rattle.tamarind.specs.declared.ConversionAnswer.{ConversionAnswer}
 use Rattle.tamarind.specs.declared.Outcome.{Outcome}
 use Rattle.tamarind.specs.declared.Outcome.the-variants as Run
 use Rattle.tamarind.specs.Run.{numberOf, said, filledOf, Runs}
-use Rattle.tamarind.specs.Exports.{exported, exportedCheck, exportedCounts, exportedRun, exportedOutcome, saidExported, RunExported}
+use Rattle.tamarind.specs.Exports.{exported, exportedCheck, exportedCounts, exportedRun, exportedOutcome, saidExported, RunExported, exportedConverted, ConversionExported}
 
 export-answer : {A : Type 0} (q : Read A) → exportedCheck (answer q) ≡ exported q
 export-answer (value a next) = refl
@@ -75,3 +80,15 @@ exported-ran x before r after h =
     let o = outcome (length (before .result)) (length (before .work)) x in
     let e : saidExported r (after .result) ≡ o = rw (h .answered, h .result) (said-again o (before .result)) in
     record { outcome = e; result = rw e (h .result); work = rw e (h .work) }
+
+-- A CONVERSION
+
+module _ (c : Converted) where
+  pub conversion-filled : {n : ℕ} → c ≡ Filled n → record { number = 0; position = 0; grammar = 0; filled = n } ≡ exportedConverted c
+  conversion-filled e = rw e
+
+  pub conversion-refused : {which n p : ℕ} → c ≡ Refusal which n p → record { number = n; position = p; grammar = which; filled = 0 } ≡ exportedConverted c
+  conversion-refused e = rw e
+
+  pub conversion-exported : {edition : Bool} {olds news ts ss before after : Words} {r : ConversionAnswer} → Converts (conversion edition (length before) olds news ts ss) before after c → r ≡ exportedConverted c → ConversionExported edition olds news ts ss before after r
+  conversion-exported d e = record { answered = e ∙ ap exportedConverted (d .answered); result = d .result }

@@ -11,8 +11,13 @@ use Rattle.meaning.specs.Meaning.{Ending, done, stopped, cannotGoOn}
 use Rattle.meaning.specs.Outcome.{Inputs, Outcome, ended, outcome, resultAfter, workAfter, output}
 use Rattle.meaning.specs.Outcome as Meant
 use Rattle.meaning.specs.Runs.{Memories}
+use Rattle.convert.specs.Conversion.{conversion, convertedAs}
+use Rattle.convert.specs.Conversion as Conversion
+use Rattle.convert.specs.declared.Converted.{Converted}
+use Rattle.convert.specs.declared.Converted.the-variants.{Filled, Refusal}
 use Rattle.tamarind.specs.declared.Answer.{Answer}
 use Rattle.tamarind.specs.declared.RunAnswer.{RunAnswer}
+use Rattle.tamarind.specs.declared.ConversionAnswer.{ConversionAnswer}
 use Rattle.tamarind.specs.declared.Posting.{Posting}
 use Rattle.tamarind.specs.declared.Outcome as Code
 use Rattle.tamarind.specs.declared.Outcome.the-variants as Run
@@ -62,6 +67,18 @@ pub record RunExported (x : Inputs) (before : Memories) (r : RunAnswer) (after :
   pub result : after .result ≡ resultAfter (outcome (length (before .result)) (length (before .work)) x) (before .result)
   pub work : after .work ≡ workAfter (outcome (length (before .result)) (length (before .work)) x) (before .work)
 
+-- A CONVERSION
+
+-- a refusal's number and position and the grammar at fault, or the count of the words filled; 0 where there is none
+abbrev pub exportedConverted : Converted → ConversionAnswer
+exportedConverted (Filled n) = record { number = 0; position = 0; grammar = 0; filled = n }
+exportedConverted (Refusal which n p) = record { number = n; position = p; grammar = which; filled = 0 }
+
+-- the edition of the slip, what was given, the result before and after, and the answer: all are the definition's
+pub record ConversionExported (edition : Bool) (olds news ts ss before after : Words) (r : ConversionAnswer) : Type 0 where
+  pub answered : r ≡ exportedConverted (convertedAs (conversion edition (length before) olds news ts ss))
+  pub result : after ≡ Conversion.resultAfter (conversion edition (length before) olds news ts ss) before
+
 -- WHAT TO POST
 
 -- is it the result's words? If the run was done and the filled count does not lie past the result's end
@@ -88,6 +105,6 @@ abbrev pub PostsOutput : Type 0
 PostsOutput = (ending filled : ℕ) (result slip : Words) → Posts ending filled result slip (posting ending filled (length result) (length slip))
 
 -- THE EDITION of the exported functions: 0 is document 01, and a change request that a caller can see sets its own number: 1 is T-01, 2 is T-02, 4 is T-04, 5 is T-05,
--- 6 is T-06, 7 is T-07
+-- 6 is T-06, 7 is T-07, 8 is T-08
 abbrev pub edition : ℕ
-edition = 7
+edition = 8

@@ -1,5 +1,6 @@
 // The product's face: the callable functions, and their exports for C and Rust.
 use calls::Called;
+use convert::Converted;
 use meaning::State;
 use rules::limits::MOST_VARIABLES;
 use tables::HEADS;
@@ -16,7 +17,7 @@ ghost use Rattle.judgement.specs.Typing.{checkRules};
 ghost use Rattle.meaning.specs.Limits.{leastWork};
 ghost use Rattle.meaning.specs.Outcome.{callFits, output};
 ghost use Rattle.tamarind.specs.Run.{numberOf, inputsOf, memories, Runs, RunsOver, Named, InputsRead, Answered, Accepted};
-ghost use Rattle.tamarind.specs.Exports.{exported, exportedCheck, exportedCounts, exportedOutcome, RunExported, postsResult, posting, edition};
+ghost use Rattle.tamarind.specs.Exports.{exported, exportedCheck, exportedCounts, exportedOutcome, RunExported, exportedConverted, ConversionExported, postsResult, posting, edition};
 
 // A single check's answer: the number of the refusal and its position; 0 and 0 where nothing is refused.
 #[repr(C)]
@@ -396,8 +397,54 @@ pub extern "C" fn tamarind_run(
     export_run(r)
 }
 
+// A conversion's answer as it is exported: the number of the refusal and its position, the grammar at fault (1 the old one, 2 the new one), and the words
+// filled; each 0 where it does not apply.
+#[repr(C)]
+pub struct ConversionAnswer {
+    pub number: u32,
+    pub position: usize,
+    pub grammar: u32,
+    pub filled: usize,
+}
+
+// What came of a conversion, as it is exported.
+fn export_conversion(c: Converted) -> ConversionAnswer
+    ensures { λ r. ⌜ r ≡ exportedConverted c ⌝ }
+{
+    match c {
+        Converted::Filled(filled) => ConversionAnswer {
+            number: 0,
+            position: 0,
+            grammar: 0,
+            filled,
+        },
+        Converted::Refusal(grammar, number, position) => ConversionAnswer {
+            number,
+            position,
+            grammar,
+            filled: 0,
+        },
+    }
+}
+
+// The conversion of a slip, in the three-word edition if it is counted, else in the two-word one, from the old grammar to the new by the table.
+#[no_mangle]
+pub extern "C" fn tamarind_convert(
+    old_grammar: &[u32],
+    new_grammar: &[u32],
+    table: &[u32],
+    slip: &[u32],
+    counted: bool,
+    result: &mut [u32],
+) -> ConversionAnswer
+    ensures { λ r. ⌜ ConversionExported counted (now («old_grammar» .entry)) (now («new_grammar» .entry)) (now (table .entry)) (now (slip .entry)) (now (result .entry)) (now (result .exit)) r ⌝ }
+{
+    let c = convert::convert(old_grammar, new_grammar, table, slip, counted, result);
+    export_conversion(c)
+}
+
 // The number of the last change request that a caller can see.
-const EDITION: u32 = 7;
+const EDITION: u32 = 8;
 
 // The edition of these functions: a caller asks whether it was written for this one.
 #[no_mangle]

@@ -1,8 +1,8 @@
 -- Laws of stretches that are copied, cleared and compared word by word. Assumes nothing.
 use mathlib.Core.Path.{_≡_, refl, sym, ap, ap₂, _∙_}
-use mathlib.Core.List.{List, [], _∷_, _++_, append-nil}
+use mathlib.Core.List.{List, [], _∷_, _++_, map, append-nil}
 use mathlib.Core.Bool.{Bool, true, false}
-use Prim.Native.Nat.{ℕ, suc, _+_, _-_, _≤_, _<_}
+use Prim.Native.Nat.{ℕ, zero, suc, _+_, _-_, _≤_, _<_}
 use native.Mathlib.Numerals.{add-one, add-two}
 use native.Mathlib.Nat.{zero-add}
 use native.Mathlib.Omega.{arith}
@@ -17,6 +17,16 @@ use Rattle.words.proofs.Laws.{and-true}
 -- a part to the end
 pub part-rest : (i : ℕ) (ws : List ℕ) → take (length ws - i) (drop i ws) ≡ drop i ws
 part-rest i ws = take-all (length ws - i) (drop i ws) (simp length-drop (omega arith))
+
+-- the element at i
+pub drop-next : {A : Type 0} (l : List A) (i : ℕ) (d : A) → i < length l → drop i l ≡ getD l i d ∷ drop (i + 1) l
+drop-next l i d h = drop-cons l i d h ∙ ap (λ j. getD l i d ∷ drop j l) (sym (add-one i))
+
+-- what an element becomes, each becoming something
+pub getD-map : {A B : Type 0} (f : A → B) (l : List A) (i : ℕ) (d : A) (e : B) → i < length l → getD (map f l) i e ≡ f (getD l i d)
+getD-map f [] i d e h = absurd (omega arith)
+getD-map f (x ∷ l) zero d e h = refl
+getD-map f (x ∷ l) (suc i) d e h = getD-map f l i d e (omega arith)
 
 -- the pair at i
 pub drop-pair : (ws : List ℕ) (i : ℕ) → i + 2 ≤ length ws → drop i ws ≡ getD ws i 0 ∷ getD ws (i + 1) 0 ∷ drop (i + 2) ws
@@ -95,7 +105,7 @@ module _ (a b : List ℕ) (i : ℕ) (inv : equalWords a b ≡ equalWords (drop i
   pub equal-differs : i < length a → (getD a i 0 ≡ getD b i 0 → ⊥) → false ≡ equalWords a b
   equal-differs h d = sym (here h ∙ rw (ne-eqb (getD a i 0) (getD b i 0) d))
 
-  equal-more : i < length a → getD a i 0 ≡ getD b i 0 → equalWords a b ≡ equalWords (drop (i + 1) a) (drop (i + 1) b)
+  pub equal-more : i < length a → getD a i 0 ≡ getD b i 0 → equalWords a b ≡ equalWords (drop (i + 1) a) (drop (i + 1) b)
   equal-more h e = here h ∙ rw (eq-eqb (getD a i 0) (getD b i 0) e)
 
   -- the last word

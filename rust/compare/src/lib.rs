@@ -1,6 +1,7 @@
 //! Compares the proved core with the reference, a core written apart from the
 //! same papers.
 
+mod conversions;
 mod memories;
 mod runs;
 
@@ -8,6 +9,7 @@ use std::collections::BTreeMap;
 
 use generate::{shrink, to_bench, Input};
 
+pub use conversions::{compare_conversion, Answered, ConversionCounts};
 pub use runs::{compare_list, compare_run};
 
 /// A check's answer: nothing, or number and position.

@@ -7,7 +7,7 @@ use std::io::{stdout, Write};
 
 use compare::{compare_run, Counts};
 use generate::{one_pass, reference_outcome, run_input, slip, without_counts, Input, Random};
-use reference::grammar::{Grammar, Kind};
+use reference::grammar::Grammar;
 use reference::limits;
 use reference::rules::{read_layout, Reach};
 use reference::tree::Tree;
@@ -81,7 +81,7 @@ impl Read<'_> {
     fn has_a_rest_as_target(&self) -> bool {
         let target = self.main_rule().target;
         let mut targets = self.tree.preorder().filter(|node| node.ty() == target);
-        self.grammar.kind(target) == Kind::Sequence && targets.any(|node| node.value() == 0)
+        self.grammar.kind(target).is_sequence() && targets.any(|node| node.value() == 0)
     }
 
     /// The tests of all rules: whether they are negated, and their groups.

@@ -37,6 +37,16 @@ pub struct Posting {
     pub words: usize,
 }
 
+/// `tamarind_conversion`.
+#[repr(C)]
+#[derive(Clone, Copy, Debug, Default, PartialEq, Eq)]
+pub struct Conversion {
+    pub number: u32,
+    pub position: usize,
+    pub grammar: u32,
+    pub filled: usize,
+}
+
 extern "C" {
     pub(crate) fn tamarind_edition() -> u32;
     pub(crate) fn tamarind_words_to_post(
@@ -71,6 +81,19 @@ extern "C" {
         work: *mut u32,
         work_len: usize,
     ) -> Outcome;
+    pub(crate) fn tamarind_convert(
+        old_grammar: *const u32,
+        old_grammar_len: usize,
+        new_grammar: *const u32,
+        new_grammar_len: usize,
+        table: *const u32,
+        table_len: usize,
+        slip: *const u32,
+        slip_len: usize,
+        counted: bool,
+        result: *mut u32,
+        result_len: usize,
+    ) -> Conversion;
 }
 
 /// The single check of an input's grammar.
@@ -111,6 +134,29 @@ pub fn run(input: &Input, result: &mut [u32], work: &mut [u32]) -> Outcome {
             result.len(),
             work.as_mut_ptr(),
             work.len(),
+        )
+    }
+}
+
+/// The conversion of an input's slip, three words a node, to its own grammar by a
+/// table.
+pub fn convert(input: &Input, table: &[u32], result: &mut [u32]) -> Conversion {
+    let (grammar, slip) = (&input.grammar, &input.slip);
+    // SAFETY: as above, all slices; the one that is written is borrowed for
+    // writing.
+    unsafe {
+        tamarind_convert(
+            grammar.as_ptr(),
+            grammar.len(),
+            grammar.as_ptr(),
+            grammar.len(),
+            table.as_ptr(),
+            table.len(),
+            slip.as_ptr(),
+            slip.len(),
+            true,
+            result.as_mut_ptr(),
+            result.len(),
         )
     }
 }

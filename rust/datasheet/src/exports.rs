@@ -1,9 +1,10 @@
 //! The exported functions on a painted stack.
 
-use generate::Input;
+use generate::{without_counts, Input};
 
 use crate::abi;
-use crate::abi::{Outcome, RESULT_WORDS, WORK_WORDS};
+use crate::abi::{Conversion, Outcome, RESULT_WORDS, WORK_WORDS};
+use crate::nesting::table_to_itself;
 use crate::painted::Stack;
 
 /// What a call answered, as the number of its refusal or stop (0 for none), the
@@ -19,11 +20,12 @@ pub struct Measured {
 pub type Export = (&'static str, fn(&mut Stack, &Input) -> Measured);
 
 /// All of them, the run first.
-pub const EXPORTS: [Export; 6] = [
+pub const EXPORTS: [Export; 7] = [
     ("tamarind_run", |stack, input| run(stack, input).1),
     ("tamarind_check_grammar", check_grammar),
     ("tamarind_check_slip", check_slip),
     ("tamarind_check_rules", check_rules),
+    ("tamarind_convert", convert),
     ("tamarind_words_to_post", words_to_post),
     ("tamarind_edition", edition),
 ];
@@ -49,6 +51,39 @@ pub fn check_slip(stack: &mut Stack, input: &Input) -> Measured {
 pub fn check_rules(stack: &mut Stack, input: &Input) -> Measured {
     let arguments = [passed(&input.grammar), passed(&input.rules)].concat();
     answer(stack, abi::tamarind_check_rules as *const (), &arguments)
+}
+
+/// Measures the conversion of the slip to its own grammar, with its counts and
+/// without them, and gives the greater stack.
+pub fn convert(stack: &mut Stack, input: &Input) -> Measured {
+    let older = without_counts(&input.slip);
+    let counted = conversion(stack, &input.grammar, &input.slip, true);
+    let uncounted = conversion(stack, &input.grammar, &older, false);
+    Measured {
+        stack: counted.stack.max(uncounted.stack),
+        ..counted
+    }
+}
+
+/// Measures one conversion over a result of the least length.
+fn conversion(stack: &mut Stack, grammar: &[u32], slip: &[u32], counted: bool) -> Measured {
+    let table = table_to_itself(grammar);
+    let mut result = vec![u32::MAX; RESULT_WORDS];
+    let mut answer = Conversion::default();
+    let mut arguments = vec![&raw mut answer as usize];
+    for words in [grammar, grammar, &table, slip] {
+        arguments.extend(passed(words));
+    }
+    arguments.push(usize::from(counted));
+    arguments.extend([result.as_mut_ptr() as usize, result.len()]);
+    // SAFETY: the answer and the result are written through pointers to them,
+    // each as long as it says, and read only after the calls.
+    let returned = unsafe { stack.measure(abi::tamarind_convert as *const (), &arguments) };
+    Measured {
+        number: answer.number,
+        stack: returned.stack,
+        pushed: returned.pushed,
+    }
 }
 
 /// Measures the words to post of a run that is done, had it filled as many words

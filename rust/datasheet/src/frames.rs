@@ -41,7 +41,11 @@ type Body = BTreeMap<usize, Instruction>;
 /// The frames of an archive.
 pub fn read_frames(archive: &str) -> Frames {
     let text = printed("objdump", &["-dr", "--no-show-raw-insn", archive]);
-    let bodies = read_bodies(&text);
+    follow(&read_bodies(&text))
+}
+
+/// The frames of these functions.
+fn follow(bodies: &BTreeMap<String, Body>) -> Frames {
     let frames = bodies.iter();
     frames
         .map(|(name, body)| (name.clone(), frame_of(name, body)))
@@ -64,7 +68,60 @@ fn read_bodies(text: &str) -> BTreeMap<String, Body> {
             body.insert(address, instruction);
         }
     }
+    bodies.values_mut().for_each(enter_frames_at_once);
     bodies
+}
+
+/// Takes each loop that enters a frame for one instruction that moves the stack
+/// pointer all the way: each turn moves it by a page, up to where a register says.
+fn enter_frames_at_once(body: &mut Body) {
+    let addresses: Vec<usize> = body.keys().copied().collect();
+    for window in addresses.windows(6) {
+        let listed: Vec<&Instruction> = window.iter().map(|address| &body[address]).collect();
+        let Some(bytes) = entered_by_loop(&listed, window[2]) else {
+            continue;
+        };
+        let change = |address: usize, mnemonic: &str, operands: String| {
+            let relocated = None;
+            let mnemonic = mnemonic.to_string();
+            (
+                address,
+                Instruction {
+                    mnemonic,
+                    operands,
+                    relocated,
+                },
+            )
+        };
+        body.extend([
+            change(window[2], "sub", format!("${bytes:#x},%rsp")),
+            change(window[5], "nop", String::new()),
+        ]);
+    }
+}
+
+/// The bytes of a frame, if these instructions are the loop that enters it: a
+/// register is set, the pointer is moved from `start` on, the page is touched, the
+/// two are compared, and a jump leads back.
+fn entered_by_loop(listed: &[&Instruction], start: usize) -> Option<usize> {
+    let [copy, less, page, _, compare, back] = listed else {
+        return None;
+    };
+    let text = |instruction: &Instruction| {
+        let Instruction {
+            mnemonic, operands, ..
+        } = instruction;
+        format!("{mnemonic} {operands}")
+    };
+    let register = copy.operands.strip_prefix("%rsp,")?;
+    let (bytes, lowered) = less.operands.split_once(',')?;
+    let bytes = number_of(bytes)?;
+    let is_loop = text(copy) == format!("mov %rsp,{register}")
+        && (less.mnemonic == "sub" && lowered == register)
+        && text(page) == "sub $0x1000,%rsp"
+        && text(compare) == format!("cmp {register},%rsp")
+        && (back.mnemonic == "jne" && jump_target(back) == Some(start));
+    (is_loop && bytes % 0x1000 == 0).then_some(bytes)
 }
 
 /// The function that a relocation's text names: `.text.name-0x4` or `name-0x4`.
@@ -368,14 +425,27 @@ mod tests {
    8:\txor    %eax,%eax
    9:\txor    %eax,%eax
    a:\tret
+
+0000000000000000 <paged>:
+   0:\tpush   %rbp
+   1:\tmov    %rsp,%r11
+   4:\tsub    $0x9000,%r11
+   b:\tsub    $0x1000,%rsp
+  12:\tmovq   $0x0,(%rsp)
+  1a:\tcmp    %r11,%rsp
+  1d:\tjne    b <paged+0xb>
+  1f:\tsub    $0x18,%rsp
+  26:\tcall   2b <paged+0x2b>
+\t\t\t27: R_X86_64_PLT32\t.text.leaf-0x4
+  2b:\tnop
+  2c:\tnop
+  2d:\tadd    $0x9018,%rsp
+  34:\tpop    %rbp
+  35:\tret
 ";
 
     fn frames() -> Frames {
-        let bodies = read_bodies(LISTING);
-        let frames = bodies.iter();
-        frames
-            .map(|(name, body)| (name.clone(), frame_of(name, body)))
-            .collect()
+        follow(&read_bodies(LISTING))
     }
 
     #[test]
@@ -388,6 +458,21 @@ mod tests {
         assert_eq!(caller.calls, calls);
         assert_eq!((frames["leaf"].bytes, frames["leaf"].red_zone), (8, 32));
         assert_eq!((frames["early"].bytes, frames["early"].red_zone), (16, 0));
+    }
+
+    #[test]
+    fn a_frame_that_a_loop_enters_is_counted_whole() {
+        let paged = &frames()["paged"];
+        assert_eq!((paged.bytes, paged.red_zone), (0x9018 + 16, 0));
+        assert_eq!(paged.calls, [("leaf".to_string(), 0x9018 + 16)]);
+    }
+
+    #[test]
+    #[should_panic(expected = "odd at 2: two depths")]
+    fn another_loop_that_moves_the_pointer_is_seen() {
+        let start = "0 <odd>:\n   0:\tpush   %rbp\n   2:\tsub    $0x1000,%rsp\n";
+        let bodies = read_bodies(&format!("{start}   9:\tjne    2 <odd+0x2>\n   b:\tret\n"));
+        follow(&bodies);
     }
 
     #[test]

@@ -7,6 +7,12 @@ pub const MOST_CALLS: usize = 32;
 /// The nesting that a tree may have.
 pub const MOST_NESTING: usize = 64;
 
+/// The types that a grammar may have, the forms that a type may have, and the map
+/// of a type with forms.
+const MOST_TYPES: u32 = 64;
+const MOST_FORMS: u32 = 16;
+const FORMS: u32 = 8;
+
 /// Enough for every run here, and far from the greatest budget.
 const BUDGET: u32 = 100_000;
 /// The paper's grammar: a program of a sequence of numbers.
@@ -235,6 +241,26 @@ pub fn long_slip(nesting: usize, elements: usize) -> Input {
         slip: slip_of(&input.grammar, &tree),
         ..input
     }
+}
+
+/// The table that maps each type and each form of a grammar to itself. Of words
+/// that are no grammar it is some table.
+pub fn table_to_itself(grammar: &[u32]) -> Vec<u32> {
+    let word = |at: usize| grammar.get(at).copied().unwrap_or(0);
+    let mut table = Vec::new();
+    let mut at = 1;
+    for ty in 0..word(0).min(MOST_TYPES) {
+        table.push(ty);
+        let (map, count) = (word(at), word(at + 1));
+        at += 2;
+        if map == FORMS {
+            for form in 0..count.min(MOST_FORMS) {
+                table.push(form);
+                at += 1 + word(at) as usize;
+            }
+        }
+    }
+    table
 }
 
 /// How a tree nests in itself.

@@ -5,13 +5,16 @@ use generate::{slip_of, Input, Random};
 use crate::sequences::{built_elements, counted_elements, counted_grammar, elements};
 
 /// Inputs of which one check takes long, each with the check's name. They are
-/// irregular, so that the processor foresees little.
-pub fn slow_checks() -> [(&'static str, Input); 4] {
+/// irregular, so that the processor foresees little. A conversion is that of the
+/// slip to its own grammar.
+pub fn slow_checks() -> [(&'static str, Input); 6] {
     [
         ("grammar", slow_grammar()),
         ("slip", slow_slip()),
         ("rules", slow_forms()),
         ("rules", slow_chains()),
+        ("conversion", slow_conversion()),
+        ("conversion", slow_slip()),
     ]
 }
 
@@ -39,6 +42,18 @@ fn slow_grammar() -> Input {
     }
     grammar.extend([1, 2]);
     unrun(grammar, vec![], vec![])
+}
+
+/// The same grammar with one more form of type 0, which has nothing, and the slip
+/// of that form: both grammars take long, and the table is long.
+fn slow_conversion() -> Input {
+    let mut input = slow_grammar();
+    let (forms, after) = (input.grammar[2], 3);
+    assert!(forms < 16, "there is room for one more form");
+    input.grammar[2] = forms + 1;
+    input.grammar.insert(after, 0);
+    input.slip = vec![0, 0, 1];
+    input
 }
 
 /// A form of literals and elements of a type, which is the last of them.

@@ -4,7 +4,7 @@ use std::arch::global_asm;
 
 use datasheet::archive::given;
 use datasheet::bench;
-use datasheet::exports::{check_slip, needed, run};
+use datasheet::exports::{check_slip, convert, needed, run, Export};
 use datasheet::figures::{by_length, deep_chains, figures, growth, nested, stack_at};
 use datasheet::figures::{Growth, MOST_READ, SLIPS};
 use datasheet::frames::read_frames;
@@ -167,14 +167,20 @@ fn the_growth_is_that_of_the_sheet_and_of_the_frames() {
 }
 
 #[test]
-fn the_check_of_a_slip_takes_what_the_growth_says_of_its_nesting() {
-    let growth = growth_of("tamarind_check_slip");
+fn check_and_conversion_of_a_slip_take_what_the_growth_says_of_its_nesting() {
+    let exports: [Export; 2] = [
+        ("tamarind_check_slip", check_slip),
+        ("tamarind_convert", convert),
+    ];
     let mut stack = Stack::new();
-    for nest in Nest::ALL {
-        for nesting in 1..=MOST_READ {
-            let taken = check_slip(&mut stack, &nest.input(nesting)).stack;
-            let what = format!("{nest:?} at {nesting}");
-            assert_holds(&what, growth.at(nesting, 1), taken);
+    for (name, measure) in exports {
+        let growth = growth_of(name);
+        for nest in Nest::ALL {
+            for nesting in 1..=MOST_READ {
+                let taken = measure(&mut stack, &nest.input(nesting)).stack;
+                let what = format!("{name}, {nest:?} at {nesting}");
+                assert_holds(&what, growth.at(nesting, 1), taken);
+            }
         }
     }
 }
@@ -207,16 +213,18 @@ fn no_function_takes_another_stack_on_a_longer_slip() {
 }
 
 #[test]
-fn at_the_deepest_nesting_neither_check_nor_run_follows_the_length() {
+fn at_the_deepest_nesting_no_function_follows_the_length() {
     let mut stack = Stack::new();
     let longest = (2_048 - (2 * MOST_NESTING - 3)) / 2;
     let taken = [1, 37, longest].map(|elements| {
         let input = long_slip(MOST_NESTING, elements);
         assert_eq!(input.slip.len(), 3 * (2 * MOST_NESTING - 3 + 2 * elements));
         let checked = check_slip(&mut stack, &input);
+        let converted = convert(&mut stack, &input);
         let (outcome, run) = run(&mut stack, &input);
-        assert_eq!((checked.number, outcome.ending), (0, DONE), "{elements}");
-        (checked.stack, run.stack)
+        let numbers = (checked.number, converted.number, outcome.ending);
+        assert_eq!(numbers, (0, 0, DONE), "{elements}");
+        (checked.stack, converted.stack, run.stack)
     });
     assert_eq!(taken, [taken[0]; 3]);
 }
@@ -244,6 +252,8 @@ fn trees_of_nesting_64_are_read_and_deeper_ones_refused() {
         let (deep, deeper) = (nest.input(MOST_NESTING), nest.input(MOST_NESTING + 1));
         assert_eq!(check_slip(&mut stack, &deep).number, 0, "{nest:?}");
         assert_eq!(check_slip(&mut stack, &deeper).number, 33, "{nest:?}");
+        assert_eq!(convert(&mut stack, &deep).number, 0, "{nest:?}");
+        assert_eq!(convert(&mut stack, &deeper).number, 33, "{nest:?}");
         let (outcome, _) = run(&mut stack, &deep);
         assert_eq!(
             (outcome.ending, outcome.replacements),

@@ -4,6 +4,7 @@
 use datasheet::abi;
 use datasheet::exports::run;
 use datasheet::formula::{dearest_attempt, formula, set_against_all};
+use datasheet::nesting::table_to_itself;
 use datasheet::painted::Stack;
 use datasheet::sheet;
 use datasheet::slow::slow_checks;
@@ -31,7 +32,15 @@ fn each_run_repeats_its_round_until_the_budget_is_spent() {
 
 #[test]
 fn the_slow_checks_pass() {
+    let mut result = vec![u32::MAX; abi::RESULT_WORDS];
     for (check, input) in slow_checks() {
+        if check == "conversion" {
+            let table = table_to_itself(&input.grammar);
+            let answer = abi::convert(&input, &table, &mut result);
+            assert_eq!((answer.number, answer.filled), (0, input.slip.len()));
+            assert_eq!(result[..answer.filled], input.slip);
+            continue;
+        }
         let answer = match check {
             "grammar" => abi::check_grammar(&input),
             "slip" => abi::check_slip(&input),

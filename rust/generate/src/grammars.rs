@@ -6,8 +6,8 @@ use crate::labeled::{change_length, wrong_count, Labeled};
 use crate::random::Random;
 
 /// A type before it is written as words.
-#[derive(Clone, Debug)]
-enum TypeText {
+#[derive(Clone, Debug, PartialEq, Eq)]
+pub(crate) enum TypeText {
     Token(u32),
     Optional(u32),
     Sequence(u32),
@@ -28,7 +28,7 @@ enum Field {
 }
 
 const NUMBER_CLASS: u32 = 2;
-const LITERALS: [u32; 4] = [65_536, 65_537, 70_000, 131_071];
+pub(crate) const LITERALS: [u32; 4] = [65_536, 65_537, 70_000, 131_071];
 
 /// A valid grammar.
 pub fn grammar(seed: u64) -> Vec<u32> {
@@ -72,6 +72,11 @@ pub fn long_grammar(seed: u64) -> Vec<u32> {
 }
 
 fn valid(random: &mut Random) -> Labeled<Field> {
+    write(&valid_types(random))
+}
+
+/// The types of a valid grammar.
+pub(crate) fn valid_types(random: &mut Random) -> Vec<TypeText> {
     let mut types = match random.below(12) {
         0 => list_types(random),
         1 | 2 => expression_types(random),
@@ -80,7 +85,12 @@ fn valid(random: &mut Random) -> Labeled<Field> {
         _ => random_types(random),
     };
     make_finite(random, &mut types);
-    write(&types)
+    types
+}
+
+/// The words of a grammar of these types.
+pub(crate) fn written(types: &[TypeText]) -> Vec<u32> {
+    write(types).words
 }
 
 /// A program of a sequence of tokens.
@@ -162,7 +172,7 @@ fn random_types(random: &mut Random) -> Vec<TypeText> {
     types
 }
 
-fn one_type(random: &mut Random, count: u32) -> TypeText {
+pub(crate) fn one_type(random: &mut Random, count: u32) -> TypeText {
     let mut any = || random.below(count as usize) as u32;
     let element = any();
     match random.below(100) {
@@ -181,7 +191,7 @@ fn one_type(random: &mut Random, count: u32) -> TypeText {
     }
 }
 
-fn one_form(random: &mut Random, count: u32) -> Vec<u32> {
+pub(crate) fn one_form(random: &mut Random, count: u32) -> Vec<u32> {
     let elements = match random.below(20) {
         0 => 8,
         1..=4 => 0,
@@ -198,7 +208,7 @@ fn one_form(random: &mut Random, count: u32) -> Vec<u32> {
 }
 
 /// Gives a form without types to each type that has no finite tree.
-fn make_finite(random: &mut Random, types: &mut [TypeText]) {
+pub(crate) fn make_finite(random: &mut Random, types: &mut [TypeText]) {
     while let Some(number) = infinite_type(types) {
         let TypeText::Forms(forms) = &mut types[number] else {
             unreachable!("only forms can lack a finite tree");
@@ -212,9 +222,10 @@ fn make_finite(random: &mut Random, types: &mut [TypeText]) {
     }
 }
 
-fn infinite_type(types: &[TypeText]) -> Option<usize> {
+pub(crate) fn infinite_type(types: &[TypeText]) -> Option<usize> {
     let mut finite = vec![false; types.len()];
-    for _ in 0..types.len() {
+    loop {
+        let before = finite.clone();
         for (number, ty) in types.iter().enumerate() {
             finite[number] |= match ty {
                 TypeText::Forms(forms) => forms.iter().any(|form| {
@@ -224,8 +235,10 @@ fn infinite_type(types: &[TypeText]) -> Option<usize> {
                 _ => true,
             };
         }
+        if finite == before {
+            return finite.iter().position(|finite| !finite);
+        }
     }
-    finite.iter().position(|finite| !finite)
 }
 
 /// A valid grammar in which a type, or a ring of two, needs itself.

@@ -347,7 +347,7 @@ fn change_pairs(random: &mut Random, rule: &mut RuleText) {
 fn crowd_variables(random: &mut Random, shapes: &Shapes, rules: &mut [RuleText]) -> bool {
     let grammar = shapes.grammar;
     let sequences: Vec<TypeNumber> = (0..grammar.types.len() as u32)
-        .filter(|&ty| grammar.kind(ty) == Kind::Sequence)
+        .filter(|&ty| grammar.kind(ty).is_sequence())
         .collect();
     let Some(sequence) = random.pick_any(&sequences) else {
         return false;

@@ -66,7 +66,8 @@ impl<'a> Shapes<'a> {
             least_height: vec![FAR; count],
             endless: endless_types(grammar),
         };
-        for _ in 0..count {
+        loop {
+            let before = (shapes.least_size.clone(), shapes.least_height.clone());
             for ty in 0..count as TypeNumber {
                 let values = shapes.values(ty);
                 let sizes = values.iter().map(|&value| shapes.size_of(ty, value));
@@ -75,8 +76,10 @@ impl<'a> Shapes<'a> {
                 shapes.least_size[ty as usize] = size.unwrap_or(1);
                 shapes.least_height[ty as usize] = height.unwrap_or(1);
             }
+            if before == (shapes.least_size.clone(), shapes.least_height.clone()) {
+                return shapes;
+            }
         }
-        shapes
     }
 
     /// Whether some tree of type 0 keeps the paper's limits.
@@ -112,7 +115,7 @@ impl<'a> Shapes<'a> {
     }
 
     fn levels_to(&self, ty: TypeNumber, index: usize) -> usize {
-        usize::from(!(self.grammar.kind(ty) == Kind::Sequence && index == 1))
+        usize::from(!(self.grammar.kind(ty).is_sequence() && index == 1))
     }
 
     /// Grows a tree within bounds, if it can be done; otherwise it passes
@@ -165,7 +168,7 @@ impl<'a> Shapes<'a> {
         children: &[TypeNumber],
         style: Style,
     ) -> usize {
-        let sequence = self.grammar.kind(ty) == Kind::Sequence;
+        let sequence = self.grammar.kind(ty).is_sequence();
         match style {
             Style::Long if sequence => 1,
             Style::Deep => {
@@ -271,7 +274,7 @@ fn endless_types(grammar: &Grammar) -> Vec<bool> {
     for (number, ty) in grammar.types.iter().enumerate() {
         for children in &ty.alternatives {
             // A rest is no deeper, so only elements of sequences count.
-            let deeper = if ty.kind == Kind::Sequence {
+            let deeper = if ty.kind.is_sequence() {
                 1
             } else {
                 children.len()

@@ -18,16 +18,23 @@ pub enum TokenClass {
     String,
 }
 
-/// The four kinds of type.
+/// The five kinds of type, one for each bit of a record's map.
 #[derive(Clone, Copy, Debug, PartialEq, Eq)]
 pub enum Kind {
     Token(TokenClass),
     /// The paper's "opt".
     Optional,
-    /// The paper's "repeat" and, with T-04, its "list", which is "a repeat in
-    /// all but its bit".
-    Sequence,
+    Repeat,
+    /// T-04: "a repeat in all but its bit".
+    List,
     Forms,
+}
+
+impl Kind {
+    /// Whether a type of this kind is a sequence: a repeat or a list.
+    pub fn is_sequence(self) -> bool {
+        matches!(self, Kind::Repeat | Kind::List)
+    }
 }
 
 /// One type of a grammar.
@@ -93,7 +100,7 @@ impl Grammar {
     /// sequence.
     pub fn element(&self, ty: TypeNumber) -> Option<TypeNumber> {
         let ty = &self.types[ty as usize];
-        (ty.kind == Kind::Sequence).then(|| ty.alternatives[0][0])
+        ty.kind.is_sequence().then(|| ty.alternatives[0][0])
     }
 
     /// The types of the children of a node, or `None` if a node of that type
@@ -146,8 +153,9 @@ fn read_type(reader: &mut Reader, own: TypeNumber, count: u32) -> Result<Type, R
             (Kind::Optional, vec![vec![element], vec![]])
         }
         4 | 16 => {
+            let kind = if map == 4 { Kind::Repeat } else { Kind::List };
             let element = reader.word_where(is_type)?;
-            (Kind::Sequence, vec![vec![element, own], vec![]])
+            (kind, vec![vec![element, own], vec![]])
         }
         _ => {
             let forms = reader.count(1, limits::FORMS)?;
@@ -210,7 +218,7 @@ impl<'a> OpenPlaces<'a> {
         let Some(children) = self.grammar.child_types(place.ty, value) else {
             return false;
         };
-        let sequence = self.grammar.kind(place.ty) == Kind::Sequence;
+        let sequence = self.grammar.kind(place.ty).is_sequence();
         for (index, &ty) in children.iter().enumerate().rev() {
             // The rest of a sequence keeps its parent's nesting.
             let rest = sequence && index == 1;

@@ -1,7 +1,7 @@
 //! A plain implementation of the rewriting core of document 01 ("The
 //! rewriting core of the counter pad") with change requests T-01, T-02, T-04,
-//! T-05, T-06 and T-07 of document 02, written from those papers alone with
-//! real trees, to compare another core with.
+//! T-05, T-06, T-07 and T-08 of document 02, written from those papers alone
+//! with real trees, to compare another core with.
 //!
 //! Names are the field's usual ones. The paper's own words stand at each
 //! definition: a "slip" is a tree, or still a slip where its words are meant,
@@ -10,6 +10,7 @@
 //! apart", "build" and "test" are deconstruct, construct and condition.
 
 pub mod bench;
+mod convert;
 pub mod grammar;
 pub mod limits;
 pub mod rules;
@@ -51,6 +52,41 @@ pub enum Outcome {
         /// The replacements that the first call put in place.
         replacements: u32,
         /// The filled words of the result, three a node (T-07).
+        words: Vec<u32>,
+    },
+}
+
+/// Which of the two grammars a refusal is about. T-08: "in each A, then B, the
+/// answer saying which".
+#[derive(Clone, Copy, Debug, PartialEq, Eq)]
+pub enum Which {
+    Neither,
+    /// The paper's grammar "A".
+    Old,
+    /// The paper's grammar "B".
+    New,
+}
+
+impl Which {
+    /// The number that the answer carries.
+    pub fn number(self) -> u32 {
+        match self {
+            Which::Neither => 0,
+            Which::Old => 1,
+            Which::New => 2,
+        }
+    }
+}
+
+/// The outcome of a conversion.
+#[derive(Clone, Debug, PartialEq, Eq)]
+pub enum Conversion {
+    Refused {
+        refusal: Refusal,
+        grammar: Which,
+    },
+    Converted {
+        /// The filled words of the result, three a node.
         words: Vec<u32>,
     },
 }
@@ -103,6 +139,27 @@ pub fn run(
     }
 }
 
+/// Converts a slip of the old grammar to one of the new grammar as the table
+/// says (T-08).
+///
+/// `counted` says that the slip is in the edition of T-07, three words a node;
+/// otherwise it is in that of document 01, two words a node. `result_len` is
+/// the length of the memory that the call lends; this implementation does not
+/// use it.
+pub fn convert(
+    old: &[u32],
+    new: &[u32],
+    table: &[u32],
+    counted: bool,
+    slip: &[u32],
+    result_len: usize,
+) -> Conversion {
+    match convert::convert(old, new, table, counted, slip, result_len) {
+        Ok(tree) => Conversion::Converted { words: tree.slip() },
+        Err((refusal, grammar)) => Conversion::Refused { refusal, grammar },
+    }
+}
+
 /// The refusals of the call itself, all at word 0.
 fn check_call(
     grammar: &[u32],
@@ -111,9 +168,7 @@ fn check_call(
     result_len: usize,
     work_len: usize,
 ) -> Result<(), Refusal> {
-    if result_len < limits::RESULT_WORDS {
-        return Err(Refusal::new(1, 0));
-    }
+    check_result(result_len)?;
     if work_len < limits::WORK_WORDS {
         return Err(Refusal::new(2, 0));
     }
@@ -138,6 +193,14 @@ fn check_inputs(
 fn read_rules(grammar: &Grammar, words: &[u32]) -> Result<Program, Refusal> {
     let layout = rules::read_layout(grammar, words)?;
     typing::check(grammar, &layout)
+}
+
+fn check_result(result_len: usize) -> Result<(), Refusal> {
+    if result_len < limits::RESULT_WORDS {
+        Err(Refusal::new(1, 0))
+    } else {
+        Ok(())
+    }
 }
 
 fn check_length(words: &[u32], limit: usize, number: u32) -> Result<(), Refusal> {

@@ -8,6 +8,9 @@ pub const RULES_WORDS: usize = 16_384;
 /// Most words of a slip (refusal 30). T-07: "The slip may have 6,144 words and
 /// a multiple of three", which are `NODES` nodes.
 pub const SLIP_WORDS: usize = 6_144;
+/// Most words of a slip in the edition of document 01, two words a node, which
+/// T-08 still takes "with 30 as in document 01".
+pub const TWO_WORD_SLIP_WORDS: usize = 4_096;
 /// Fewest words of result memory (refusal 1). T-07: "the result needs 6,144".
 pub const RESULT_WORDS: usize = 6_144;
 /// Fewest words of work memory (refusal 2), with T-07 too: "Patterns,

@@ -7,13 +7,16 @@
 
 use std::rc::Rc;
 
-use crate::grammar::{Grammar, Kind, OpenPlaces, TypeNumber};
+use crate::grammar::{Grammar, OpenPlaces, TypeNumber};
 use crate::limits;
 use crate::Refusal;
 
 /// The words of a node in a slip or a result (T-07): its type, its value and
 /// the number of nodes in its tree.
 const SLIP_NODE: usize = 3;
+/// The words of a node in a slip of document 01, which the converter of T-08
+/// still takes: its type and its value.
+const TWO_WORD_NODE: usize = 2;
 
 /// A whole tree.
 #[derive(Clone, Debug)]
@@ -45,16 +48,21 @@ impl Tree {
     /// Reads a slip: the words of a tree of type 0, three a node. T-07: "type,
     /// value, and the number of nodes in its tree, itself included".
     pub fn read_slip(grammar: &Grammar, slip: &[u32]) -> Result<Tree, Refusal> {
-        let whole_nodes = slip.len().is_multiple_of(SLIP_NODE);
-        if slip.is_empty() || !whole_nodes || slip.len() > limits::SLIP_WORDS {
-            return Err(Refusal::new(30, 0));
-        }
-        let tree = Tree::assemble(grammar, read_nodes(grammar, slip)?);
+        check_slip_length(slip, SLIP_NODE, limits::SLIP_WORDS)?;
+        let tree = Tree::assemble(grammar, read_nodes(grammar, slip, SLIP_NODE)?);
         // T-07: 34 is "checked after 33 over the whole slip", so only now.
         match tree.first_wrong_count(slip) {
             Some(position) => Err(Refusal::new(34, position)),
             None => Ok(tree),
         }
+    }
+
+    /// Reads a slip of document 01, two words a node. T-08: "with 30 as in
+    /// document 01, and no 34".
+    pub fn read_two_word_slip(grammar: &Grammar, slip: &[u32]) -> Result<Tree, Refusal> {
+        check_slip_length(slip, TWO_WORD_NODE, limits::TWO_WORD_SLIP_WORDS)?;
+        let nodes = read_nodes(grammar, slip, TWO_WORD_NODE)?;
+        Ok(Tree::assemble(grammar, nodes))
     }
 
     /// The lowest word of this tree's slip whose count is not the number of
@@ -94,7 +102,7 @@ impl Tree {
             ty,
             value,
             children,
-            sequence: grammar.kind(ty) == Kind::Sequence,
+            sequence: grammar.kind(ty).is_sequence(),
             size: 0,
             height: 0,
         };
@@ -204,13 +212,24 @@ impl Tree {
     }
 }
 
-/// Reads the nodes of a slip (refusals 31 to 33). The grammar alone says where
-/// the tree ends; the counts are not looked at.
-fn read_nodes(grammar: &Grammar, slip: &[u32]) -> Result<Vec<Piece>, Refusal> {
-    let mut pieces = Vec::with_capacity(slip.len() / SLIP_NODE);
+/// Holds the length of a slip to that of one or more whole nodes and to its
+/// limit (refusal 30).
+fn check_slip_length(slip: &[u32], node_words: usize, limit: usize) -> Result<(), Refusal> {
+    let whole_nodes = slip.len().is_multiple_of(node_words);
+    if slip.is_empty() || !whole_nodes || slip.len() > limit {
+        return Err(Refusal::new(30, 0));
+    }
+    Ok(())
+}
+
+/// Reads the nodes of a slip (refusals 31 to 33), each beginning with its type
+/// and its value. The grammar alone says where the tree ends; counts are not
+/// looked at.
+fn read_nodes(grammar: &Grammar, slip: &[u32], node_words: usize) -> Result<Vec<Piece>, Refusal> {
+    let mut pieces = Vec::with_capacity(slip.len() / node_words);
     let mut places = OpenPlaces::new(grammar, 0);
     while let Some(place) = places.next_place() {
-        let position = SLIP_NODE * pieces.len();
+        let position = node_words * pieces.len();
         if position == slip.len() {
             return Err(Refusal::new(31, position));
         }
@@ -226,7 +245,7 @@ fn read_nodes(grammar: &Grammar, slip: &[u32]) -> Result<Vec<Piece>, Refusal> {
         }
         pieces.push(Piece::Node { ty, value });
     }
-    let end = SLIP_NODE * pieces.len();
+    let end = node_words * pieces.len();
     if end < slip.len() {
         return Err(Refusal::new(31, end));
     }

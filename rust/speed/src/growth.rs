@@ -87,7 +87,7 @@ fn series_times(series: &Series, memories: &mut Memories) -> [[f64; 3]; 2] {
 }
 
 /// The time at a size, and how many times the one at the size before it is.
-fn time_cells(times: &[f64; 3], index: usize) -> String {
+pub fn time_cells(times: &[f64; 3], index: usize) -> String {
     let time = times[index];
     match index {
         0 => format!("{time:.0} |"),

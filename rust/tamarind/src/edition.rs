@@ -15,7 +15,9 @@ use crate::foreign;
 /// 6 is T-06: reach 3, the one-pass rule.
 /// 7 is T-07: each node of a slip and of a result has a third word, the number
 /// of nodes in its tree.
-pub const EDITION: u32 = 7;
+/// 8 is T-08: [`convert`](crate::convert()), which converts a slip of one grammar
+/// to a slip of another.
+pub const EDITION: u32 = 8;
 
 /// The edition of the archive that is linked.
 pub fn edition() -> u32 {

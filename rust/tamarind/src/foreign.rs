@@ -5,7 +5,7 @@
 
 use core::mem::{offset_of, size_of};
 
-use crate::{Outcome, Refusal, Stop};
+use crate::{ConversionRefusal, Outcome, Refusal, Stop, WhichGrammar};
 
 /// A single check's answer, as the core returns it.
 #[repr(C)]
@@ -44,6 +44,15 @@ pub struct Posting {
     words: usize,
 }
 
+/// What came of a conversion, as the core returns it.
+#[repr(C)]
+pub struct ConversionAnswer {
+    number: u32,
+    position: usize,
+    grammar: u32,
+    filled: usize,
+}
+
 // The layouts that the archive is compiled for, those of include/tamarind.h.
 const _: () = {
     assert!(size_of::<usize>() == 8);
@@ -52,6 +61,10 @@ const _: () = {
     assert!(offset_of!(RunAnswer, position) == 8 && offset_of!(RunAnswer, attempts) == 16);
     assert!(offset_of!(RunAnswer, replacements) == 20 && offset_of!(RunAnswer, filled) == 24);
     assert!(size_of::<Posting>() == 16 && offset_of!(Posting, words) == 8);
+    assert!(size_of::<bool>() == 1 && size_of::<ConversionAnswer>() == 32);
+    assert!(offset_of!(ConversionAnswer, position) == 8);
+    assert!(offset_of!(ConversionAnswer, grammar) == 16);
+    assert!(offset_of!(ConversionAnswer, filled) == 24);
 };
 
 const DONE: u32 = 0;
@@ -60,6 +73,9 @@ const REFUSED: u32 = 2;
 
 const POST_SLIP: u32 = 0;
 const POST_RESULT: u32 = 1;
+
+const OLD_GRAMMAR: u32 = 1;
+const NEW_GRAMMAR: u32 = 2;
 
 impl From<RunAnswer> for Outcome {
     fn from(answer: RunAnswer) -> Self {
@@ -80,6 +96,28 @@ impl From<RunAnswer> for Outcome {
                 position: answer.position,
             }),
             (ending, _) => unreachable!("the core has no ending {ending}"),
+        }
+    }
+}
+
+/// The words filled, or the refusal.
+impl From<ConversionAnswer> for Result<usize, ConversionRefusal> {
+    fn from(answer: ConversionAnswer) -> Self {
+        let grammar = match answer.grammar {
+            0 => None,
+            OLD_GRAMMAR => Some(WhichGrammar::Old),
+            NEW_GRAMMAR => Some(WhichGrammar::New),
+            grammar => unreachable!("the core has no grammar {grammar}"),
+        };
+        match answer.number {
+            0 => Ok(answer.filled),
+            number => Err(ConversionRefusal {
+                refusal: Refusal {
+                    number,
+                    position: answer.position,
+                },
+                grammar,
+            }),
         }
     }
 }
@@ -122,6 +160,33 @@ pub fn run(
             result.len(),
             work.as_mut_ptr(),
             work.len(),
+        )
+    }
+}
+
+pub fn convert(
+    old_grammar: &[u32],
+    new_grammar: &[u32],
+    table: &[u32],
+    slip: &[u32],
+    counted: bool,
+    result: &mut [u32],
+) -> ConversionAnswer {
+    // SAFETY: as above, all slices. The result is borrowed for writing, so it
+    // shares no word with the inputs.
+    unsafe {
+        tamarind_convert(
+            old_grammar.as_ptr(),
+            old_grammar.len(),
+            new_grammar.as_ptr(),
+            new_grammar.len(),
+            table.as_ptr(),
+            table.len(),
+            slip.as_ptr(),
+            slip.len(),
+            counted,
+            result.as_mut_ptr(),
+            result.len(),
         )
     }
 }
@@ -187,4 +252,17 @@ extern "C" {
         work: *mut u32,
         work_len: usize,
     ) -> RunAnswer;
+    fn tamarind_convert(
+        old_grammar: *const u32,
+        old_grammar_len: usize,
+        new_grammar: *const u32,
+        new_grammar_len: usize,
+        table: *const u32,
+        table_len: usize,
+        slip: *const u32,
+        slip_len: usize,
+        counted: bool,
+        result: *mut u32,
+        result_len: usize,
+    ) -> ConversionAnswer;
 }

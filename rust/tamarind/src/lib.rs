@@ -25,7 +25,8 @@
 //! ```
 //!
 //! Every count is right in a slip that [`check_slip`] passes, and in what a run
-//! has filled of its result. So a field is stepped over by its count:
+//! or a conversion has filled of its result. So a field is stepped over by its
+//! count:
 //!
 //! ```
 //! # let slip = [0, 0, 6, 1, 0, 5, 2, 200, 1, 1, 0, 3, 2, 500, 1, 1, 1, 1];
@@ -40,6 +41,10 @@
 //! `docs/bench.md` takes these words apart, and says what each refusal and stop
 //! asks of a rule writer.
 //!
+//! [`convert`](convert()) is for a bank that renumbers its grammar: it turns
+//! slips of the old grammar, of this edition or of two words a node, into slips of
+//! the new one. `docs/convert.md` has an example, word by word.
+//!
 //! Each function calls the proved function of the same name in `libtamarind.a`
 //! and turns its answer into Rust's own types. Any words of any length may be
 //! passed. Nothing is kept between calls; threads may call at once. The crate
@@ -53,6 +58,7 @@
 #![deny(missing_docs)]
 #![deny(unsafe_code)]
 
+mod convert;
 mod edition;
 mod foreign;
 pub mod limits;
@@ -62,6 +68,7 @@ mod refusal;
 mod run;
 mod stop;
 
+pub use convert::{convert, ConversionRefusal, WhichGrammar};
 pub use edition::{check_edition, edition, WrongEdition, EDITION};
 pub use limits::{GREATEST_BUDGET, RESULT_WORDS, WORK_WORDS};
 pub use meaning::meaning;
@@ -107,3 +114,8 @@ pub fn check_slip(grammar: &[u32], slip: &[u32]) -> Result<(), Refusal> {
 pub fn check_rules(grammar: &[u32], rules: &[u32]) -> Result<(), Refusal> {
     foreign::check_rules(grammar, rules).into()
 }
+
+/// The examples of `docs/convert.md`, run as the other examples of this crate are.
+#[cfg(doctest)]
+#[doc = include_str!("../../../docs/convert.md")]
+pub struct ConvertPage;

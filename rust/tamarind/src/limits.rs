@@ -2,7 +2,8 @@
 //!
 //! What passes one is refused or stopped by the number that is named.
 
-/// The fewest words of result memory that a run accepts (refusal 1).
+/// The fewest words of result memory that a run or a conversion accepts (refusal
+/// 1).
 pub const RESULT_WORDS: usize = 6_144;
 /// The fewest words of work memory that a run accepts (refusal 2).
 pub const WORK_WORDS: usize = 16_384;

@@ -23,7 +23,7 @@ pub const fn meaning(number: u32) -> &'static str {
         22 => "variable not there yet, rule or operation not there or not usable here or on its scope, or argument count",
         23 => "a pair, value, type or variable's type that cannot stand there, or pairs short or over",
         24 => "17th variable of a rule, or a pattern or replacement nested over 64",
-        30 => "slip of no words, of a count that is no multiple of three, or over 6,144",
+        30 => "slip of no words, of a count that is no multiple of three, or over 6,144; at two words a node an odd count, or over 4,096",
         31 => "slip ends early, or words left over",
         32 => "type, form or value not allowed in the slip",
         33 => "slip nested over 64",
@@ -34,6 +34,8 @@ pub const fn meaning(number: u32) -> &'static str {
         43 => "a finished tree's nesting would pass 64",
         44 => "live nodes would pass 6,144",
         45 => "an operation's result under 0 or over 4,000,000,000, or divisor 0",
+        60 => "the table is too short, too long or names something not in the new grammar",
+        61 => "a mapped type differs in kind or class, a mapped element or form differs in its mapped types, or type 0 does not map to type 0",
         _ => "no number of this edition",
     }
 }

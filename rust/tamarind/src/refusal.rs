@@ -1,4 +1,4 @@
-//! Refusals: nothing was run, and no lent word was changed.
+//! Refusals: nothing was run or converted, and no lent word was changed.
 
 use core::error::Error;
 use core::fmt;
@@ -64,6 +64,11 @@ impl Refusal {
     pub const SLIP_NESTING: u32 = 33;
     /// A count of the slip is not the number of nodes in its node's tree.
     pub const SLIP_COUNT: u32 = 34;
+    /// The table of a conversion is too short or too long, or names something
+    /// that is not in the new grammar.
+    pub const TABLE_NAMES: u32 = 60;
+    /// A type or form of the old grammar does not fit what the table maps it to.
+    pub const TABLE_FIT: u32 = 61;
 }
 
 impl Refusal {

@@ -9,6 +9,7 @@ use std::process::ExitCode;
 
 use datasheet::abi;
 use datasheet::formula::formula;
+use datasheet::nesting::table_to_itself;
 use datasheet::sheet::{most_table, terms_table, top, write, written};
 use datasheet::slow::slow_checks;
 use datasheet::timing::{least, run_timed, times_of_rounds, usual_clock, Timed};
@@ -147,27 +148,36 @@ fn checks_table() -> Vec<String> {
         .map(|(check, input)| check_timed(check, input));
     let times = least(calls.collect());
     rows.extend(checks.iter().zip(times).map(|((check, input), time)| {
-        let words = written(words_of(check, input).len());
+        let words = written(words_of(check, input));
         format!("| {check} | {words} | {:.1} |", time / 1e3)
     }));
     rows
 }
 
-/// The words that a check is about.
-fn words_of<'a>(check: &str, input: &'a Input) -> &'a [u32] {
+/// How many words a check is about; a conversion reads its grammar twice.
+fn words_of(check: &str, input: &Input) -> usize {
+    let (grammar, slip) = (input.grammar.len(), input.slip.len());
     match check {
-        "grammar" => &input.grammar,
-        "slip" => &input.slip,
-        _ => &input.rules,
+        "grammar" => grammar,
+        "slip" => slip,
+        "conversion" => 2 * grammar + table_to_itself(&input.grammar).len() + slip,
+        _ => input.rules.len(),
     }
 }
 
-/// A check.
+/// A check, or a conversion.
 fn check_timed<'a>(check: &str, input: &'a Input) -> Timed<'a> {
     let call = match check {
         "grammar" => abi::check_grammar,
         "slip" => abi::check_slip,
+        "conversion" => return conversion_timed(input),
         _ => abi::check_rules,
     };
     Box::new(move || _ = black_box(call(black_box(input))))
+}
+
+fn conversion_timed(input: &Input) -> Timed<'_> {
+    let table = table_to_itself(&input.grammar);
+    let mut result = vec![u32::MAX; abi::RESULT_WORDS];
+    Box::new(move || _ = black_box(abi::convert(black_box(input), &table, &mut result)))
 }

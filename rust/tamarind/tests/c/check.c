@@ -12,6 +12,11 @@ static const uint32_t slip[] = {0, 0, 6, 1, 0, 5, 2, 200, 1, 1, 0, 3, 2, 500, 1,
 static const uint32_t miscounted[] = {0, 0, 6, 1, 0, 5, 2, 200, 1, 1, 0, 2, 2, 500, 1, 1, 1, 1};
 static const uint32_t rules[] = {1, 9, 2, 2, 1, 2, 200, 1, 2, 4200};
 static const uint32_t untyped[] = {1, 9, 2, 2, 1, 2, 200, 1, 1, 1};
+/* The number comes before the sequence: types 1 and 2 have changed places. */
+static const uint32_t renumbered[] = {3, 8, 1, 1, 2, 1, 2, 4, 1};
+static const uint32_t table[] = {0, 0, 2, 1, 0};
+static const uint32_t older[] = {0, 0, 1, 0, 2, 200, 1, 0, 2, 500, 1, 1};
+static const uint32_t converted[] = {0, 0, 6, 2, 0, 5, 1, 200, 1, 2, 0, 3, 1, 500, 1, 2, 1, 1};
 
 /* Both memories are lent but for their last words, which no run may change. */
 enum { GUARD = 8, RESULT = TAMARIND_RESULT_WORDS + 5, WORK = TAMARIND_WORK_WORDS + 7 };
@@ -65,6 +70,35 @@ static void post(size_t filled, size_t result_len) {
     printf("post %s %zu\n", source, words);
 }
 
+/* Converts a slip to the new grammar over a dirty result and prints the answer,
+ * and whether the result is as it must be: it has the converted slip, or is as it
+ * was. */
+static void convert(const uint32_t *to, size_t to_len, size_t table_len, const uint32_t *words,
+                    size_t count, bool counted) {
+    fill(result, RESULT + GUARD);
+    memcpy(result_due, result, sizeof result);
+    tamarind_conversion answer = tamarind_convert(grammar, 9, to, to_len, table, table_len, words,
+                                                  count, counted, result, RESULT);
+    if (answer.number == 0) memcpy(result_due, converted, sizeof converted);
+    printf("%u %zu %u %zu", (unsigned)answer.number, answer.position, (unsigned)answer.grammar,
+           answer.filled);
+    int right = !memcmp(result, result_due, sizeof result);
+    printf(" result %s\n", right ? "right" : "wrong");
+}
+
+/* Refusals that come before the table: of the result, and of the old grammar. */
+static void refuse_conversions(void) {
+    tamarind_conversion answer = tamarind_convert(grammar, 9, renumbered, 9, table, 4, slip, 18, true,
+                                                  result, TAMARIND_RESULT_WORDS - 1);
+    printf("%u %zu %u\n", (unsigned)answer.number, answer.position, (unsigned)answer.grammar);
+    answer = tamarind_convert(endless, 5, renumbered, 9, table, 4, slip, 18, true, result, RESULT);
+    printf("%u %zu %d\n", (unsigned)answer.number, answer.position,
+           answer.grammar == TAMARIND_OLD_GRAMMAR);
+    answer = tamarind_convert(grammar, 9, endless, 5, table, 4, slip, 18, true, result, RESULT);
+    printf("%u %zu %d\n", (unsigned)answer.number, answer.position,
+           answer.grammar == TAMARIND_NEW_GRAMMAR);
+}
+
 int main(void) {
     print(tamarind_check_grammar(grammar, 9));
     print(tamarind_check_grammar(grammar, 8));
@@ -85,6 +119,16 @@ int main(void) {
     post(8, 8);
     post(9, 8);
     post(SIZE_MAX, 8);
+    convert(renumbered, 9, 4, slip, 18, true);
+    convert(renumbered, 9, 4, older, 12, false);
+    convert(renumbered, 8, 4, slip, 18, true);
+    convert(renumbered, 9, 3, slip, 18, true);
+    convert(renumbered, 9, 5, slip, 18, true);
+    convert(grammar, 9, 4, slip, 18, true);
+    convert(renumbered, 9, 4, older, 11, false);
+    convert(renumbered, 9, 4, older, 2, false);
+    convert(renumbered, 9, 4, miscounted, 18, true);
+    refuse_conversions();
     printf("edition %u %d\n", (unsigned)tamarind_edition(), tamarind_is_this_edition());
     print_meanings();
     return 0;

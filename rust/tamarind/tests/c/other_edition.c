@@ -38,3 +38,15 @@ tamarind_posting tamarind_words_to_post(uint32_t ending, size_t filled,
     (void)ending, (void)filled, (void)result_len, (void)slip_len;
     abort();
 }
+
+tamarind_conversion tamarind_convert(const uint32_t *old_grammar, size_t old_grammar_len,
+                                     const uint32_t *new_grammar, size_t new_grammar_len,
+                                     const uint32_t *table, size_t table_len,
+                                     const uint32_t *slip, size_t slip_len,
+                                     bool counted,
+                                     uint32_t *result, size_t result_len) {
+    (void)old_grammar, (void)old_grammar_len, (void)new_grammar, (void)new_grammar_len;
+    (void)table, (void)table_len, (void)slip, (void)slip_len, (void)counted;
+    (void)result, (void)result_len;
+    abort();
+}

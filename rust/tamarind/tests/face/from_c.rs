@@ -17,11 +17,18 @@ const RUNS: &str = "\
     2 23 8 0 0 0 memories right, post slip 18\n\
     2 3 0 0 0 0 memories right, post slip 18\n";
 const POSTS: &str = "post result 8\npost slip 18\npost slip 18\n";
+const CONVERSIONS: &str = "\
+    0 0 0 18 result right\n0 0 0 18 result right\n\
+    10 8 2 0 result right\n60 3 0 0 result right\n\
+    60 4 0 0 result right\n61 1 0 0 result right\n\
+    30 0 0 0 result right\n31 2 0 0 result right\n\
+    34 11 0 0 result right\n\
+    1 0 0\n12 1 1\n12 1 1\n";
 
 fn expected() -> String {
     let edition = format!("edition {EDITION} 1\n");
     let meanings = (0..100).map(|number| format!("{number} {}\n", meaning(number)));
-    [CHECKS, RUNS, POSTS, &edition]
+    [CHECKS, RUNS, POSTS, CONVERSIONS, &edition]
         .map(String::from)
         .into_iter()
         .chain(meanings)

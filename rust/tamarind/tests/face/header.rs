@@ -175,6 +175,8 @@ fn the_texts_name_the_limits() {
         let value = grouped(limits[limit] + one_more);
         assert!(text.contains(&value), "{text}: not {value}");
     }
+    let of_two_words = grouped(2 * limits["MOST_NODES"]);
+    assert!(meaning(30).ends_with(&format!("over {of_two_words}")));
 }
 
 /// Whether a program compiles that names this.

@@ -1,11 +1,12 @@
 //! What someone meets who links the core: the header from C and C++, its
-//! agreement with this crate and with the proved code, the examples, the build
-//! script and the release.
+//! agreement with this crate and with the proved code, the examples, the page on
+//! renumbering a grammar, the build script and the release.
 
 mod build_script;
 mod examples;
 mod from_c;
 mod header;
+mod page;
 mod release;
 mod signatures;
 

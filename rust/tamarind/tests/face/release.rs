@@ -26,6 +26,7 @@ impl Repository {
         for file in [
             "include/tamarind.h",
             "docs/bench.md",
+            "docs/convert.md",
             "examples/post.c",
             "examples/post.stdout",
             "tools/gate-record",
@@ -200,6 +201,7 @@ fn a_passing_record_gives_a_folder_that_is_whole() {
             "RELEASE.txt",
             "SHA256SUMS",
             "bench.md",
+            "convert.md",
             "gate.txt",
             "libtamarind.a",
             "post.c",

@@ -15,10 +15,11 @@ struct Export {
 }
 
 /// The structs that are exported, with their names in C.
-const STRUCTS: [(&str, &str); 3] = [
+const STRUCTS: [(&str, &str); 4] = [
     ("Answer", "tamarind_answer"),
     ("RunAnswer", "tamarind_outcome"),
     ("Posting", "tamarind_posting"),
+    ("ConversionAnswer", "tamarind_conversion"),
 ];
 
 /// A text with single blanks, and none inside brackets.
@@ -66,6 +67,7 @@ fn in_c(kind: &str) -> &str {
         "&mut [u32]" => "uint32_t *",
         "u32" => "uint32_t ",
         "usize" => "size_t ",
+        "bool" => "bool ",
         name => panic!("{name} is not exported"),
     }
 }

@@ -1,0 +1,4 @@
+pub mod Table
+pub mod Conversion
+pub mod Views
+pub mod Cases
