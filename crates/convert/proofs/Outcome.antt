@@ -1,11 +1,11 @@
 -- The table's two readings as one, the slip read and written, and the outcome. Assumes nothing.
-use Prim.Native.Nat.{ℕ, zero, suc, _*_, _/_, _<_, _≤_}
+use Prim.Native.Nat.{ℕ, zero, suc, _+_, _*_, _<_, _≤_}
 use mathlib.Core.Path.{_≡_, refl, sym, ap, _∙_}
 use mathlib.Core.List.{List, [], _∷_, _++_}
 use mathlib.Core.Bool.{Bool, true, false}
 use native.Mathlib.Omega.{arith}
-use lib.ListN.{length, getD, take, drop, length-take, length-drop, length-append}
-use lib.Seq.{take-at}
+use lib.ListN.{length, getD, take, drop, length-take}
+use lib.Seq.{take-at, drop-at, drop-drop}
 use lib.Dec.{eqb}
 use borrow.Author.Tests.{eq-eqb, ne-eqb, le-leb, lt-leb}
 use Rattle.words.specs.Reader.{Words, value, refused, accepted}
@@ -24,10 +24,10 @@ use Rattle.tree.proofs.Trees.{trees-even}
 use Rattle.tree.proofs.Slip.{counted-length, slip-exactly}
 use Rattle.marks.specs.Marked.{marked}
 use Rattle.marks.proofs.Marks.{marked-length}
-use Rattle.slips.specs.Slips.{ReadBeside}
+use Rattle.slips.specs.Slips.{SlipRead}
 use Rattle.convert.specs.Table.{Entry, wholeTable, entryOf, typeTo, typesFit, readTable, Fits}
 use Rattle.convert.specs.Conversion.{converted, Conversion, refusedBy, convertedTo, orRefused, conversionBetween, conversion, resultAfter, convertedAs, Converts}
-use Rattle.convert.specs.Views.{Side, Shows, typeAt, Placed, Numbered, WholeRead, TypesTested, TableRead, TableChecked, TreeConverted, treeWords, SlipConverted}
+use Rattle.convert.specs.Views.{Side, Shows, typeAt, Placed, Numbered, WholeRead, TypesTested, TableRead, TableChecked, TreeConverted, nodesIn, SlipConverted}
 use Rattle.convert.specs.declared.Converted.{Converted}
 use Rattle.convert.specs.declared.Converted.the-variants.{Filled, Refusal}
 use Rattle.convert.proofs.Exactly.{table-exactly, EntriesNamed, none-named, one-named, fits-named, table-read}
@@ -158,42 +158,43 @@ module _ (edition : Bool) (olds news ts ss r : Words) where
 
 -- A SLIP
 
-words-of : (edition : Bool) (a : Grammar) (ss ws : Words) → ss ≡ inEdition edition a ws → length ws ≡ 2 * size ws → length ws ≡ treeWords edition (length ss)
-unfolding inEdition treeWords
-words-of true a ss ws e l = omega (arith, ap length e, counted-length a ws)
-words-of false a ss ws e l = sym (ap length e)
+nodes-of : (edition : Bool) (a : Grammar) (ss ws : Words) → ss ≡ inEdition edition a ws → length ws ≡ 2 * size ws → nodesIn edition (length ss) ≡ size ws
+unfolding inEdition nodesIn
+nodes-of true a ss ws e l = omega (arith, ap length e, counted-length a ws)
+nodes-of false a ss ws e l = omega (arith, ap length e)
 
-module _ (edition : Bool) (ss heads rows : Words) {b₀ b′ : Words} (c : Check) (s : ReadBeside (λ g. readEdition edition g ss) heads rows b₀ b′ c) where
-  pub slip-refused : {no′ p : ℕ} → c ≡ Refused no′ p → (ts : Words) (places : List ℕ) (r : Words) → SlipConverted heads rows ts places edition ss r r (Refusal 0 no′ p)
+module _ (edition : Bool) (ss heads rows : Words) {r r₁ : Words} (c : Check) (s : SlipRead (λ g. readEdition edition g ss) heads rows r r₁ c) (room : 6144 ≤ length r) where
+  pub slip-refused : {no′ p : ℕ} → c ≡ Refused no′ p → (ts : Words) (places : List ℕ) → SlipConverted heads rows ts places edition ss r r₁ (Refusal 0 no′ p)
   unfolding orRefused
-  slip-refused f ts places r = λ a b es ta p fits. refuses (rw (answer-refused (readEdition edition a ss) c (s .answered a ta) f))
+  slip-refused f ts places = λ a b es ta p fits. rw (s .kept f) (refuses (rw (answer-refused (readEdition edition a ss) c (s .answered a ta) f)))
 
   module _ {p : ℕ} (f : c ≡ Passed p) where
-    tree-of : (a : Grammar) → Tables a heads rows → (ws : Words) × (readEdition edition a ss ≡ value ws p) × Tree a 0 ws × (length ws ≡ 2 * size ws) × (length ws ≡ treeWords edition (length ss))
+    tree-of : (a : Grammar) → Tables a heads rows → (ws : Words) × (readEdition edition a ss ≡ value ws p) × Tree a 0 ws × (length ws ≡ 2 * size ws) × (nodesIn edition (length ss) ≡ size ws)
     tree-of a ta =
         let u = answer-passed (readEdition edition a ss) c (s .answered a ta) f in
         let x = slip-exactly edition a ss (u .0) .sound (p, u .1) in
         let l = trees-even (x .0 .typed) in
-        (u .0, u .1, x .0, l, words-of edition a ss (u .0) (x .1) l)
+        (u .0, u .1, x .0, l, nodes-of edition a ss (u .0) (x .1) l)
 
-    pub slip-few : AreTables heads rows → treeWords edition (length ss) ≤ 4096
-    slip-few t = let u = tree-of (t .0) (t .1) in omega (arith, u .2 .nodes, u .3, u .4)
+    pub slip-few : AreTables heads rows → nodesIn edition (length ss) ≤ 2048
+    slip-few t = let u = tree-of (t .0) (t .1) in omega (arith, u .2 .nodes, u .4)
 
-    pub slip-kept : AreTables heads rows → length b₀ ≡ 4096 → length b′ ≡ 4096
-    slip-kept t l =
-        let u = tree-of (t .0) (t .1) in
-        let e = ap length (s .tree (t .0) (u .0) p (t .1) (u .1)) in
-        omega (arith, e, length-append (marked (t .0) (u .0)) (drop (length (u .0)) b₀), marked-length (t .0) (u .0), length-drop (length (u .0)) b₀, u .2 .nodes, u .3)
-
-    pub slip-done : (end : ℕ) → end ≡ treeWords edition (length ss) → (ts : Words) (places : List ℕ) (r r′ : Words) → TreeConverted heads ts places (take end b′) r r′ → SlipConverted heads rows ts places edition ss r r′ (Filled (end / 2 * 3))
+    pub slip-done : (n : ℕ) → n ≡ nodesIn edition (length ss) → (ts : Words) (places : List ℕ) (r′ : Words) → TreeConverted heads ts places n r₁ r′ → SlipConverted heads rows ts places edition ss r r′ (Filled (3 * n))
     unfolding orRefused convertedAs resultAfter
-    slip-done end ee ts places r r′ t = λ a b es ta p fits.
+    slip-done n en ts places r′ t = λ a b es ta p fits.
         let u = tree-of a ta in
-        let n : length (u .0) ≡ end = u .4 ∙ sym ee in
-        let there : take end b′ ≡ marked a (u .0) = ap (λ i. take i b′) (sym n) ∙ ap (take (length (u .0))) (s .tree a (u .0) _ ta (u .1)) ∙ take-at (marked a (u .0)) (drop (length (u .0)) b₀) (length (u .0)) (marked-length a (u .0)) in
-        let w = t .words a b es (0 ∷ []) (u .0) (ta .heads-of) p fits (u .2 .typed) (u .2 .nodes) there in
-        let l : end / 2 * 3 ≡ length (counted b (converted a es (u .0))) = omega (arith, n, u .3, counted-length b (converted a es (u .0)), converted-size a es (u .0)) in
-        record { answered = rw (u .1) (ap Filled l); result = rw (u .1) w }
+        let ws = u .0 in
+        let out = counted b (converted a es ws) in
+        let count : n ≡ size ws = en ∙ u .4 in
+        let stands : r₁ ≡ marked a ws ++ drop (length ws) r = s .tree a ws _ ta (u .1) (omega arith) in
+        let words : length ws ≡ 2 * n = omega (arith, u .3, count) in
+        let front : take (2 * n) r₁ ≡ marked a ws = ap (take (2 * n)) stands ∙ take-at (marked a ws) (drop (length ws) r) (2 * n) (marked-length a ws ∙ words) in
+        let back : drop (2 * n) r₁ ≡ drop (2 * n) r = ap (drop (2 * n)) stands ∙ drop-at (marked a ws) (drop (length ws) r) (2 * n) (marked-length a ws ∙ words) ∙ ap (λ k. drop k r) words in
+        let three : 2 * n + n ≡ 3 * n = omega arith in
+        let behind : drop (3 * n) r₁ ≡ drop (3 * n) r = ap (λ k. drop k r₁) (sym three) ∙ sym (drop-drop n (2 * n) r₁) ∙ ap (drop n) back ∙ drop-drop n (2 * n) r ∙ ap (λ k. drop k r) three in
+        let long : 3 * n ≡ length out = omega (arith, count, counted-length b (converted a es ws), converted-size a es ws) in
+        let w = t .words a b es (0 ∷ []) ws (ta .heads-of) p fits (u .2 .typed) (u .2 .nodes) count front in
+        record { answered = rw (u .1) (ap Filled long); result = rw (u .1) (w ∙ ap (λ l. out ++ l) behind ∙ ap (λ k. out ++ drop k r) long) }
 
 -- the places of the types
 pub places-part : (i n : ℕ) (l : List ℕ) → length l ≡ 64 → i ≡ n → n ≤ 64 → i ≡ length (take i l)
@@ -223,11 +224,5 @@ module _ (edition : Bool) (a b : Grammar) {ts : Words} (ss r : Words) {places : 
 
 -- THE PARTS THAT ARE HANDED ON
 
-pub buffer-part : (end : ℕ) (l : List ℕ) → length l ≡ 4096 → end ≤ 4096 → end ≡ length (take end l)
-buffer-part end l e h = omega (arith, length-take end l)
-
-pub part-room : (end k : ℕ) (l : List ℕ) → length l ≡ 4096 → end ≤ 4096 → 6144 ≤ k → 3 * (length (take end l) / 2) ≤ k
-part-room end k l e h room = omega (arith, length-take end l)
-
-pub handed-on : (heads ts : Words) (places : List ℕ) (part r r′ : Words) (i n : ℕ) → i ≡ n → TreeConverted heads ts (take i places) part r r′ → TreeConverted heads ts (take n places) part r r′
-handed-on heads ts places part r r′ i n e t = rw e at t
+pub handed-on : (heads ts : Words) (places : List ℕ) (nodes : ℕ) (r r′ : Words) (i n : ℕ) → i ≡ n → TreeConverted heads ts (take i places) nodes r r′ → TreeConverted heads ts (take n places) nodes r r′
+handed-on heads ts places nodes r r′ i n e t = rw e at t

@@ -114,16 +114,16 @@ pub record TableChecked (a b : Grammar) (ts : Words) (places : List ℕ) (r : Ch
 abbrev pub ValueMade : Words → Words → List ℕ → ℕ → ℕ → ℕ → Type 0
 ValueMade heads ts places t v r = (a : Grammar) (es : List Entry) → Heads a heads → Placed ts places es → Numbered a es → allowed a t v ≡ true → r ≡ valueTo (kindOf a t) es t v
 
--- the tree of the part is written to the result as a slip of B; what is behind it is unchanged
-pub record TreeConverted (heads : Words) (ts : Words) (places : List ℕ) (part r r′ : Words) : Type 0 where
+-- the marked tree of n nodes that the result begins with becomes a slip of B in its place; what is behind it is unchanged
+pub record TreeConverted (heads : Words) (ts : Words) (places : List ℕ) (n : ℕ) (r r′ : Words) : Type 0 where
   pub long : length r′ ≡ length r
-  pub words : (a b : Grammar) (es : List Entry) (us : List ℕ) (ws : Words) → Heads a heads → Placed ts places es → Fits a b es → Trees a us ws → size ws ≤ mostNodes → part ≡ marked a ws
-      → r′ ≡ counted b (converted a es ws) ++ drop (length (counted b (converted a es ws))) r
+  pub words : (a b : Grammar) (es : List Entry) (us : List ℕ) (ws : Words) → Heads a heads → Placed ts places es → Fits a b es → Trees a us ws → size ws ≤ mostNodes → n ≡ size ws → take (2 * n) r ≡ marked a ws
+      → r′ ≡ counted b (converted a es ws) ++ drop (3 * n) r
 
--- how many words the tree has of a slip of n words
-unfoldable pub treeWords : Bool → ℕ → ℕ
-treeWords true n = n / 3 * 2
-treeWords false n = n
+-- how many nodes a slip of n words has
+unfoldable pub nodesIn : Bool → ℕ → ℕ
+nodesIn true n = n / 3
+nodesIn false n = n / 2
 
 -- a slip is read and converted by a table that fits
 abbrev pub SlipConverted : Words → Words → Words → List ℕ → Bool → Words → Words → Words → Converted → Type 0

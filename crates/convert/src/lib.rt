@@ -2,11 +2,10 @@
 use tables::HEADS;
 use tables::ROWS;
 use tree::limits::MOST_SLIP_WORDS;
-use tree::limits::MOST_WORDS;
 use words::Check;
 ghost use mathlib.Core.Path.{_≡_};
 ghost use mathlib.Core.Bool.{true};
-ghost use Prim.Native.Nat.{_*_, _/_, _≤_};
+ghost use Prim.Native.Nat.{_*_, _≤_};
 ghost use lib.ListN.{length, take};
 ghost use Rattle.words.specs.Reader.{accepted};
 ghost use Rattle.grammar.specs.Grammar as Grammar;
@@ -15,7 +14,7 @@ ghost use Rattle.tree.specs.Limits.{mostSlipWords};
 ghost use Rattle.tree.specs.Views.{AreTables};
 ghost use Rattle.convert.specs.Conversion as Conversion;
 ghost use Rattle.convert.specs.Conversion.{Converts};
-ghost use Rattle.convert.specs.Views.{ValueMade, TreeConverted, treeWords, SlipConverted, TableChecked};
+ghost use Rattle.convert.specs.Views.{ValueMade, TreeConverted, nodesIn, SlipConverted, TableChecked};
 
 pub mod table;
 pub mod tokens;
@@ -37,60 +36,41 @@ fn value_to(heads: &[u32; HEADS], table: &[u32], places: &[usize], t: u32, v: u3
     v
 }
 
-// Writes the tree of the part, which is marked, to the result as a slip of B.
-fn write_converted(
+// Turns the marked tree of n nodes that the result begins with into a slip of B: from its last node on, so that no node is written over before it is read.
+fn convert_marked(
     heads: &[u32; HEADS],
     table: &[u32],
     places: &[usize],
-    part: &[u32],
+    n: usize,
     result: &mut [u32],
 )
-    requires { ⌜ 3 * (length (now part) / 2) ≤ length (now result) ⌝ }
-    ensures { λ _. ⌜ TreeConverted (now (heads .entry)) (now (table .entry)) (now (places .entry)) (now (part .entry)) (now (result .entry)) (now (result .exit)) ⌝ }
+    requires { ⌜ 3 * n ≤ length (now result) ⌝ }
+    ensures { λ _. ⌜ TreeConverted (now (heads .entry)) (now (table .entry)) (now (places .entry)) n (now (result .entry)) (now (result .exit)) ⌝ }
 {
-    let n = part.len() / 2;
-    let mut i: usize = 0;
-    while i < n {
-        let w = part[2 * i];
+    let mut i = n;
+    while 0 < i {
+        i = i - 1;
+        let w = result[2 * i];
         let t = marks::type_in(w);
         let m = table::type_to(table, places, t);
-        let v = value_to(heads, table, places, t, part[2 * i + 1]);
+        let v = value_to(heads, table, places, t, result[2 * i + 1]);
         result[3 * i] = m;
         result[3 * i + 1] = v;
         result[3 * i + 2] = marks::size_in(w) as u32;
-        i = i + 1;
     }
 }
 
-// How many words of a tree the slip has.
-fn tree_words(counted: bool, slip: &[u32]) -> usize
-    ensures { λ r. ⌜ r ≡ treeWords counted (length (now (slip .entry))) ⌝ }
+// How many nodes the slip has.
+fn nodes_in(counted: bool, slip: &[u32]) -> usize
+    ensures { λ r. ⌜ r ≡ nodesIn counted (length (now (slip .entry))) ⌝ }
 {
     if counted {
-        return slip.len() / 3 * 2;
+        return slip.len() / 3;
     }
-    slip.len()
+    slip.len() / 2
 }
 
-// Writes the marked tree that the buffer begins with, of `end` words, by the table's first n places.
-fn write_marked(
-    heads: &[u32; HEADS],
-    table: &[u32],
-    places: &[usize; 64],
-    n: u32,
-    buffer: &[u32; MOST_WORDS],
-    end: usize,
-    result: &mut [u32],
-)
-    requires { ⌜ (n ≤ 64) × (end ≤ 4096) × (mostSlipWords ≤ length (now result)) × (length (now places) ≡ 64) × (length (now buffer) ≡ 4096) ⌝ }
-    ensures { λ _. ⌜ TreeConverted (now (heads .entry)) (now (table .entry)) (take n (now (places .entry))) (take end (now (buffer .entry))) (now (result .entry)) (now (result .exit)) ⌝ }
-{
-    let all = &places[..];
-    let marked = &buffer[..];
-    write_converted(heads, table, &all[..words::wide(n)], &marked[..end], result);
-}
-
-// The slip of A, read and converted by a table that fits.
+// The slip of A, read into the result and converted there by a table that fits.
 fn convert_slip(
     heads: &[u32; HEADS],
     rows: &[u8; ROWS],
@@ -104,14 +84,14 @@ fn convert_slip(
     requires { ⌜ AreTables (now heads) (now rows) × (mostSlipWords ≤ length (now result)) × (n ≤ 64) × (length (now places) ≡ 64) ⌝ }
     ensures { λ r. ⌜ SlipConverted (now (heads .entry)) (now (rows .entry)) (now (table .entry)) (take n (now (places .entry))) counted (now (slip .entry)) (now (result .entry)) (now (result .exit)) r ⌝ }
 {
-    let mut buffer = [0u32; MOST_WORDS];
-    let c = slips::read_edition(heads, rows, counted, slip, &mut buffer);
+    let c = slips::read_edition(heads, rows, counted, slip, result);
     match c {
         Check::Refused(no, p) => Converted::Refusal(0, no, p),
         Check::Passed(_) => {
-            let end = tree_words(counted, slip);
-            write_marked(heads, table, places, n, &buffer, end, result);
-            Converted::Filled(end / 2 * 3)
+            let nodes = nodes_in(counted, slip);
+            let all = &places[..];
+            convert_marked(heads, table, &all[..words::wide(n)], nodes, result);
+            Converted::Filled(3 * nodes)
         }
     }
 }

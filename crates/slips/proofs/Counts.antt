@@ -50,7 +50,7 @@ pub record CountLoop (slip part : Words) (i : ℕ) : Type 0 where
   pub inside : i ≤ length slip / 3
   pub rest : answer (countsAs slip part 0) ≡ answer (countsAs (drop (3 * i) slip) (drop (2 * i) part) (3 * i))
 
-drop-three : (ws : Words) (i : ℕ) → 3 * i + 3 ≤ length ws → drop (3 * i) ws ≡ getD ws (3 * i) 0 ∷ getD ws (3 * i + 1) 0 ∷ getD ws (3 * i + 2) 0 ∷ drop (3 * (i + 1)) ws
+pub drop-three : (ws : Words) (i : ℕ) → 3 * i + 3 ≤ length ws → drop (3 * i) ws ≡ getD ws (3 * i) 0 ∷ getD ws (3 * i + 1) 0 ∷ getD ws (3 * i + 2) 0 ∷ drop (3 * (i + 1)) ws
 drop-three ws i h =
     let z : suc (3 * i + 2) ≡ 3 * (i + 1) = omega arith in
     drop-pair ws (3 * i) (omega arith) ∙ ap (λ l. getD ws (3 * i) 0 ∷ getD ws (3 * i + 1) 0 ∷ l) (drop-cons ws (3 * i + 2) 0 (omega arith) ∙ ap (λ k. getD ws (3 * i + 2) 0 ∷ drop k ws) z)

@@ -117,36 +117,54 @@ module _ (slip heads rows b : Words) where
 
 -- THE TWO-WORD EDITION
 
-module _ (slip heads rows b : Words) (a : Check) (read : InTables heads rows (λ g. a ≡ answer (readTree g slip))) where
-  pub plain-refused : {n p : ℕ} → a ≡ Refused n p → ReadBeside (λ g. readEdition false g slip) heads rows b b (Refused n p)
+module _ (slip heads rows w : Words) (a : Check) (read : InTables heads rows (λ g. a ≡ answer (readTree g slip))) where
+  abbrev Plain : Words → Check → Type 0
+  Plain w′ r = SlipRead (λ g. readEdition false g slip) heads rows w w′ r
+
+  pub plain-refused : {n p : ℕ} → a ≡ Refused n p → Plain w (Refused n p)
   unfolding readEdition
-  plain-refused e = refused-read (λ g t. rw (answer-refused (readTree g slip) a (read g t) e))
+  plain-refused {n} {p} e =
+      let s : ReadBeside (λ g. readEdition false g slip) heads rows w w (Refused n p) = refused-read (λ g t. rw (answer-refused (readTree g slip) a (read g t) e)) in
+      record { answered = s .answered; long = refl; kept = λ h. refl; short = λ h. refl; tree = λ g ws next t h room. s .tree g ws next t h }
 
   module _ {p : ℕ} (e : a ≡ Passed p) where
     tree-here : (g : Grammar) → Tables g heads rows → Tree g 0 slip
     tree-here g t = accepted-tree g 0 slip (rw (answer-passed (readTree g slip) a (read g t) e .1))
 
+    plain-answered : InTables heads rows (λ g. Passed p ≡ answer (readEdition false g slip))
+    unfolding readEdition
+    plain-answered g t = rw (answer-passed (readTree g slip) a (read g t) e .1)
+
+    no-refusal : {w′ : Words} {n q : ℕ} → Passed p ≡ Refused n q → w′ ≡ w
+    no-refusal h = let z : _≡_ {A = ℕ} 0 1 = cc in absurd (omega arith)
+
     pub plain-fits : AreTables heads rows → length slip ≤ mostTreeWords
     plain-fits t = let x = tree-here (t .0) (t .1) in omega (arith, trees-even (x .typed), x .nodes)
 
-    pub plain-passed : (b₁ : Words) → b₁ ≡ slip ++ drop (length slip) b → (b₂ : Words) → TreeMarked heads rows b₁ b₂ 0 (length slip) → ReadBeside (λ g. readEdition false g slip) heads rows b b₂ (Passed p)
+    pub plain-short : length w < mostTreeWords → Plain w (Passed p)
+    plain-short few = record { answered = plain-answered; long = refl; kept = no-refusal; short = λ h. refl; tree = λ g ws next t h room. absurd (omega arith) }
+
+    pub plain-passed : mostTreeWords ≤ length w → (w₁ : Words) → w₁ ≡ slip ++ drop (length slip) w → (w₂ : Words) → length w₂ ≡ length w → TreeMarked heads rows w₁ w₂ 0 (length slip) → Plain w₂ (Passed p)
     unfolding readEdition
-    plain-passed b₁ eb b₂ m = record {
-      answered = λ g t. rw (answer-passed (readTree g slip) a (read g t) e .1);
-      tree = λ g ws next t h.
+    plain-passed room w₁ ew w₂ long m = record {
+      answered = plain-answered;
+      long = long;
+      kept = no-refusal;
+      short = λ few. absurd (omega arith);
+      tree = λ g ws next t h enough.
           let q = then-value (readTree g slip) (λ u. return slip) h .3 in
           let same : slip ≡ ws = cc in
-          laid-marked g slip heads rows b b₁ b₂ (length slip) refl t (tree-here g t) eb m ∙ rw same;
+          laid-marked g slip heads rows w w₁ w₂ (length slip) refl t (tree-here g t) ew m ∙ rw same;
     }
 
 -- EITHER EDITION
 
-module _ (counted : Bool) (slip heads rows b b′ : Words) (r : Check) where
-  pub edition-counted : counted ≡ true → ReadBeside (λ g. readSlip g slip) heads rows b b′ r → ReadBeside (λ g. readEdition counted g slip) heads rows b b′ r
+module _ (counted : Bool) (slip heads rows w w′ : Words) (r : Check) where
+  pub edition-counted : counted ≡ true → SlipRead (λ g. readSlip g slip) heads rows w w′ r → SlipRead (λ g. readEdition counted g slip) heads rows w w′ r
   unfolding readEdition
   edition-counted e s = rw e s
 
-  pub edition-plain : counted ≡ false → ReadBeside (λ g. readEdition false g slip) heads rows b b′ r → ReadBeside (λ g. readEdition counted g slip) heads rows b b′ r
+  pub edition-plain : counted ≡ false → SlipRead (λ g. readEdition false g slip) heads rows w w′ r → SlipRead (λ g. readEdition counted g slip) heads rows w w′ r
   edition-plain e s = rw e s
 
 -- THE SINGLE CHECK

@@ -99,45 +99,6 @@ fn load(ws: &[u32], memory: &mut [u32])
     }
 }
 
-// The same in the two-word edition, which has no counts.
-fn read_plain(
-    heads: &[u32; HEADS],
-    rows: &[u8; ROWS],
-    slip: &[u32],
-    buffer: &mut [u32; MOST_WORDS],
-) -> Check
-    requires { ⌜ AreTables (now heads) (now rows) ⌝ }
-    ensures { λ r. ⌜ ReadBeside (λ g. readEdition false g (now (slip .entry))) (now (heads .entry)) (now (rows .entry)) (now (buffer .entry)) (now (buffer .exit)) r ⌝ }
-{
-    let a = tree::read_tree(heads, rows, slip);
-    match a {
-        Check::Refused(no, p) => Check::Refused(no, p),
-        Check::Passed(p) => {
-            let end = slip.len();
-            load(slip, buffer);
-            marks::mark_tree(heads, rows, buffer, 0, end);
-            Check::Passed(p)
-        }
-    }
-}
-
-// The check of a slip in the three-word edition, or else in the two-word one. Where nothing is refused, its tree stands at the start of the buffer, marked.
-pub fn read_edition(
-    heads: &[u32; HEADS],
-    rows: &[u8; ROWS],
-    counted: bool,
-    slip: &[u32],
-    buffer: &mut [u32; MOST_WORDS],
-) -> Check
-    requires { ⌜ AreTables (now heads) (now rows) ⌝ }
-    ensures { λ r. ⌜ ReadBeside (λ g. readEdition counted g (now (slip .entry))) (now (heads .entry)) (now (rows .entry)) (now (buffer .entry)) (now (buffer .exit)) r ⌝ }
-{
-    if counted {
-        return read_beside(heads, rows, slip, buffer);
-    }
-    read_plain(heads, rows, slip, buffer)
-}
-
 // The check of a slip against the grammar whose tables these are. Where nothing is refused and the memory has room for every tree, the slip's tree stands at its
 // start, marked. A refusal changes nothing, so the tree is read in a buffer beside it, which is gone when this returns: the stack of a run's calls does not hold it.
 pub fn read_slip(heads: &[u32; HEADS], rows: &[u8; ROWS], slip: &[u32], memory: &mut [u32]) -> Check
@@ -158,6 +119,43 @@ pub fn read_slip(heads: &[u32; HEADS], rows: &[u8; ROWS], slip: &[u32], memory: 
             Check::Passed(p)
         }
     }
+}
+
+// The same in the two-word edition, which has no counts and is read as it stands.
+fn read_plain(heads: &[u32; HEADS], rows: &[u8; ROWS], slip: &[u32], memory: &mut [u32]) -> Check
+    requires { ⌜ AreTables (now heads) (now rows) ⌝ }
+    ensures { λ r. ⌜ SlipRead (λ g. readEdition false g (now (slip .entry))) (now (heads .entry)) (now (rows .entry)) (now (memory .entry)) (now (memory .exit)) r ⌝ }
+{
+    let a = tree::read_tree(heads, rows, slip);
+    match a {
+        Check::Refused(no, p) => Check::Refused(no, p),
+        Check::Passed(p) => {
+            if memory.len() < MOST_WORDS {
+                return Check::Passed(p);
+            }
+            let end = slip.len();
+            load(slip, memory);
+            marks::mark_tree(heads, rows, memory, 0, end);
+            Check::Passed(p)
+        }
+    }
+}
+
+// The same in the three-word edition, or else in the two-word one.
+pub fn read_edition(
+    heads: &[u32; HEADS],
+    rows: &[u8; ROWS],
+    counted: bool,
+    slip: &[u32],
+    memory: &mut [u32],
+) -> Check
+    requires { ⌜ AreTables (now heads) (now rows) ⌝ }
+    ensures { λ r. ⌜ SlipRead (λ g. readEdition counted g (now (slip .entry))) (now (heads .entry)) (now (rows .entry)) (now (memory .entry)) (now (memory .exit)) r ⌝ }
+{
+    if counted {
+        return read_slip(heads, rows, slip, memory);
+    }
+    read_plain(heads, rows, slip, memory)
 }
 
 // The single check of a slip: the grammar's check, then the slip's, which has no memory to put the tree in.
