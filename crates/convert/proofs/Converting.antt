@@ -1,11 +1,11 @@
 -- What a table that fits makes of a slip of A: a slip of B, node for node, with the same counts and nesting. Assumes nothing.
-use Prim.Native.Nat.{ℕ, zero, suc, _+_, _<_, _≤_, max}
+use Prim.Native.Nat.{ℕ, zero, suc, _+_, _<_, max}
 use mathlib.Core.Path.{_≡_, refl, sym, ap, subst, _∙_}
 use mathlib.Core.List.{List, [], _∷_, _++_, map, map-append}
 use mathlib.Core.Bool.{Bool, true, false}
 use native.Mathlib.Omega.{arith}
 use lib.ListN.{length, getD, length-map}
-use lib.Dec.{eqb, ltb}
+use lib.Dec.{eqb}
 use borrow.Author.Tests.{lt-ltb, ltb-true}
 use Rattle.words.specs.Reader.{Words, pick}
 use Rattle.grammar.specs.Grammar.{Style, repeat, list, mapIn, Kind, token, opt, sequence, forms, Grammar}

@@ -15,7 +15,7 @@ use Rattle.words.specs.declared.Check.the-variants.{Passed, Refused}
 use Rattle.words.proofs.Laws.{answer-passed, answer-refused, answer-then, then-value, require-value}
 use Rattle.grammar.specs.Grammar.{Grammar, readGrammar, grammarFits}
 use Rattle.grammar.specs.Kinds.{kindOf, formsOf}
-use Rattle.tables.specs.Tables.{Heads, Tables, readOf}
+use Rattle.tables.specs.Tables.{Tables, readOf}
 use Rattle.tables.proofs.Shown.{accepted-decoded, decoded-length}
 use Rattle.tree.specs.Tree.{Tree, size}
 use Rattle.tree.specs.Slip.{counted, readEdition, inEdition}
@@ -26,7 +26,7 @@ use Rattle.marks.specs.Marked.{marked}
 use Rattle.marks.proofs.Marks.{marked-length}
 use Rattle.slips.specs.Slips.{SlipRead}
 use Rattle.convert.specs.Table.{Entry, wholeTable, entryOf, typeTo, typesFit, readTable, Fits}
-use Rattle.convert.specs.Conversion.{converted, Conversion, refusedBy, convertedTo, orRefused, conversionBetween, conversion, resultAfter, convertedAs, Converts}
+use Rattle.convert.specs.Conversion.{converted, Conversion, refusedBy, orRefused, conversionBetween, conversion, resultAfter, convertedAs, Converts}
 use Rattle.convert.specs.Views.{Side, Shows, typeAt, Placed, Numbered, WholeRead, TypesTested, TableRead, TableChecked, TreeConverted, nodesIn, SlipConverted}
 use Rattle.convert.specs.declared.Converted.{Converted}
 use Rattle.convert.specs.declared.Converted.the-variants.{Filled, Refusal}

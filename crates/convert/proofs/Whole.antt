@@ -1,13 +1,13 @@
 -- EACH SLIP OF A THAT NOTHING REFUSES IS CONVERTED node for node and is then a slip of B, and nothing else is converted. Assumes nothing.
 use Prim.Native.Nat.{ℕ, _≤_}
-use mathlib.Core.Path.{_≡_, refl, sym, ap, _∙_}
+use mathlib.Core.Path.{_≡_, refl}
 use mathlib.Core.List.{List, [], _∷_}
-use mathlib.Core.Bool.{Bool, true, false}
+use mathlib.Core.Bool.{Bool, true}
 use native.Mathlib.Omega.{arith}
 use lib.ListN.{length}
 use lib.Dec.{leb}
 use borrow.Author.Tests.{le-leb, leb-true}
-use Rattle.words.specs.Reader.{Words, pick, Read, value, refused, andThen, require}
+use Rattle.words.specs.Reader.{Words, Read, value, refused, require}
 use Rattle.words.proofs.Laws.{pick-value, require-value}
 use Rattle.grammar.specs.Limits.{mostGrammarWords}
 use Rattle.grammar.specs.Grammar.{Grammar, readGrammar, grammarFits, checkGrammar}

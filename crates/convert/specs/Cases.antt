@@ -4,9 +4,9 @@ use mathlib.Core.List.{List, [], _∷_, _++_, map}
 use mathlib.Core.Bool.{Bool, true, false}
 use Prim.Native.Nat.{ℕ, zero, suc}
 use lib.ListN.{replicate}
-use Rattle.words.specs.Reader.{Words, Read, value, refused, word, wordIn, many, end}
+use Rattle.words.specs.Reader.{Words, word, wordIn, many, end}
 use Rattle.words.specs.Views.{equalWords}
-use Rattle.grammar.specs.Grammar.{Grammar, forms, sequence, opt, token, typesOf, field, element, form, kind, grammar, allKnown, anyFormKnown, finishes, round, rounds, finite, finiteRecords, readGrammar, grammarFits}
+use Rattle.grammar.specs.Grammar.{typesOf, field, element, form, kind, grammar, allKnown, anyFormKnown, finishes, round, rounds, finite, finiteRecords, readGrammar, grammarFits}
 use Rattle.grammar.specs.Kinds.{kindOf, allows, allowed, childrenOf, children, formsOf}
 use Rattle.tree.specs.Tree.{size, levelsOf, levels, first}
 use Rattle.tree.specs.Dues.{pairs, whole}

@@ -1,5 +1,4 @@
 -- `convert::tokens::class_at` meets its contract. Assumes nothing.
-use native.Mathlib.Omega.{arith}
 use Rattle.convert.proofs.TokenClasses.{record-long, class-token, class-none}
 use borrow.Author.Needs.{needs}
 use Rattle.convert.proofs.tokens.class_at.Statement.{statement}
