@@ -1,4 +1,6 @@
 // The grammar: its check (4, 10, 11, 12, each with its position).
+#![tactic(auto)]
+
 ghost use Rattle.std.specs.Prelude.{◌≡◌, true, false, ◌≤◌, length, get_or, take, replicate};
 ghost use Rattle.words.specs.Reader as Reader;
 ghost use Rattle.words.specs.Reader.{and, or};

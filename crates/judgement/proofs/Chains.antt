@@ -2,7 +2,7 @@
 use Prim.Native.Nat.{ℕ, zero, suc, ◌+◌, ◌*◌, ◌≤◌}
 use mathlib.Core.Path.{◌≡◌, refl, sym, ap, ◌∙◌}
 use mathlib.Core.List.{List, [], ◌∷◌, ◌++◌, map}
-use mathlib.Core.Bool.{Bool, true, false, ◌&&◌, and_false}
+use mathlib.Core.Bool.{Bool, true, false, ◌&&◌, and-false}
 use mathlib.Core.Option.{Option, none}
 use native.Mathlib.Omega.{arith}
 use lib.ListN.{length, get_or, get_elem?, drop, replicate}
@@ -49,7 +49,7 @@ unfolding arguments_of
 arguments_of_length g Γ [] [] h = absurd (h refl)
 arguments_of_length g Γ [] (u ∷ us) h = refl
 arguments_of_length g Γ (x ∷ xs) [] h = refl
-arguments_of_length g Γ (x ∷ xs) (u ∷ us) h = rw (arguments_of_length g Γ xs us (λ e. h (ap suc e))) (and_false (some_is (get_elem? Γ x) (wants g u)))
+arguments_of_length g Γ (x ∷ xs) (u ∷ us) h = rw (arguments_of_length g Γ xs us (λ e. h (ap suc e))) (and-false (some_is (get_elem? Γ x) (wants g u)))
 
 module _ (g : Grammar) (rules : Rules) (here : Place) where
   abbrev run : Words → List Due → Context → Option Context

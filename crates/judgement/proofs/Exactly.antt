@@ -3,11 +3,11 @@
 use Prim.Native.Nat.{ℕ, zero, suc, ◌≤◌, ◌<◌}
 use mathlib.Core.Path.{◌≡◌, refl, sym, ap, ◌∙◌}
 use mathlib.Core.List.{List, [], ◌∷◌}
-use mathlib.Core.Bool.{Bool, true, false, ◌&&◌, not, and_false}
+use mathlib.Core.Bool.{Bool, true, false, ◌&&◌, not, and-false}
 use mathlib.Core.Option.{Option, none, some}
 use native.Mathlib.Omega.{arith}
 use lib.ListN.{length, get_or, get_elem?}
-use borrow.Author.Tests.{lt-leb, not_true}
+use borrow.Author.Tests.{lt-leb, not-true}
 use Rattle.words.specs.Reader.{Words, and, Read, value, refused, and_then, ◌>>=◌, ◌>>◌, return, require, many, end, accepted}
 use Rattle.words.proofs.Laws.{then_value, accepted_value, and_both, in_value, require_value, many_suc, many_length}
 use Rattle.grammar.specs.Limits.{most_types}
@@ -96,7 +96,7 @@ unfolding main_fits
 main_bits_lem ws at m h e t =
     let u : and (bit 3 (get_or ws at 0)) (not (bit 1 (get_or ws at 0))) ≡ true = rw (lt-leb (length ws) at h) at t in
     let v = and_both (bit 3 (get_or ws at 0)) (not (bit 1 (get_or ws at 0))) u in
-    (rw e v.0, rw e (not_true (bit 1 (get_or ws at 0)) v.1))
+    (rw e v.0, rw e (not-true (bit 1 (get_or ws at 0)) v.1))
 
 main_now : (s : Rule) → some_is s.replacement (λ ps. true) ≡ true → is_nil s.parameters ≡ true → main_of s ≡ fits_scope s 0
 unfolding main_of usable_of
@@ -128,7 +128,7 @@ module _ (g : Grammar) (ws : Words) (bounded : Bounded g) where
       go : (c : Bool) (q : Read (List (Unit {0}))) → accepted q ≡ rules_of g rules rules → accepted (and_then (require c 23 1 1) (λ u next. and_then q (λ us. return (tt {0})))) ≡ (rules_of g rules rules && c)
       go true (value us n) e = rw (← e)
       go true (refused us n) e = rw (← e)
-      go false q e = sym (and_false (rules_of g rules rules))
+      go false q e = sym (and-false (rules_of g rules rules))
 
 -- a grammar that is accepted, and rules that are laid out: the typing accepts exactly if the test of the decoded rules holds
 pub typing_exact : (gs ws : Words) (g : Grammar) (rules : Rules) (m n : ℕ) → read_grammar gs ≡ value g m → read_layout (length g) ws ≡ value rules n → accepted (rules_typed g rules ws) ≡ well_typed g rules

@@ -2,6 +2,8 @@
 //
 // `heads` has two words a type: the map of its record and how many values its nodes may have. `rows` has a row of nine for each type and each value
 // below 16: how many children such a node has, and their types.
+#![tactic(auto)]
+
 ghost use Rattle.std.specs.Prelude.{◌≡◌, ◌+◌, ◌*◌, ◌≤◌, ◌<◌, true, get_or, set, replicate, ltb};
 ghost use Rattle.words.specs.Reader as Reader;
 ghost use Rattle.words.specs.Reader.{accepted, or};

@@ -2,6 +2,8 @@
 //
 // Reading a node reads its children, and reading a child reads a node again: `node`, `sequence` and `children` call each other. Each is handed the part of
 // the words that starts at its node, with the position of that part beside it; the grammar is seen through its tables alone.
+#![tactic(auto)]
+
 ghost use Rattle.std.specs.Prelude.{◌≡◌, true, [], ◌∷◌, ◌+◌, ◌<◌, ◌≤◌, ◌^◌, length};
 ghost use Rattle.words.specs.Views.{answer, got};
 ghost use Rattle.grammar.specs.Kinds.{children, is_sequence};

@@ -1,4 +1,6 @@
 // Lent words: reading one, comparing, copying and clearing stretches.
+#![tactic(auto)]
+
 ghost use Rattle.std.specs.Prelude.{◌≡◌, ◌++◌, ◌+◌, ◌≤◌, length, get_or, take, drop, replicate};
 ghost use Rattle.words.specs.Reader as Reader;
 ghost use Rattle.words.specs.Views.{got, equal_words};

@@ -1,6 +1,6 @@
 -- `dues::meet_argument` meets its contract. Assumes nothing.
 use borrow.Author.Rules.{rules}
-use borrow.Author.Tests.{not_true, not_false}
+use borrow.Author.Tests.{not-true, not-false}
 use lib.ListN.{take}
 use Rattle.dues.specs.Views.{wanted_of}
 use Rattle.dues.proofs.Stack.{context_length}
@@ -30,13 +30,13 @@ add-t20 : tie.Need-overflow-add-t20
 add-t20 c = search rules
 
 returns-2 : tie.Need-returns-2
-returns-2 c = λ g h rules here st. argument_other g rules here c.before.before.before.before.before.before.before.before.args.t c.before.before.before.before.before.before.before.before.args.v c.before.before.before.before.before.before.before.before.args.at c.before.before.before.before.before.before.before.before.args.sp st (take c.before.before.before.before.before.before.before.before.args.n c.before.before.before.before.before.before.before.before.args.known.now) (wanted_of c.before.before.before.before.before.before.before.before.args.a c.before.before.before.before.before.before.before.before.args.b) c.before.before.before.before.before.before.before.if1.false _ (c.before.before.before.before.before.before.there.ensures (take c.before.before.before.before.before.before.before.before.args.n c.before.before.before.before.before.before.before.before.args.known.now) (context_length c.before.before.before.before.before.before.before.before.args.known.now c.before.before.before.before.before.before.before.before.args.n c.before.before.before.before.before.before.before.before.requires.0)) c.before.before.before.before.c2.given.1 c.before.before.type-of.ensures (c.before.wanted.ensures g h) (not_true _ c.if2.true)
+returns-2 c = λ g h rules here st. argument_other g rules here c.before.before.before.before.before.before.before.before.args.t c.before.before.before.before.before.before.before.before.args.v c.before.before.before.before.before.before.before.before.args.at c.before.before.before.before.before.before.before.before.args.sp st (take c.before.before.before.before.before.before.before.before.args.n c.before.before.before.before.before.before.before.before.args.known.now) (wanted_of c.before.before.before.before.before.before.before.before.args.a c.before.before.before.before.before.before.before.before.args.b) c.before.before.before.before.before.before.before.if1.false _ (c.before.before.before.before.before.before.there.ensures (take c.before.before.before.before.before.before.before.before.args.n c.before.before.before.before.before.before.before.before.args.known.now) (context_length c.before.before.before.before.before.before.before.before.args.known.now c.before.before.before.before.before.before.before.before.args.n c.before.before.before.before.before.before.before.before.requires.0)) c.before.before.before.before.c2.given.1 c.before.before.type-of.ensures (c.before.wanted.ensures g h) (not-true _ c.if2.true)
 
 returns-3 : tie.Need-returns-3
 returns-3 c = λ g h rules here st. argument_refused g rules here c.before.before.before.before.before.args.t c.before.before.before.before.before.args.v c.before.before.before.before.before.args.at c.before.before.before.before.before.args.sp st (take c.before.before.before.before.before.args.n c.before.before.before.before.before.args.known.now) (wanted_of c.before.before.before.before.before.args.a c.before.before.before.before.before.args.b) c.before.before.before.before.if1.false _ (c.before.before.before.there.ensures (take c.before.before.before.before.before.args.n c.before.before.before.before.before.args.known.now) (context_length c.before.before.before.before.before.args.known.now c.before.before.before.before.before.args.n c.before.before.before.before.before.requires.0)) c.before.c.given.1
 
 returns-4 : tie.Need-returns-4
-returns-4 c = λ g h rules here st. argument_there g rules here c.before.before.before.before.before.before.before.before.args.t c.before.before.before.before.before.before.before.before.args.v c.before.before.before.before.before.before.before.before.args.at c.before.before.before.before.before.before.before.before.args.sp st (take c.before.before.before.before.before.before.before.before.args.n c.before.before.before.before.before.before.before.before.args.known.now) (wanted_of c.before.before.before.before.before.before.before.before.args.a c.before.before.before.before.before.before.before.before.args.b) c.before.before.before.before.before.before.before.if1.false _ (c.before.before.before.before.before.before.there.ensures (take c.before.before.before.before.before.before.before.before.args.n c.before.before.before.before.before.before.before.before.args.known.now) (context_length c.before.before.before.before.before.before.before.before.args.known.now c.before.before.before.before.before.before.before.before.args.n c.before.before.before.before.before.before.before.before.requires.0)) c.before.before.before.before.c2.given.1 c.before.before.type-of.ensures (c.before.wanted.ensures g h) (not_false _ c.if2.false)
+returns-4 c = λ g h rules here st. argument_there g rules here c.before.before.before.before.before.before.before.before.args.t c.before.before.before.before.before.before.before.before.args.v c.before.before.before.before.before.before.before.before.args.at c.before.before.before.before.before.before.before.before.args.sp st (take c.before.before.before.before.before.before.before.before.args.n c.before.before.before.before.before.before.before.before.args.known.now) (wanted_of c.before.before.before.before.before.before.before.before.args.a c.before.before.before.before.before.before.before.before.args.b) c.before.before.before.before.before.before.before.if1.false _ (c.before.before.before.before.before.before.there.ensures (take c.before.before.before.before.before.before.before.before.args.n c.before.before.before.before.before.before.before.before.args.known.now) (context_length c.before.before.before.before.before.before.before.before.args.known.now c.before.before.before.before.before.before.before.before.args.n c.before.before.before.before.before.before.before.before.requires.0)) c.before.before.before.before.c2.given.1 c.before.before.type-of.ensures (c.before.wanted.ensures g h) (not-false _ c.if2.false)
 
 pub meet-argument-spec : {M : Type 1} → statement M
 meet-argument-spec =

@@ -1,6 +1,6 @@
 -- `dues::of_tokens` meets its contract. Assumes nothing.
 use borrow.Author.Rules.{rules}
-use borrow.Author.Tests.{not_true, not_false}
+use borrow.Author.Tests.{not-true, not-false}
 use Rattle.dues.proofs.Tokens.{tokens_deep, tokens_single, tokens_other, tokens_stand}
 use Rattle.dues.specs.Views.{place_as}
 use Rattle.dues.proofs.of_tokens.Statement.{statement}
@@ -13,7 +13,7 @@ is-sequence-requires : tie.Need-is-sequence-requires
 is-sequence-requires c κs = search rules
 
 returns-2 : tie.Need-returns-2
-returns-2 c = λ g h. tokens_single g (place_as c.before.before.before.args.here) c.before.before.before.args.nesting c.before.before.before.args.d c.before.before.if1.false (c.before.is-sequence.ensures g h.heads_of) (not_true _ c.if2.true)
+returns-2 c = λ g h. tokens_single g (place_as c.before.before.before.args.here) c.before.before.before.args.nesting c.before.before.before.args.d c.before.before.if1.false (c.before.is-sequence.ensures g h.heads_of) (not-true _ c.if2.true)
 
 child-requires : tie.Need-child-requires
 child-requires c κs = search rules
@@ -22,13 +22,13 @@ is-token-requires : tie.Need-is-token-requires
 is-token-requires c κs = search rules
 
 returns-3 : tie.Need-returns-3
-returns-3 c = λ g h. tokens_other g (place_as c.before.before.before.before.before.before.args.here) c.before.before.before.before.before.before.args.nesting c.before.before.before.before.before.before.args.d c.before.before.before.before.before.if1.false (c.before.before.before.before.is-sequence.ensures g h.heads_of) (not_false _ c.before.before.before.if2.false) (c.before.before.child.ensures g h.rows_of_lem) (c.before.is-token.ensures g h.heads_of) (not_true _ c.if3.true)
+returns-3 c = λ g h. tokens_other g (place_as c.before.before.before.before.before.before.args.here) c.before.before.before.before.before.before.args.nesting c.before.before.before.before.before.before.args.d c.before.before.before.before.before.if1.false (c.before.before.before.before.is-sequence.ensures g h.heads_of) (not-false _ c.before.before.before.if2.false) (c.before.before.child.ensures g h.rows_of_lem) (c.before.is-token.ensures g h.heads_of) (not-true _ c.if3.true)
 
 may-stand-requires : tie.Need-may-stand-requires
 may-stand-requires c κs = search rules
 
 returns-4 : tie.Need-returns-4
-returns-4 c = λ g h. tokens_stand g (place_as c.before.before.before.before.before.before.before.args.here) c.before.before.before.before.before.before.before.args.nesting c.before.before.before.before.before.before.before.args.d c.before.before.before.before.before.before.if1.false (c.before.before.before.before.before.is-sequence.ensures g h.heads_of) (not_false _ c.before.before.before.before.if2.false) (c.before.before.before.child.ensures g h.rows_of_lem) (c.before.before.is-token.ensures g h.heads_of) (not_false _ c.before.if3.false) c.may-stand.ensures
+returns-4 c = λ g h. tokens_stand g (place_as c.before.before.before.before.before.before.before.args.here) c.before.before.before.before.before.before.before.args.nesting c.before.before.before.before.before.before.before.args.d c.before.before.before.before.before.before.if1.false (c.before.before.before.before.before.is-sequence.ensures g h.heads_of) (not-false _ c.before.before.before.before.if2.false) (c.before.before.before.child.ensures g h.rows_of_lem) (c.before.before.is-token.ensures g h.heads_of) (not-false _ c.before.if3.false) c.may-stand.ensures
 
 pub of-tokens-spec : {M : Type 1} → statement M
 of-tokens-spec =

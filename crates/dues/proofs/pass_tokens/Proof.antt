@@ -1,7 +1,7 @@
 -- `dues::pass_tokens` meets its contract. The loop's invariant: the elements before i are passed over. Assumes nothing.
 use Prim.Native.Nat.{◌-◌}
 use borrow.Author.Rules.{rules}
-use borrow.Author.Tests.{not_false}
+use borrow.Author.Tests.{not-false}
 use lib.ListN.{length}
 use Rattle.dues.proofs.Tokens.{Passing, pass_none, pass_start, pass_more, pass_end}
 use Rattle.dues.specs.Views.{place_as}
@@ -39,7 +39,7 @@ shared-slice-read-if2 : tie.Need-shared-slice-read-if2 invariant-loop decreases-
 shared-slice-read-if2 c = search rules
 
 returns-2 : tie.Need-returns-2 invariant-loop decreases-loop
-returns-2 c = pass_end c.before.before.before.loop.invariant (place_as c.before.before.before.before.before.before.before.before.before.args.here) c.before.before.before.before.before.before.before.of-tokens.ensures (not_false _ c.before.before.before.before.before.before.if1.false)
+returns-2 c = pass_end c.before.before.before.loop.invariant (place_as c.before.before.before.before.before.before.before.before.before.args.here) c.before.before.before.before.before.before.before.of-tokens.ensures (not-false _ c.before.before.before.before.before.before.if1.false)
 
 add-if3 : tie.Need-overflow-add-if3 invariant-loop decreases-loop
 add-if3 c = search rules
@@ -51,7 +51,7 @@ shared-slice-read-if3 : tie.Need-shared-slice-read-if3 invariant-loop decreases-
 shared-slice-read-if3 c = search rules
 
 returns-3 : tie.Need-returns-3 invariant-loop decreases-loop
-returns-3 c = pass_end c.before.before.before.before.before.loop.invariant (place_as c.before.before.before.before.before.before.before.before.before.before.before.args.here) c.before.before.before.before.before.before.before.before.before.of-tokens.ensures (not_false _ c.before.before.before.before.before.before.before.before.if1.false)
+returns-3 c = pass_end c.before.before.before.before.before.loop.invariant (place_as c.before.before.before.before.before.before.before.before.before.before.before.args.here) c.before.before.before.before.before.before.before.before.before.of-tokens.ensures (not-false _ c.before.before.before.before.before.before.before.before.if1.false)
 
 add-if4 : tie.Need-overflow-add-if4 invariant-loop decreases-loop
 add-if4 c = search rules
@@ -63,7 +63,7 @@ shared-slice-read-if4 : tie.Need-shared-slice-read-if4 invariant-loop decreases-
 shared-slice-read-if4 c = search rules
 
 returns-4 : tie.Need-returns-4 invariant-loop decreases-loop
-returns-4 c = pass_end c.before.before.before.before.before.before.before.loop.invariant (place_as c.before.before.before.before.before.before.before.before.before.before.before.before.before.args.here) c.before.before.before.before.before.before.before.before.before.before.before.of-tokens.ensures (not_false _ c.before.before.before.before.before.before.before.before.before.before.if1.false)
+returns-4 c = pass_end c.before.before.before.before.before.before.before.loop.invariant (place_as c.before.before.before.before.before.before.before.before.before.before.before.before.before.args.here) c.before.before.before.before.before.before.before.before.before.before.before.of-tokens.ensures (not-false _ c.before.before.before.before.before.before.before.before.before.before.if1.false)
 
 add-if5 : tie.Need-overflow-add-if5 invariant-loop decreases-loop
 add-if5 c = search rules
@@ -75,7 +75,7 @@ shared-slice-read-if5 : tie.Need-shared-slice-read-if5 invariant-loop decreases-
 shared-slice-read-if5 c = search rules
 
 returns-5 : tie.Need-returns-5 invariant-loop decreases-loop
-returns-5 c = pass_end c.before.before.before.before.before.before.before.before.before.loop.invariant (place_as c.before.before.before.before.before.before.before.before.before.before.before.before.before.before.before.args.here) c.before.before.before.before.before.before.before.before.before.before.before.before.before.of-tokens.ensures (not_false _ c.before.before.before.before.before.before.before.before.before.before.before.before.if1.false)
+returns-5 c = pass_end c.before.before.before.before.before.before.before.before.before.loop.invariant (place_as c.before.before.before.before.before.before.before.before.before.before.before.before.before.before.before.args.here) c.before.before.before.before.before.before.before.before.before.before.before.before.before.of-tokens.ensures (not-false _ c.before.before.before.before.before.before.before.before.before.before.before.before.if1.false)
 
 add-i : tie.Need-overflow-add-i invariant-loop decreases-loop
 add-i c = search rules
@@ -87,7 +87,7 @@ loop-again : tie.Need-loop-preserved invariant-loop decreases-loop
 loop-again c = pass_more c.before.before.before.before.before.before.before.before.before.loop.invariant (λ g t. c.before.before.before.before.before.before.before.before.before.before.before.child.ensures g t.rows_of_lem) (λ g t. c.before.before.before.before.before.before.before.before.before.before.values.ensures g t.heads_of) c.before.before.before.before.before.before.before.before.loop-test.true c.before.before.before.before.before.before.if2.false c.before.before.before.before.if3.false c.before.before.if4.false c.if5.false
 
 returns-6 : tie.Need-returns-6 invariant-loop decreases-loop
-returns-6 c = pass_end c.before.loop.invariant (place_as c.before.before.before.before.before.before.before.args.here) c.before.before.before.before.before.of-tokens.ensures (not_false _ c.before.before.before.before.if1.false)
+returns-6 c = pass_end c.before.loop.invariant (place_as c.before.before.before.before.before.before.before.args.here) c.before.before.before.before.before.of-tokens.ensures (not-false _ c.before.before.before.before.if1.false)
 
 pub pass-tokens-spec : {M : Type 1} → statement M
 pass-tokens-spec =

@@ -1,6 +1,6 @@
 -- `pairs::usable` meets its contract. Assumes nothing.
 use borrow.Author.Rules.{rules}
-use borrow.Author.Tests.{not_true, not_false}
+use borrow.Author.Tests.{not-true, not-false}
 use Rattle.pairs.proofs.Book.{usable_rule, rule_head, usable_other, usable_operation}
 use Rattle.dues.specs.Views.{place_as}
 use Rattle.pairs.proofs.usable.Statement.{statement}
@@ -19,13 +19,13 @@ applies-operation-requires : tie.Need-applies-operation-requires
 applies-operation-requires c κs = search rules
 
 returns-2 : tie.Need-returns-2
-returns-2 c = λ g h rules b. usable_other g rules (place_as c.before.before.before.before.before.args.here) c.before.before.before.before.before.args.s c.before.before.before.before.before.args.a c.before.before.before.before.before.args.ws.now c.before.before.before.before.before.args.starts.now c.before.before.before.before.before.args.types b c.before.before.before.word.ensures c.before.before.if1.false c.before.applies-operation.ensures (not_true _ c.if2.true)
+returns-2 c = λ g h rules b. usable_other g rules (place_as c.before.before.before.before.before.args.here) c.before.before.before.before.before.args.s c.before.before.before.before.before.args.a c.before.before.before.before.before.args.ws.now c.before.before.before.before.before.args.starts.now c.before.before.before.before.before.args.types b c.before.before.before.word.ensures c.before.before.if1.false c.before.applies-operation.ensures (not-true _ c.if2.true)
 
 operates-on-requires : tie.Need-operates-on-requires
 operates-on-requires c κs = search rules
 
 returns-3 : tie.Need-returns-3
-returns-3 c = λ g h rules b. usable_operation g rules (place_as c.before.before.before.before.before.before.args.here) c.before.before.before.before.before.before.args.s c.before.before.before.before.before.before.args.a c.before.before.before.before.before.before.args.ws.now c.before.before.before.before.before.before.args.starts.now c.before.before.before.before.before.before.args.types b c.before.before.before.before.word.ensures c.before.before.before.if1.false c.before.before.applies-operation.ensures (not_false _ c.before.if2.false) (c.operates-on.ensures g h)
+returns-3 c = λ g h rules b. usable_operation g rules (place_as c.before.before.before.before.before.before.args.here) c.before.before.before.before.before.before.args.s c.before.before.before.before.before.before.args.a c.before.before.before.before.before.before.args.ws.now c.before.before.before.before.before.before.args.starts.now c.before.before.before.before.before.before.args.types b c.before.before.before.before.word.ensures c.before.before.before.if1.false c.before.before.applies-operation.ensures (not-false _ c.before.if2.false) (c.operates-on.ensures g h)
 
 pub usable-spec : {M : Type 1} → statement M
 usable-spec =

@@ -1,5 +1,5 @@
 -- `convert::table::first_misfit` meets its contract. Assumes nothing.
-use borrow.Author.Tests.{not_true, not_false}
+use borrow.Author.Tests.{not-true, not-false}
 use Prim.Native.Nat.{◌-◌}
 use Rattle.convert.proofs.Fitting.{MisfitLoop, misfit_start, misfit_end, misfit_found, misfit_more}
 use borrow.Author.Rules.{rules}
@@ -22,7 +22,7 @@ same-form-requires : tie.Need-same-form-requires invariant-loop decreases-loop
 same-form-requires c κs = search rules
 
 returns : tie.Need-returns invariant-loop decreases-loop
-returns c = misfit_found c.before.before.before.before.loop.invariant c.before.before.before.loop-test.true _ c.before.before.form-to.ensures _ c.before.same-form.ensures (not_true _ c.if1.true)
+returns c = misfit_found c.before.before.before.before.loop.invariant c.before.before.before.loop-test.true _ c.before.before.form-to.ensures _ c.before.same-form.ensures (not-true _ c.if1.true)
 
 add-v : tie.Need-overflow-add-v invariant-loop decreases-loop
 add-v c = search rules
@@ -31,7 +31,7 @@ loop-less : tie.Need-loop-smaller invariant-loop decreases-loop
 loop-less c = search rules
 
 loop-again : tie.Need-loop-preserved invariant-loop decreases-loop
-loop-again c = misfit_more c.before.before.before.before.loop.invariant c.before.before.before.loop-test.true _ c.before.before.form-to.ensures _ c.before.same-form.ensures (not_false _ c.if1.false)
+loop-again c = misfit_more c.before.before.before.before.loop.invariant c.before.before.before.loop-test.true _ c.before.before.form-to.ensures _ c.before.same-form.ensures (not-false _ c.if1.false)
 
 returns-2 : tie.Need-returns-2 invariant-loop decreases-loop
 returns-2 c = misfit_end c.before.loop.invariant c.loop-test.false

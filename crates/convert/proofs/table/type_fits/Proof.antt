@@ -1,5 +1,5 @@
 -- `convert::table::type_fits` meets its contract. Assumes nothing.
-use borrow.Author.Tests.{not_true, not_false}
+use borrow.Author.Tests.{not-true, not-false}
 use Rattle.convert.proofs.Fitting.{type_unlike, type_misfit, type_whole}
 use borrow.Author.Rules.{rules}
 use Rattle.convert.proofs.table.type_fits.Statement.{statement}
@@ -12,7 +12,7 @@ alike-requires : tie.Need-alike-requires
 alike-requires c κs = search rules
 
 returns : tie.Need-returns
-returns c = type_unlike c.before.before.before.before.before.args.t c.before.before.before.before.before.args.at _ c.before.before.type-to.ensures _ c.before.alike.ensures (not_true _ c.if1.true)
+returns c = type_unlike c.before.before.before.before.before.args.t c.before.before.before.before.before.args.at _ c.before.before.type-to.ensures _ c.before.alike.ensures (not-true _ c.if1.true)
 
 form-count-requires : tie.Need-form-count-requires
 form-count-requires c κs = search rules
@@ -30,7 +30,7 @@ add-t18 : tie.Need-overflow-add-t18
 add-t18 c = search rules
 
 returns-2 : tie.Need-returns-2
-returns-2 c = type_misfit c.before.before.before.before.before.before.before.before.before.args.t c.before.before.before.before.before.before.before.before.before.args.at _ c.before.before.before.before.before.before.type-to.ensures _ c.before.before.before.before.before.alike.ensures (not_false _ c.before.before.before.before.if1.false) _ c.before.before.before.form-count.ensures _ c.before.before.first-misfit.ensures c.before.if2.true _ c.wide.ensures
+returns-2 c = type_misfit c.before.before.before.before.before.before.before.before.before.args.t c.before.before.before.before.before.before.before.before.before.args.at _ c.before.before.before.before.before.before.type-to.ensures _ c.before.before.before.before.before.alike.ensures (not-false _ c.before.before.before.before.if1.false) _ c.before.before.before.form-count.ensures _ c.before.before.first-misfit.ensures c.before.if2.true _ c.wide.ensures
 
 add-t19 : tie.Need-overflow-add-t19
 add-t19 c = search rules
@@ -42,7 +42,7 @@ add-t21 : tie.Need-overflow-add-t21
 add-t21 c = search rules
 
 returns-3 : tie.Need-returns-3
-returns-3 c = type_whole c.before.before.before.before.before.before.before.before.before.args.t c.before.before.before.before.before.before.before.before.before.args.at _ c.before.before.before.before.before.before.type-to.ensures _ c.before.before.before.before.before.alike.ensures (not_false _ c.before.before.before.before.if1.false) _ c.before.before.before.form-count.ensures _ c.before.before.first-misfit.ensures c.before.if2.false _ c.wide2.ensures (search rules) c.before.before.before.before.before.before.before.before.before.requires.1
+returns-3 c = type_whole c.before.before.before.before.before.before.before.before.before.args.t c.before.before.before.before.before.before.before.before.before.args.at _ c.before.before.before.before.before.before.type-to.ensures _ c.before.before.before.before.before.alike.ensures (not-false _ c.before.before.before.before.if1.false) _ c.before.before.before.form-count.ensures _ c.before.before.first-misfit.ensures c.before.if2.false _ c.wide2.ensures (search rules) c.before.before.before.before.before.before.before.before.before.requires.1
 
 pub type-fits-spec : {M : Type 1} → statement M
 type-fits-spec =

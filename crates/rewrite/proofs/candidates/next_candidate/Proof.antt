@@ -1,7 +1,7 @@
 -- `rewrite::candidates::next_candidate` meets its contract. Assumes nothing.
 use Rattle.rewrite.proofs.Clashing.{Passing, passing_start, candidate_found, candidate_begun, candidate_fails}
 use Rattle.rewrite.specs.Candidates.{ClashesAt}
-use borrow.Author.Tests.{not_false}
+use borrow.Author.Tests.{not-false}
 use Prim.Native.Nat.{◌-◌}
 use native.Mathlib.Omega.{arith}
 use borrow.Author.Rules.{rules}
@@ -55,7 +55,7 @@ part-clashes-later-end : tie.Need-slice-bounds-clashes-later-end invariant-loop 
 part-clashes-later-end c = let h = c.before.before.before.before.before.before.before.before.before.before.before.before.requires.3 (omega (arith, c.before.before.if3.false)) in omega (arith, h.0, h.1, c.before.before.if3.false)
 
 clashes-later-requires : tie.Need-clashes-later-requires invariant-loop decreases-loop
-clashes-later-requires c κs = (c.before.before.before.before.before.before.before.before.before.before.before.before.before.requires.0, c.before.before.before.before.before.before.before.before.before.before.before.before.before.requires.2, candidate_begun _ _ _ _ _ _ _ _ _ _ c.before.before.before.before.before.before.before.before.before.before.before.before.before.requires.1 c.before.before.before.before.before.before.before.before.before.before.before.before.before.requires.2 c.before.before.before.before.before.before.before.before.before.before.before.before.before.requires.3 _ _ c.before.before.before.before.before.before.before.before.before.before.loop.invariant _ c.before.before.before.before.before.before.before.before.before.next_start.ensures c.before.before.before.if3.false (not_false _ c.before.before.before.before.before.before.before.if1.false) (omega (arith, c.before.if4.false)))
+clashes-later-requires c κs = (c.before.before.before.before.before.before.before.before.before.before.before.before.before.requires.0, c.before.before.before.before.before.before.before.before.before.before.before.before.before.requires.2, candidate_begun _ _ _ _ _ _ _ _ _ _ c.before.before.before.before.before.before.before.before.before.before.before.before.before.requires.1 c.before.before.before.before.before.before.before.before.before.before.before.before.before.requires.2 c.before.before.before.before.before.before.before.before.before.before.before.before.before.requires.3 _ _ c.before.before.before.before.before.before.before.before.before.before.loop.invariant _ c.before.before.before.before.before.before.before.before.before.next_start.ensures c.before.before.before.if3.false (not-false _ c.before.before.before.before.before.before.before.if1.false) (omega (arith, c.before.if4.false)))
 
 returns-5 : tie.Need-returns-5 invariant-loop decreases-loop
 returns-5 c = candidate_found _ _ _ _ _ _ _ _ _ _ c.before.before.before.before.before.before.before.before.before.before.before.before.before.before.before.requires.1 c.before.before.before.before.before.before.before.before.before.before.before.before.before.before.before.requires.2 c.before.before.before.before.before.before.before.before.before.before.before.before.before.before.before.requires.3 _ _ c.before.before.before.before.before.before.before.before.before.before.before.before.loop.invariant _ c.before.before.before.before.before.before.before.before.before.before.before.next_start.ensures
@@ -70,7 +70,7 @@ loop-less : tie.Need-loop-smaller invariant-loop decreases-loop
 loop-less c = omega (arith, c.before.before.before.before.before.before.if3.false, c.before.before.before.before.before.before.before.before.before.before.before.before.next_start.ensures.next.node_is)
 
 loop-again : tie.Need-loop-preserved invariant-loop decreases-loop
-loop-again c = candidate_fails _ _ _ _ _ _ _ _ _ _ c.before.before.before.before.before.before.before.before.before.before.before.before.before.before.before.before.requires.1 c.before.before.before.before.before.before.before.before.before.before.before.before.before.before.before.before.requires.2 c.before.before.before.before.before.before.before.before.before.before.before.before.before.before.before.before.requires.3 _ _ c.before.before.before.before.before.before.before.before.before.before.before.before.before.loop.invariant _ c.before.before.before.before.before.before.before.before.before.before.before.before.next_start.ensures c.before.before.before.before.before.before.if3.false _ (omega (arith, c.before.before.before.before.if4.false)) (c.before.before.clashes-later.ensures (not_false _ c.before.if5.false))
+loop-again c = candidate_fails _ _ _ _ _ _ _ _ _ _ c.before.before.before.before.before.before.before.before.before.before.before.before.before.before.before.before.requires.1 c.before.before.before.before.before.before.before.before.before.before.before.before.before.before.before.before.requires.2 c.before.before.before.before.before.before.before.before.before.before.before.before.before.before.before.before.requires.3 _ _ c.before.before.before.before.before.before.before.before.before.before.before.before.before.loop.invariant _ c.before.before.before.before.before.before.before.before.before.before.before.before.next_start.ensures c.before.before.before.before.before.before.if3.false _ (omega (arith, c.before.before.before.before.if4.false)) (c.before.before.clashes-later.ensures (not-false _ c.before.if5.false))
 
 pub next-candidate-spec : {M : Type 1} → statement M
 next-candidate-spec =

@@ -2,7 +2,7 @@
 use Rattle.rewrite.proofs.Clashing.{Passing, passing_start, passing_other, passing_fail, start_found}
 use Rattle.rewrite.specs.Candidates.{OtherValue}
 use Rattle.rules.proofs.Laid.{no_true}
-use borrow.Author.Tests.{not_true, not_false}
+use borrow.Author.Tests.{not-true, not-false}
 use mathlib.Core.Path.{refl, sym, ◌∙◌}
 use Prim.Native.Nat.{◌-◌}
 use native.Mathlib.Omega.{arith}
@@ -47,7 +47,7 @@ loop-again : tie.Need-loop-preserved invariant-loop decreases-loop
 loop-again c = passing_other _ _ _ _ _ _ _ _ _ c.before.before.before.before.loop.invariant c.before.before.before.loop-test.true _ refl (λ q. c.if1.true (c.before.type_in_lem.ensures ∙ q))
 
 returns : tie.Need-returns invariant-loop decreases-loop
-returns c = start_found _ _ _ _ _ _ _ _ _ _ c.before.before.before.before.before.loop.invariant (λ h. sym c.before.before.type_in_lem.ensures ∙ c.before.if1.false) (λ h k e. no_true (sym (not_true _ c.if2.true) ∙ e))
+returns c = start_found _ _ _ _ _ _ _ _ _ _ c.before.before.before.before.before.loop.invariant (λ h. sym c.before.before.type_in_lem.ensures ∙ c.before.if1.false) (λ h k e. no_true (sym (not-true _ c.if2.true) ∙ e))
 
 add-if3 : tie.Need-overflow-add-if3 invariant-loop decreases-loop
 add-if3 c = let h = c.before.before.before.before.before.before.before.requires (omega (arith, c.before.before.before.before.loop-test.true)) in omega (arith, h, c.before.before.before.before.loop-test.true)
@@ -74,7 +74,7 @@ loop-less-2 : tie.Need-loop-smaller-2 invariant-loop decreases-loop
 loop-less-2 c = omega (arith, c.before.before.before.before.before.before.before.before.before.loop-test.true)
 
 loop-again-2 : tie.Need-loop-preserved-2 invariant-loop decreases-loop
-loop-again-2 c = passing_fail _ _ _ _ _ _ _ _ _ c.before.before.before.before.before.before.before.before.before.before.loop.invariant c.before.before.before.before.before.before.before.before.before.loop-test.true _ refl (sym c.before.before.before.before.before.before.before.type_in_lem.ensures ∙ c.before.before.before.before.before.before.if1.false) _ (omega (arith, c.before.if4.false)) (not_false _ c.before.before.before.before.before.if2.false, c.before.before.before.if3.false)
+loop-again-2 c = passing_fail _ _ _ _ _ _ _ _ _ c.before.before.before.before.before.before.before.before.before.before.loop.invariant c.before.before.before.before.before.before.before.before.before.loop-test.true _ refl (sym c.before.before.before.before.before.before.before.type_in_lem.ensures ∙ c.before.before.before.before.before.before.if1.false) _ (omega (arith, c.before.if4.false)) (not-false _ c.before.before.before.before.before.if2.false, c.before.before.before.if3.false)
 
 returns-4 : tie.Need-returns-4 invariant-loop decreases-loop
 returns-4 c = start_found _ _ _ _ _ _ _ _ _ _ c.before.loop.invariant (λ h. absurd (omega (arith, c.loop-test.false))) (λ h k e. absurd (omega (arith, c.loop-test.false)))
