@@ -1,4 +1,6 @@
 // Trees in work memory: the first word of each node carries its type and the size and nesting of its tree.
+#![tactic(auto)]
+
 ghost use Rattle.std.specs.Prelude.{◌≡◌, ◌+◌, ◌-◌, ◌*◌, ◌%◌, ◌<◌, ◌≤◌, ◌^◌, max, eqb, length, get_or};
 ghost use Rattle.words.specs.Reader.{pick, and};
 ghost use Rattle.marks.specs.Marked.{mark, type_in, size_in, nesting_in};

@@ -1,4 +1,6 @@
 // The rule book: the readers of a rule's head, of a part and of a rule (20, 21, each with its position); and what a call asks of a book that has passed.
+#![tactic(auto)]
+
 ghost use Rattle.std.specs.Prelude.{◌≡◌, false, ℕ, ◌+◌, ◌<◌, ◌≤◌, length, get_or};
 ghost use Rattle.words.specs.Reader as Reading;
 ghost use Rattle.words.specs.Reader.{value};
