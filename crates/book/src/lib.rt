@@ -1,6 +1,8 @@
 // The layout of the whole rule book (20, 21, each with its position): it is read from its first word to its last by one reader.
 //
 // Functions over the reader are proved by hand, so they are straight lines but for one loop: a refusal is not returned early, it goes on in the answer.
+#![tactic(auto)]
+
 ghost use Rattle.std.specs.Prelude.{◌≡◌, ◌≤◌};
 ghost use Rattle.words.specs.Reader as Reading;
 ghost use Rattle.words.specs.Views.{answer, got};
@@ -11,7 +13,7 @@ use rules::limits::MOST_RULES;
 use words::{Check, Got};
 
 // The book, and a position in it.
-#[derive(Drop)]
+#[derive(Clone, Copy)]
 pub struct Reader<'a> {
     pub words: &'a [u32],
     pub at: usize,

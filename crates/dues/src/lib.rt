@@ -2,6 +2,8 @@
 // leave (22 to 24, each with its position), and what tells whether a rule or an operation may be applied.
 //
 // The grammar is seen through its tables.
+#![tactic(auto)]
+
 ghost use Rattle.std.specs.Prelude.{◌≡◌, [], ◌∷◌, ◌++◌, ℕ, ◌+◌, ◌<◌, ◌≤◌, ◌^◌, length, get_or, take, replicate, eqb};
 ghost use Rattle.words.specs.Reader as Reader;
 ghost use Rattle.words.specs.Reader.{Words, or};
@@ -31,7 +33,7 @@ use words::Check;
 pub mod limits;
 
 // Where pairs stand.
-#[derive(Drop)]
+#[derive(Clone, Copy)]
 pub enum Place {
     Pattern,
     Replacement,
@@ -39,14 +41,14 @@ pub enum Place {
 }
 
 // The types of the n variables that are there.
-#[derive(Drop)]
+#[derive(Clone, Copy)]
 pub struct Ctx {
     pub types: [u32; MOST_VARIABLES],
     pub n: usize,
 }
 
 // What one pair comes to: a refusal, the stack's height with what the pair makes due on top, or a new variable of a type.
-#[derive(Drop)]
+#[derive(Clone, Copy)]
 pub enum Met {
     Bad(u32, usize),
     Top(usize),

@@ -7,6 +7,7 @@ use lib.ListN.{length, get_or, length-append, drop_of_length-le, get_or-append}
 use lib.Seq.{drop_at, take_all, get_or-append-add, set-get_or}
 use Rattle.words.specs.Reader.{Words}
 use Rattle.grammar.specs.Grammar.{Grammar}
+use Rattle.grammar.specs.Kinds.{children}
 use Rattle.tree.specs.Tree.{Trees, none, node, size}
 use Rattle.tree.proofs.Trees.{Even, even_of, tells, trees_even}
 use Rattle.marks.specs.Marked.{type_in, size_in, marked, unmarked, UnderWay, nothing, written, copied}
@@ -57,7 +58,7 @@ under_unmarked {ts = []} few (written t v p) r = absurd (tells r)
 under_unmarked {g} {ts = c ∷ ts} few (written t v p) r =
     let q = tells r in
     let e : type_in t ≡ t = omega (arith, q.0, type_there g c v q.1) in
-    ap₂ (λ a b. a ∷ v ∷ b) e (under_unmarked few p q.2)
+    ap₂ (λ a b. a ∷ v ∷ b) e (under_unmarked {ts = children g c v ++ ts} few p q.2)
 under_unmarked {g} few (copied {u = u} {l} s p) r =
     unmarked_append (marked g u) l (even_of (marked g u) (omega (arith, marked_length g u, trees_even s))) ∙ ap₂ (λ a b. a ++ b) (unmark few s) (under_unmarked few p (rest_trees s r).1)
 
@@ -73,7 +74,7 @@ under_right few nothing r h q e i n = absurd (omega arith)
 under_right {ts = []} few (written t v p) r h q e i n = absurd (tells r)
 under_right {g} {ts = c ∷ ts} few (written t v p) r h zero e i n = let k = tells r in absurd (n (omega (arith, k.0, type_there g c v k.1)))
 under_right {ts = c ∷ ts} few (written t v p) r h (suc zero) e i n = absurd (omega arith)
-under_right {ts = c ∷ ts} few (written t v p) r h (suc (suc q)) e i n = under_right few p (tells r).2 (h - 1) q (omega arith) (omega arith) n
+under_right {g = g} {ts = c ∷ ts} few (written {l = l} {ws = ws} t v p) r h (suc (suc q)) e i n = under_right {ts = children g c v ++ ts} few p (tells r).2 (h - 1) q (omega arith) (omega arith) n
 under_right {g} few (copied {u = u} {l} {ws} s p) r h q e i n = go (length u - q) refl (λ a b c. under_right few p (rest_trees s r).1 (h - size u) (q - length u) a b c)
   where
     go : (d : ℕ) → length u - q ≡ d → (q - length u ≡ 2 * (h - size u) → q - length u < length ws → (size_in (get_or l (q - length u) 0) ≡ 0 → ⊥) → get_or l (q - length u) 0 ≡ get_or (marked g ws) (q - length u) 0)

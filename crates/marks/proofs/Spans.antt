@@ -53,7 +53,7 @@ suffix_trees {ts = []} (w ∷ ws) r (suc h) q e l = absurd (tells r)
 suffix_trees {ts = t ∷ ts} (w ∷ []) r (suc h) q e l = absurd (tells r)
 suffix_trees {ts = t ∷ ts} (w ∷ v ∷ ws) r (suc h) zero e l = absurd (omega arith)
 suffix_trees {ts = t ∷ ts} (w ∷ v ∷ ws) r (suc h) (suc zero) e l = absurd (omega arith)
-suffix_trees {ts = t ∷ ts} (w ∷ v ∷ ws) r (suc h) (suc (suc q)) e l = suffix_trees ws (tells r).2 h q (omega arith) (omega arith)
+suffix_trees {g = g} {ts = t ∷ ts} (w ∷ v ∷ ws) r (suc h) (suc (suc q)) e l = suffix_trees {ts = children g t v ++ ts} ws (tells r).2 h q (omega arith) (omega arith)
 
 -- .. of which there are some
 pub suffix_some : {g : Grammar} {ts : List ℕ} (ws : Words) → Trees g ts ws → (h q : ℕ) → q ≡ 2 * h → q < length ws → (c : ℕ) × (cs : List ℕ) × Trees g (c ∷ cs) (drop q ws)

@@ -1,4 +1,6 @@
 // The operations on numbers, in hundredths.
+#![tactic(auto)]
+
 ghost use Rattle.std.specs.Prelude.{◌≡◌, ◌+◌, ◌*◌, ◌/◌, ◌<◌};
 ghost use Rattle.meaning.specs.Rounding.{half_even};
 ghost use Rattle.operations.specs.Operating.{in_range_as, Operated, Compared};

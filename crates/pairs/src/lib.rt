@@ -1,6 +1,8 @@
 // The pairs of a pattern, a replacement or a condition, read against a stack of what is due (22 to 24, each with its position), in one loop.
 //
 // The grammar is seen through its tables, and a rule that is applied through the table of the positions at which the rules stand.
+#![tactic(auto)]
+
 ghost use Rattle.std.specs.Prelude.{◌≡◌, true, [], ◌∷◌, map, ◌+◌, ◌<◌, ◌≤◌, ◌^◌, length, get_or, take};
 ghost use Rattle.words.specs.Reader.{accepted};
 ghost use Rattle.tables.specs.Tables.{InHeads};

@@ -1,7 +1,7 @@
 -- What the marks of a tree say of its counts. Assumes nothing.
 use Prim.Native.Nat.{ℕ, suc, ◌+◌, ◌*◌, ◌/◌, ◌<◌, ◌≤◌}
 use mathlib.Core.Path.{◌≡◌, refl, sym, ap, ◌∙◌}
-use mathlib.Core.List.{List, [], ◌∷◌}
+use mathlib.Core.List.{List, [], ◌∷◌, ◌++◌}
 use native.Mathlib.Omega.{arith}
 use lib.ListN.{length, get_or, drop, length-drop}
 use lib.Seq.{drop-cons}
@@ -12,6 +12,7 @@ use Rattle.words.specs.Views.{answer}
 use Rattle.words.specs.declared.Check.TheVariants.{Passed, Refused}
 use Rattle.words.proofs.Stretches.{drop_pair}
 use Rattle.grammar.specs.Grammar.{Grammar}
+use Rattle.grammar.specs.Kinds.{children}
 use Rattle.tree.specs.Tree.{Trees, size, nesting, first_tree}
 use Rattle.tree.specs.Slip.{uncounted, right_counts}
 use Rattle.marks.specs.Marked.{type_in, size_in, mark_of, marked}
@@ -41,7 +42,8 @@ counts_marks g us (t ∷ []) at few s r = refl
 counts_marks g us (t ∷ v ∷ []) at few s r = refl
 counts_marks g us (t ∷ v ∷ c ∷ ws) at few s r =
     let says = mark_says g us t v (uncounted ws) few s r in
-    rw (says.count, counts_marks g _ ws (at + 3) few (omega arith) (node_of us t v (uncounted ws) r).below)
+    let n = node_of us t v (uncounted ws) r in
+    rw (says.count, counts_marks g (children g t v ++ n.rest) ws (at + 3) few (omega arith) n.below)
 
 -- THE LOOP THAT HOLDS THEM AGAINST THE MARKS
 

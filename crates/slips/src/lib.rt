@@ -1,5 +1,7 @@
 // Slips: three words a node, the third the number of nodes in its tree. The counts are taken off, the tree is read and marked, and each count is held against
 // its mark; a marked tree is written with its counts.
+#![tactic(auto)]
+
 ghost use Rattle.std.specs.Prelude.{◌≡◌, ◌++◌, false, ◌*◌, ◌/◌, ◌≤◌, length, drop};
 ghost use Rattle.words.specs.Views.{answer};
 ghost use Rattle.tree.specs.Limits.{most_tree_words};

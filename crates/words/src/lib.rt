@@ -6,14 +6,14 @@ ghost use Rattle.words.specs.Reader as Reader;
 ghost use Rattle.words.specs.Views.{got, equal_words};
 
 // A check's answer: nothing refused, with the position after what was read; or the number and the position of the refusal.
-#[derive(Drop)]
+#[derive(Clone, Copy)]
 pub enum Check {
     Passed(usize),
     Refused(u32, usize),
 }
 
 // A word and the next position, or a refusal.
-#[derive(Drop)]
+#[derive(Clone, Copy)]
 pub enum Got {
     Word(u32, usize),
     Bad(u32, usize),
