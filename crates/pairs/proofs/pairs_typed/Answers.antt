@@ -18,41 +18,32 @@ use Rattle.dues.specs.Views.{place_as, context_of, due_of, stack_of}
 use Rattle.pairs.specs.Views.{Book}
 use Rattle.pairs.proofs.pairs_typed.Goals as goal
 
--- the whole reading is that of the pairs from the i-th word on, against what the stack has due
-abbrev LeftFrom : Place → Words → Words → ℕ → Words → Words → Words → ℕ → ℕ → ℕ → Ctx → Words → ℕ → Words → ℕ → ℕ → Type 0
-LeftFrom here heads rows types ws starts ps start a b ctx st sp known n i = (g : Grammar) → Tables g heads rows → (rules : Rules) → Book types ws starts rules
-    → whole (meets g rules (place_as here)) 23 ps (due_of a b ∷ []) (context_of ctx) start ≡ rest (meets g rules (place_as here)) ps start i (stack_of st sp) (take n known)
-
--- .. and from where no token is passed over any more
-left-from : (c : lts.After-pass-tokens (push-reads.Asked, push-reads.Learnt, pass-tokens-reads.Asked, pass-tokens-reads.Learnt, meet-reads.Asked, meet-reads.Learnt) reads.Pre reads.Post invariant-loop decreases-loop) → LeftFrom c.before.before.before.before.before.before.before.before.before.before.before.before.before.args.here c.before.before.before.before.before.before.before.before.before.before.before.before.before.args.heads.now c.before.before.before.before.before.before.before.before.before.before.before.before.before.args.rows.now c.before.before.before.before.before.before.before.before.before.before.before.before.before.args.types c.before.before.before.before.before.before.before.before.before.before.before.before.before.args.ws.now c.before.before.before.before.before.before.before.before.before.before.before.before.before.args.starts.now c.before.before.before.before.before.before.before.before.before.before.before.before.before.args.ps.now c.before.before.before.before.before.before.before.before.before.before.before.before.before.args.start c.before.before.before.before.before.before.before.before.before.before.before.before.before.args.a c.before.before.before.before.before.before.before.before.before.before.before.before.before.args.b c.before.before.before.before.before.before.before.before.before.before.before.before.before.args.ctx c.before.before.before.before.loop.st c.before.before.before.before.loop.sp c.before.before.before.before.loop.known c.before.before.before.before.loop.n c.pass-tokens.result
-left-from c = λ g h rules b. loop_passed (meets g rules (place_as c.before.before.before.before.before.before.before.before.before.before.before.before.before.args.here)) c.before.before.before.before.before.before.before.before.before.before.before.before.before.args.ps.now c.before.before.before.before.before.before.before.before.before.before.before.before.before.args.start c.before.before.before.before.loop.i c.before.before.before.before.loop.sp c.before.before.before.before.loop.st (take c.before.before.before.before.loop.n c.before.before.before.before.loop.known) _ (c.before.before.before.before.loop.invariant.4 g h rules b) c.before.before.before.loop-test.true c.pass-tokens.result (c.pass-tokens.ensures.same g h rules)
-
 pub push-requires : goal.push-requires
 push-requires c = (omega arith, c.requires.7)
 
 pub loop-sp-init : goal.loop-sp-init
-loop-sp-init c = (omega (arith, c.push.auto.st, c.requires.7), omega (arith, c.requires.4), omega arith, (search (rules, c.), c.requires.6), λ g h rules b. rest_all (meets g rules (place_as c.args.here)) c.args.ps.now c.args.start c.args.a c.args.b (context_of c.args.ctx) c.args.st.now _ c.push.ensures)
+loop-sp-init c = (omega (arith, c.push.auto.st, c.requires.7), omega (arith, c.requires.4), omega arith, (search (rules, c.well_formed), c.requires.6), λ g h rules b. rest_all (meets g rules (place_as c.args.here)) c.args.ps.now c.args.start c.args.a c.args.b (context_of c.args.ctx) c.args.st.now _ c.push.ensures)
 
 pub pass_tokens-from-requires : goal.pass_tokens-from-requires
 pass_tokens-from-requires c = c.loop-sp.invariant.2
 
 pub returns-then-ps-from-lt2 : goal.returns-then-ps-from-lt2
-returns-then-ps-from-lt2 c = λ g h rules b. loop_short (meets g rules (place_as c.args.here)) c.args.ps.now c.args.start c.pass_tokens-from.result c.loop-sp.sp c.loop-sp.st (take c.loop-sp.n c.loop-sp.known) _ (left-from c g h rules b) c.loop-sp-test.true c.args.ctx c.pass_tokens-from.ensures.within c.if-ps-from-lt2.true
+returns-then-ps-from-lt2 c = λ g h rules b. loop_short (meets g rules (place_as c.args.here)) c.args.ps.now c.args.start c.pass_tokens-from.result c.loop-sp.sp c.loop-sp.st (take c.loop-sp.n c.loop-sp.known) _ ((loop_passed (meets g rules (place_as c.args.here)) c.args.ps.now c.args.start c.loop-sp.i c.loop-sp.sp c.loop-sp.st (take c.loop-sp.n c.loop-sp.known) _ (c.loop-sp.invariant.4 g h rules b) c.loop-sp-test.true c.pass_tokens-from.result (c.pass_tokens-from.ensures.same g h rules))) c.loop-sp-test.true c.args.ctx c.pass_tokens-from.ensures.within c.if-ps-from-lt2.true
 
 pub meet-m-requires : goal.meet-m-requires
 meet-m-requires c = ((c.requires.0.grammar, c.requires.0.tables), c.requires.1, c.requires.2, c.requires.3, c.loop-sp.invariant.3, omega (arith, c.loop-sp.invariant.1, c.pass_tokens-from.ensures.later, c.pass_tokens-from.ensures.within, c.if-ps-from-lt2.false, c.loop-sp-test.true), omega (arith, c.requires.5, c.requires.4, c.pass_tokens-from.ensures.within), c.loop-sp.invariant.0)
 
 pub returns-in-Bad : goal.returns-in-Bad
-returns-in-Bad c = λ g h rules b. loop_fault (meets g rules (place_as c.args.here)) c.args.ps.now c.args.start c.pass_tokens-from.result c.loop-sp.sp c.loop-sp.st (take c.loop-sp.n c.loop-sp.known) _ (left-from c g h rules b) c.loop-sp-test.true (omega (arith, c.if-ps-from-lt2.false, c.pass_tokens-from.ensures.within)) c.meet-m.result _ (c.meet-m.ensures g h rules b) c.args.ctx c.in-Bad.is
+returns-in-Bad c = λ g h rules b. loop_fault (meets g rules (place_as c.args.here)) c.args.ps.now c.args.start c.pass_tokens-from.result c.loop-sp.sp c.loop-sp.st (take c.loop-sp.n c.loop-sp.known) _ ((loop_passed (meets g rules (place_as c.args.here)) c.args.ps.now c.args.start c.loop-sp.i c.loop-sp.sp c.loop-sp.st (take c.loop-sp.n c.loop-sp.known) _ (c.loop-sp.invariant.4 g h rules b) c.loop-sp-test.true c.pass_tokens-from.result (c.pass_tokens-from.ensures.same g h rules))) c.loop-sp-test.true (omega (arith, c.if-ps-from-lt2.false, c.pass_tokens-from.ensures.within)) c.meet-m.result _ (c.meet-m.ensures g h rules b) c.args.ctx c.in-Bad.is
 
 pub loop-sp-preserved-in-Top : goal.loop-sp-preserved-in-Top
-loop-sp-preserved-in-Top c = let u = loop_next (meets c.requires.0.grammar c.requires.0.rules (place_as c.args.here)) c.args.ps.now c.args.start c.pass_tokens-from.result c.loop-sp.sp c.loop-sp.st (take c.loop-sp.n c.loop-sp.known) _ (left-from c c.requires.0.grammar c.requires.0.tables c.requires.0.rules c.requires.0.book) c.loop-sp-test.true (omega (arith, c.if-ps-from-lt2.false, c.pass_tokens-from.ensures.within)) c.meet-m.result _ (c.meet-m.ensures c.requires.0.grammar c.requires.0.tables c.requires.0.rules c.requires.0.book) (meets_steady c.requires.0.grammar c.requires.0.rules (place_as c.args.here) _ _ _ _) c.in-Top.is in (omega (arith, c.meet-m.auto.1.1.1.1.1.1.1.1.1.1.1.0, c.loop-sp.invariant.0), omega (arith, u.1, c.loop-sp.invariant.1, c.pass_tokens-from.ensures.later, c.pass_tokens-from.ensures.within, c.if-ps-from-lt2.false, c.loop-sp-test.true), omega (arith, c.if-ps-from-lt2.false, c.pass_tokens-from.ensures.within), c.loop-sp.invariant.3, λ g h rules b. (loop_next (meets g rules (place_as c.args.here)) c.args.ps.now c.args.start c.pass_tokens-from.result c.loop-sp.sp c.loop-sp.st (take c.loop-sp.n c.loop-sp.known) _ (left-from c g h rules b) c.loop-sp-test.true (omega (arith, c.if-ps-from-lt2.false, c.pass_tokens-from.ensures.within)) c.meet-m.result _ (c.meet-m.ensures g h rules b) (meets_steady g rules (place_as c.args.here) _ _ _ _) c.in-Top.is).0)
+loop-sp-preserved-in-Top c = let u = loop_next (meets c.requires.0.grammar c.requires.0.rules (place_as c.args.here)) c.args.ps.now c.args.start c.pass_tokens-from.result c.loop-sp.sp c.loop-sp.st (take c.loop-sp.n c.loop-sp.known) _ ((loop_passed (meets c.requires.0.grammar c.requires.0.rules (place_as c.args.here)) c.args.ps.now c.args.start c.loop-sp.i c.loop-sp.sp c.loop-sp.st (take c.loop-sp.n c.loop-sp.known) _ (c.loop-sp.invariant.4 c.requires.0.grammar c.requires.0.tables c.requires.0.rules c.requires.0.book) c.loop-sp-test.true c.pass_tokens-from.result (c.pass_tokens-from.ensures.same c.requires.0.grammar c.requires.0.tables c.requires.0.rules))) c.loop-sp-test.true (omega (arith, c.if-ps-from-lt2.false, c.pass_tokens-from.ensures.within)) c.meet-m.result _ (c.meet-m.ensures c.requires.0.grammar c.requires.0.tables c.requires.0.rules c.requires.0.book) (meets_steady c.requires.0.grammar c.requires.0.rules (place_as c.args.here) _ _ _ _) c.in-Top.is in (omega (arith, c.meet-m.auto.st, c.loop-sp.invariant.0), omega (arith, u.1, c.loop-sp.invariant.1, c.pass_tokens-from.ensures.later, c.pass_tokens-from.ensures.within, c.if-ps-from-lt2.false, c.loop-sp-test.true), omega (arith, c.if-ps-from-lt2.false, c.pass_tokens-from.ensures.within), c.loop-sp.invariant.3, λ g h rules b. (loop_next (meets g rules (place_as c.args.here)) c.args.ps.now c.args.start c.pass_tokens-from.result c.loop-sp.sp c.loop-sp.st (take c.loop-sp.n c.loop-sp.known) _ ((loop_passed (meets g rules (place_as c.args.here)) c.args.ps.now c.args.start c.loop-sp.i c.loop-sp.sp c.loop-sp.st (take c.loop-sp.n c.loop-sp.known) _ (c.loop-sp.invariant.4 g h rules b) c.loop-sp-test.true c.pass_tokens-from.result (c.pass_tokens-from.ensures.same g h rules))) c.loop-sp-test.true (omega (arith, c.if-ps-from-lt2.false, c.pass_tokens-from.ensures.within)) c.meet-m.result _ (c.meet-m.ensures g h rules b) (meets_steady g rules (place_as c.args.here) _ _ _ _) c.in-Top.is).0)
 
 pub bounds-known-n : goal.bounds-known-n
-bounds-known-n c = let u = loop_new (meets c.requires.0.grammar c.requires.0.rules (place_as c.args.here)) c.args.ps.now c.args.start c.pass_tokens-from.result c.loop-sp.sp c.loop-sp.st (take c.loop-sp.n c.loop-sp.known) _ (left-from c c.requires.0.grammar c.requires.0.tables c.requires.0.rules c.requires.0.book) c.loop-sp-test.true (omega (arith, c.if-ps-from-lt2.false, c.pass_tokens-from.ensures.within)) c.meet-m.result _ (c.meet-m.ensures c.requires.0.grammar c.requires.0.tables c.requires.0.rules c.requires.0.book) (meets_steady c.requires.0.grammar c.requires.0.rules (place_as c.args.here) _ _ _ _) c.loop-sp.known c.loop-sp.invariant.3 refl c.in-New.is in omega (arith, u.1.1)
+bounds-known-n c = let u = loop_new (meets c.requires.0.grammar c.requires.0.rules (place_as c.args.here)) c.args.ps.now c.args.start c.pass_tokens-from.result c.loop-sp.sp c.loop-sp.st (take c.loop-sp.n c.loop-sp.known) _ ((loop_passed (meets c.requires.0.grammar c.requires.0.rules (place_as c.args.here)) c.args.ps.now c.args.start c.loop-sp.i c.loop-sp.sp c.loop-sp.st (take c.loop-sp.n c.loop-sp.known) _ (c.loop-sp.invariant.4 c.requires.0.grammar c.requires.0.tables c.requires.0.rules c.requires.0.book) c.loop-sp-test.true c.pass_tokens-from.result (c.pass_tokens-from.ensures.same c.requires.0.grammar c.requires.0.tables c.requires.0.rules))) c.loop-sp-test.true (omega (arith, c.if-ps-from-lt2.false, c.pass_tokens-from.ensures.within)) c.meet-m.result _ (c.meet-m.ensures c.requires.0.grammar c.requires.0.tables c.requires.0.rules c.requires.0.book) (meets_steady c.requires.0.grammar c.requires.0.rules (place_as c.args.here) _ _ _ _) c.loop-sp.known c.loop-sp.invariant.3 refl c.in-New.is in omega (arith, u.1.1)
 
 pub loop-sp-preserved : goal.loop-sp-preserved
-loop-sp-preserved c = let u = loop_new (meets c.requires.0.grammar c.requires.0.rules (place_as c.args.here)) c.args.ps.now c.args.start c.pass_tokens-from.result c.loop-sp.sp c.loop-sp.st (take c.loop-sp.n c.loop-sp.known) _ (left-from c c.requires.0.grammar c.requires.0.tables c.requires.0.rules c.requires.0.book) c.loop-sp-test.true (omega (arith, c.if-ps-from-lt2.false, c.pass_tokens-from.ensures.within)) c.meet-m.result _ (c.meet-m.ensures c.requires.0.grammar c.requires.0.tables c.requires.0.rules c.requires.0.book) (meets_steady c.requires.0.grammar c.requires.0.rules (place_as c.args.here) _ _ _ _) c.loop-sp.known c.loop-sp.invariant.3 refl c.in-New.is in (omega (arith, c.meet-m.auto.1.1.1.1.1.1.1.1.1.1.1.0, c.loop-sp.invariant.0), omega (arith, c.loop-sp.invariant.1, c.pass_tokens-from.ensures.later, c.pass_tokens-from.ensures.within, c.if-ps-from-lt2.false, c.loop-sp-test.true), omega (arith, c.if-ps-from-lt2.false, c.pass_tokens-from.ensures.within), u.1, λ g h rules b. (loop_new (meets g rules (place_as c.args.here)) c.args.ps.now c.args.start c.pass_tokens-from.result c.loop-sp.sp c.loop-sp.st (take c.loop-sp.n c.loop-sp.known) _ (left-from c g h rules b) c.loop-sp-test.true (omega (arith, c.if-ps-from-lt2.false, c.pass_tokens-from.ensures.within)) c.meet-m.result _ (c.meet-m.ensures g h rules b) (meets_steady g rules (place_as c.args.here) _ _ _ _) c.loop-sp.known c.loop-sp.invariant.3 refl c.in-New.is).0)
+loop-sp-preserved c = let u = loop_new (meets c.requires.0.grammar c.requires.0.rules (place_as c.args.here)) c.args.ps.now c.args.start c.pass_tokens-from.result c.loop-sp.sp c.loop-sp.st (take c.loop-sp.n c.loop-sp.known) _ ((loop_passed (meets c.requires.0.grammar c.requires.0.rules (place_as c.args.here)) c.args.ps.now c.args.start c.loop-sp.i c.loop-sp.sp c.loop-sp.st (take c.loop-sp.n c.loop-sp.known) _ (c.loop-sp.invariant.4 c.requires.0.grammar c.requires.0.tables c.requires.0.rules c.requires.0.book) c.loop-sp-test.true c.pass_tokens-from.result (c.pass_tokens-from.ensures.same c.requires.0.grammar c.requires.0.tables c.requires.0.rules))) c.loop-sp-test.true (omega (arith, c.if-ps-from-lt2.false, c.pass_tokens-from.ensures.within)) c.meet-m.result _ (c.meet-m.ensures c.requires.0.grammar c.requires.0.tables c.requires.0.rules c.requires.0.book) (meets_steady c.requires.0.grammar c.requires.0.rules (place_as c.args.here) _ _ _ _) c.loop-sp.known c.loop-sp.invariant.3 refl c.in-New.is in (omega (arith, c.meet-m.auto.st, c.loop-sp.invariant.0), omega (arith, c.loop-sp.invariant.1, c.pass_tokens-from.ensures.later, c.pass_tokens-from.ensures.within, c.if-ps-from-lt2.false, c.loop-sp-test.true), omega (arith, c.if-ps-from-lt2.false, c.pass_tokens-from.ensures.within), u.1, λ g h rules b. (loop_new (meets g rules (place_as c.args.here)) c.args.ps.now c.args.start c.pass_tokens-from.result c.loop-sp.sp c.loop-sp.st (take c.loop-sp.n c.loop-sp.known) _ ((loop_passed (meets g rules (place_as c.args.here)) c.args.ps.now c.args.start c.loop-sp.i c.loop-sp.sp c.loop-sp.st (take c.loop-sp.n c.loop-sp.known) _ (c.loop-sp.invariant.4 g h rules b) c.loop-sp-test.true c.pass_tokens-from.result (c.pass_tokens-from.ensures.same g h rules))) c.loop-sp-test.true (omega (arith, c.if-ps-from-lt2.false, c.pass_tokens-from.ensures.within)) c.meet-m.result _ (c.meet-m.ensures g h rules b) (meets_steady g rules (place_as c.args.here) _ _ _ _) c.loop-sp.known c.loop-sp.invariant.3 refl c.in-New.is).0)
 
 pub returns-then-i-ps : goal.returns-then-i-ps
 returns-then-i-ps c = λ g h rules b. loop_over (meets g rules (place_as c.args.here)) c.args.ps.now c.args.start c.loop-sp.i c.loop-sp.sp c.loop-sp.st (take c.loop-sp.n c.loop-sp.known) _ (c.loop-sp.invariant.4 g h rules b) c.loop-sp-test.false c.args.ctx c.if-i-ps.true
