@@ -14,7 +14,7 @@ use rules::{Condition, Construct, Deconstruct, Part, Plan, Strategy};
 use tables::{HEADS, ROWS};
 
 // What a part's step found, what is open then, the state that is left, and where the next part stands.
-#[derive(Drop)]
+#[derive(Clone, Copy)]
 pub struct Taken {
     pub verdict: Verdict,
     pub frame: Frame,
@@ -23,7 +23,7 @@ pub struct Taken {
 }
 
 // Where a search ended: at a node, by its number in the scope; nowhere; or by a stop.
-#[derive(Drop)]
+#[derive(Clone, Copy)]
 pub enum Found {
     At(usize),
     Nowhere,
@@ -31,7 +31,7 @@ pub enum Found {
 }
 
 // What a search found, what is open then, the state that is left, and where the rule's replacement stands.
-#[derive(Drop)]
+#[derive(Clone, Copy)]
 pub struct Sought {
     pub found: Found,
     pub frame: Frame,
@@ -40,14 +40,14 @@ pub struct Sought {
 }
 
 // Whether an application of a condition succeeds, and the state that is left.
-#[derive(Drop)]
+#[derive(Clone, Copy)]
 pub struct Tested {
     pub verdict: Verdict,
     pub left: State,
 }
 
 // A tree that was built: 0 or the number of the stop, its nodes, the state that is left.
-#[derive(Drop)]
+#[derive(Clone, Copy)]
 pub struct Built {
     pub stop: u32,
     pub nodes: usize,
@@ -55,14 +55,14 @@ pub struct Built {
 }
 
 // What a chain made of its tree, and where the pairs after the chain begin.
-#[derive(Drop)]
+#[derive(Clone, Copy)]
 pub struct Chained {
     pub built: Built,
     pub next: usize,
 }
 
 // What a call left: 0 or the number of the stop, the nodes of its scope, the state that is left, and its replacements.
-#[derive(Drop)]
+#[derive(Clone, Copy)]
 pub struct Called {
     pub stop: u32,
     pub nodes: usize,

@@ -24,7 +24,7 @@ form_fits (form low same more) zero h = (low, same)
 form_fits (form low same more) (suc v) h = form_fits more v (omega arith)
 
 -- what is said of a type
-pub type_fits_lem : {b ks : Grammar} {es fs : List Entry} → TypesFit b es ks fs → (t : ℕ) → t < length ks → TypeFits b es (kind_of ks t) (entry_of fs t)
+pub type_fits_lem : {b : Grammar} {es : List Entry} {ks : Grammar} {fs : List Entry} → TypesFit b es ks fs → (t : ℕ) → t < length ks → TypeFits b es (kind_of ks t) (entry_of fs t)
 unfolding kind_of entry_of
 type_fits_lem no_type t h = absurd (omega arith)
 type_fits_lem (type fits more) zero h = fits

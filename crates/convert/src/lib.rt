@@ -1,4 +1,6 @@
 // The conversion of slips from grammar A to grammar B by a table: both grammars and the table are checked, the slip is read, and written node for node.
+#![tactic(auto)]
+
 ghost use Rattle.std.specs.Prelude.{◌≡◌, true, ◌*◌, ◌≤◌, length, take};
 ghost use Rattle.words.specs.Reader.{accepted};
 ghost use Rattle.grammar.specs.Grammar as Grammar;

@@ -4,7 +4,7 @@
 
 
 // What a run carries from step to step: the attempts left (the paper's trials). The budget at first.
-#[derive(Drop)]
+#[derive(Clone, Copy)]
 pub struct State {
     pub attempts: u32,
 }

@@ -8,7 +8,7 @@ ghost use Rattle.operations.specs.Operating.{in_range_as, Operated, Compared};
 use grammar::limits::GREATEST_NUMBER;
 
 // A number, or a stop 45.
-#[derive(Drop)]
+#[derive(Clone, Copy)]
 pub enum Number {
     Is(u32),
     OutOfRange,

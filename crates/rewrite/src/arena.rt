@@ -10,7 +10,7 @@ use tables::{HEADS, ROWS};
 use tree::limits::{MOST_NESTING, MOST_NODES};
 
 // What is open: how many variables are bound, how many nodes are live, and where free work memory begins.
-#[derive(Drop)]
+#[derive(Clone, Copy)]
 pub struct Frame {
     pub bound: usize,
     pub live: usize,
@@ -18,14 +18,14 @@ pub struct Frame {
 }
 
 // How many arguments an application has, and how many nodes they have.
-#[derive(Drop)]
+#[derive(Clone, Copy)]
 pub struct Args {
     pub bound: usize,
     pub total: usize,
 }
 
 // A replacement put in place: 0 and the nodes of the scope then; or the number of the stop.
-#[derive(Drop)]
+#[derive(Clone, Copy)]
 pub struct Placed {
     pub stop: u32,
     pub nodes: usize,

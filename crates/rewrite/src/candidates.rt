@@ -7,14 +7,14 @@ use meaning::State;
 use rules::limits::{MARK_NEW, MARK_VARIABLE};
 
 // A node, by its number in the scope, and the state that is left when it is reached.
-#[derive(Drop)]
+#[derive(Clone, Copy)]
 pub struct Candidate {
     pub node: usize,
     pub left: State,
 }
 
 // Of a pattern: whether its first pair is a node of the target's type, that pair's value, and whether it pays to look at later pairs before an attempt is made.
-#[derive(Drop)]
+#[derive(Clone, Copy)]
 pub struct First {
     pub fixed: bool,
     pub value: u32,

@@ -2,6 +2,8 @@
 //
 // Where the variables' trees stand is kept in one array of 16 places for a call, lent to all that bind or read them; how many are bound goes by value. What a
 // failed attempt bound lies past that count, and is written over.
+#![tactic(auto)]
+
 ghost use Rattle.std.specs.Prelude.{◌≡◌, ◌+◌, ◌<◌, ◌≤◌, ◌^◌, length};
 ghost use Rattle.rewrite.specs.Vars.{vars_of, start_at, Sound};
 ghost use Rattle.rewrite.specs.Matching.{NewTold, VariableTold, PairTold, failed_by, match_in, MatchAnswers, FirstAnswers};
@@ -16,7 +18,7 @@ pub mod candidates;
 pub const MOST_LIVE: usize = 6144;
 
 // What setting a pattern against a tree, or a part's step, comes to; a stop by its number.
-#[derive(Drop)]
+#[derive(Clone, Copy)]
 pub enum Verdict {
     Matches,
     Differs,
@@ -24,7 +26,7 @@ pub enum Verdict {
 }
 
 // What a match found, how many variables are bound after it, and how many nodes are live then.
-#[derive(Drop)]
+#[derive(Clone, Copy)]
 pub struct Matched {
     pub verdict: Verdict,
     pub bound: usize,

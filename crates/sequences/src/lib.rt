@@ -12,7 +12,7 @@ use tables::{HEADS, ROWS};
 use tree::limits::MOST_NODES;
 
 // A rest of a sequence: the number of its first node in the sequence, and how many elements are before it.
-#[derive(Drop)]
+#[derive(Clone, Copy)]
 pub struct Walked {
     pub node: usize,
     pub passed: usize,
