@@ -2,6 +2,8 @@
 //
 // A sequence grows and is cut at its end. So its own nodes lose their marks first; its elements keep theirs, and what is then under way is finished like
 // any other tree.
+#![tactic(auto)]
+
 ghost use Rattle.std.specs.Prelude.{◌≡◌, ◌∷◌, ◌++◌, ◌+◌, ◌-◌, ◌*◌, ◌<◌, ◌≤◌, ◌^◌, length, take, drop};
 ghost use Rattle.sequences.specs.Listed.{Walks, Loosened, Seals, Finishes, Collects, JoinsSequence, Extracts, Joins, FrontCut, Selects, Counts, Edits};
 

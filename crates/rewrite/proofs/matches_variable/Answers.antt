@@ -1,0 +1,9 @@
+-- `rewrite::matches_variable` meets its contract. Assumes nothing.
+use Rattle.rewrite.proofs.Matcher.{variable_other, variable_same}
+use Rattle.rewrite.proofs.matches_variable.Goals as goal
+
+pub returns-then-same_tree : goal.returns-then-same_tree
+returns-then-same_tree c = variable_same _ c.if-same_tree.true c.same_tree.ensures _ c.holds_blank.ensures
+
+pub returns : goal.returns
+returns c = variable_other _ c.if-same_tree.false c.same_tree.ensures
