@@ -2,6 +2,8 @@
 //
 // Every member of the cycle may call those below it, and `apply` and `succeeds` the calls one level deeper. All that is below what a member is given stays
 // as it is, and so do the places of the variables that are bound: each call has one array of them, lent to all that it calls on its own level.
+#![tactic(auto)]
+
 ghost use Rattle.std.specs.Prelude.{◌≡◌, ◌+◌, ◌*◌, ◌<◌, ◌≤◌, ◌^◌, length};
 ghost use Rattle.rewrite.specs.Vars.{vars_of, Sound};
 ghost use Rattle.calls.specs.Engine.{turned_by, open_of, taking_in, seeking_in, Named, Room, given_of, Deconstructs, Constructs, Conditions, Steps, Seeks, CallMatches, Succeeds, AnySucceeds, EditsAt, Applies, Chains, FillsChain, Fills, Finishes, Replaces, Calls};

@@ -19,7 +19,7 @@ pub mod table;
 pub mod tokens;
 
 // How many words were written; or a refusal: the grammar at fault (1 for A, 2 for B, 0 for neither), its number and its position.
-#[derive(Drop)]
+#[derive(Clone, Copy)]
 pub enum Converted {
     Filled(usize),
     Refusal(u32, u32, usize),

@@ -10,7 +10,7 @@ const MOST_RULES: usize = 16385;
 const MOST_SLIP: usize = 6145;
 
 // How long the grammar, the rules and the slip are. The budget is number 0, and each part's length stands before it.
-#[derive(Drop)]
+#[derive(Clone, Copy)]
 pub struct Lengths {
     pub grammar: usize,
     pub rules: usize,
@@ -18,14 +18,14 @@ pub struct Lengths {
 }
 
 // The lengths of an input's parts; or other input.
-#[derive(Drop)]
+#[derive(Clone, Copy)]
 pub enum Parts {
     Unread,
     Read(Lengths),
 }
 
 // A length that can be read, or none.
-#[derive(Drop)]
+#[derive(Clone, Copy)]
 pub enum Found {
     Length(usize),
     Nothing,

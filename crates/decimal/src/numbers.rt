@@ -5,7 +5,7 @@ ghost use Rattle.decimal.specs.declared.numbers.Place.TheVariants.{Unread};
 ghost use Rattle.decimal.specs.Numbers.{at, may_be, is_digit, is_white, grown, outside, added, byte, bytes, last, delivered, said, start, Stands, Delivers};
 
 // Where a reading stands.
-#[derive(Drop)]
+#[derive(Clone, Copy)]
 pub enum Place {
     // the text is no input
     Unread,
@@ -16,14 +16,14 @@ pub enum Place {
 }
 
 // Where a reading stands, and how many numbers it found.
-#[derive(Drop)]
+#[derive(Clone, Copy)]
 pub struct Reading {
     pub place: Place,
     pub count: usize,
 }
 
 // The reading after a piece of a text, and whether there may be more.
-#[derive(Drop)]
+#[derive(Clone, Copy)]
 pub struct Piece {
     pub read: Reading,
     pub more: bool,

@@ -15,7 +15,7 @@ use words::{Check, Got};
 pub mod limits;
 
 // The next position and whether what was read can be finished, or a refusal.
-#[derive(Drop)]
+#[derive(Clone, Copy)]
 pub enum Seen {
     Whole(usize, bool),
     Fault(u32, usize),

@@ -16,7 +16,7 @@ use words::{Check, Got};
 pub mod limits;
 
 // What a call needs of its rule: its target type, which nodes it tries, where the pattern's count stands, how many parts there are and where the first stands.
-#[derive(Drop)]
+#[derive(Clone, Copy)]
 pub struct Plan {
     pub target: u32,
     pub strategy: Strategy,
@@ -26,7 +26,7 @@ pub struct Plan {
 }
 
 // Which nodes a rule tries.
-#[derive(Drop)]
+#[derive(Clone, Copy)]
 pub enum Strategy {
     RootOnly,
     FirstMatch,
@@ -36,7 +36,7 @@ pub enum Strategy {
 
 // A rule's fields before its pattern: its map, its target type, which nodes it tries, how many parameters it has and where their types stand, and where the
 // pattern's count stands.
-#[derive(Drop)]
+#[derive(Clone, Copy)]
 pub struct Head {
     pub map: u32,
     pub target: u32,
@@ -47,14 +47,14 @@ pub struct Head {
 }
 
 // A rule's head, or a refusal.
-#[derive(Drop)]
+#[derive(Clone, Copy)]
 pub enum HeadRead {
     Header(Head),
     NoHead(u32, usize),
 }
 
 // Whether it searches and for a node of which type, where the variable's number stands, and where the pattern's count stands.
-#[derive(Drop)]
+#[derive(Clone, Copy)]
 pub struct Deconstruct {
     pub searches: bool,
     pub searched: u32,
@@ -63,21 +63,21 @@ pub struct Deconstruct {
 }
 
 // The type that it builds, and where the replacement's count stands.
-#[derive(Drop)]
+#[derive(Clone, Copy)]
 pub struct Construct {
     pub built: u32,
     pub replacement: usize,
 }
 
 // Whether it holds if no application succeeds, and where the chain's count of pairs stands.
-#[derive(Drop)]
+#[derive(Clone, Copy)]
 pub struct Condition {
     pub negated: bool,
     pub chain: usize,
 }
 
 // "A part is one of three kinds, each with its own fields after its bit map": positions and types, a struct for each kind.
-#[derive(Drop)]
+#[derive(Clone, Copy)]
 pub enum Part {
     Deconstruct(Deconstruct),
     Construct(Construct),
@@ -85,14 +85,14 @@ pub enum Part {
 }
 
 // A part, and the position after it.
-#[derive(Drop)]
+#[derive(Clone, Copy)]
 pub struct FoundPart {
     pub part: Part,
     pub next: usize,
 }
 
 // A part, or a refusal.
-#[derive(Drop)]
+#[derive(Clone, Copy)]
 pub enum PartRead {
     Found(FoundPart),
     NoPart(u32, usize),

@@ -19,7 +19,7 @@ use words::Check;
 
 // A single check's answer: the number of the refusal and its position; 0 and 0 where nothing is refused.
 #[repr(C)]
-#[derive(Drop)]
+#[derive(Clone, Copy)]
 pub struct Answer {
     pub number: u32,
     pub position: usize,
@@ -77,7 +77,7 @@ const MOST_BUDGET: u32 = 1000000;
 const MOST_CALLS: usize = 32;
 
 // Why a run stopped.
-#[derive(Drop)]
+#[derive(Clone, Copy)]
 pub enum Stop {
     // 40
     BudgetSpent,
@@ -94,7 +94,7 @@ pub enum Stop {
 }
 
 // What an accepted run counted: its attempts, the first call's replacements, and the words that it filled.
-#[derive(Drop)]
+#[derive(Clone, Copy)]
 pub struct Counts {
     pub attempts: u32,
     pub replacements: u32,
@@ -102,7 +102,7 @@ pub struct Counts {
 }
 
 // The outcome of a run.
-#[derive(Drop)]
+#[derive(Clone, Copy)]
 pub enum Outcome {
     Refused(u32, usize),
     Done(Counts),
@@ -299,7 +299,7 @@ const POST_RESULT: u32 = 1;
 
 // What is to be posted: the first words of its source, so many.
 #[repr(C)]
-#[derive(Drop)]
+#[derive(Clone, Copy)]
 pub struct Posting {
     pub source: u32,
     pub words: usize,
@@ -329,7 +329,7 @@ pub extern "C" fn tamarind_words_to_post(
 
 // A run's answer as it is exported. The ending is 0 done, 1 stopped, 2 refused; the number is that of the stop or the refusal, the position the refusal's.
 #[repr(C)]
-#[derive(Drop)]
+#[derive(Clone, Copy)]
 pub struct RunAnswer {
     pub ending: u32,
     pub number: u32,
@@ -404,7 +404,7 @@ pub extern "C" fn tamarind_run(
 // A conversion's answer as it is exported: the number of the refusal and its position, the grammar at fault (1 the old one, 2 the new one), and the words
 // filled; each 0 where it does not apply.
 #[repr(C)]
-#[derive(Drop)]
+#[derive(Clone, Copy)]
 pub struct ConversionAnswer {
     pub number: u32,
     pub position: usize,

@@ -1,0 +1,109 @@
+-- The proof of the cycle of calls: each member's needs are answered in a file below.
+use Rattle.calls.specs.Engine.{given_of, open_of}
+use Rattle.calls.proofs.Testing.{Trying}
+use Rattle.rewrite.specs.Vars.{vars_of}
+use Prim.Native.Nat.{◌+◌}
+use Rattle.calls.specs.Engine.{given_of}
+use Rattle.calls.proofs.Frames.{Still}
+use mathlib.Core.Path.{◌≡◌}
+use Prim.Native.Nat.{◌+◌, ◌*◌}
+use Rattle.calls.specs.Engine.{given_of}
+use Rattle.calls.proofs.Rounds.{Calling}
+use Rattle.calls.proofs.Applying.{Chaining}
+use Prim.Native.Nat.{◌+◌, ◌*◌}
+use Rattle.calls.specs.Engine.{given_of, open_of}
+use Prim.Native.Nat.{◌+◌, ◌-◌}
+use lib.ListN.{length}
+use Rattle.calls.proofs.Filling.{Filling}
+use Rattle.rewrite.specs.Vars.{vars_of}
+use Rattle.calls.specs.Engine.{given_of, open_of}
+use mathlib.Core.Path.{◌≡◌}
+use Rattle.calls.proofs.Frames.{Still}
+use Rattle.calls.proofs.Searching.{Searching, Parting}
+use Prim.Native.Nat.{◌+◌, ◌*◌, ◌-◌}
+use mathlib.Core.Path.{◌≡◌}
+use Prim.Native.Nat.{◌+◌}
+use Rattle.calls.proofs.+any_succeeds_apply_call_chain_condition_construct_fill_fill_chain_finish_matches_replace_seek_step_succeeds.Given as goal
+
+abbrev pub decreases-any_succeeds : goal.decreases-any_succeeds
+decreases-any_succeeds l = l.deep * 16 + 8
+
+abbrev pub decreases-apply : goal.decreases-apply
+decreases-apply l = l.deep * 16 + 4
+
+abbrev pub decreases-call : goal.decreases-call
+decreases-call l = l.deep * 16 + 12
+
+abbrev pub decreases-chain : goal.decreases-chain
+decreases-chain l = l.deep * 16 + 5
+
+abbrev pub decreases-condition : goal.decreases-condition
+decreases-condition l = l.deep * 16 + 9
+
+abbrev pub decreases-construct : goal.decreases-construct
+decreases-construct l = l.deep * 16 + 9
+
+abbrev pub decreases-fill : goal.decreases-fill
+decreases-fill l = l.deep * 16 + 7
+
+abbrev pub decreases-fill_chain : goal.decreases-fill_chain
+decreases-fill_chain l = l.deep * 16 + 6
+
+abbrev pub decreases-finish : goal.decreases-finish
+decreases-finish l = l.deep * 16 + 8
+
+abbrev pub decreases-matches : goal.decreases-matches
+decreases-matches l = l.deep * 16 + 12
+
+abbrev pub decreases-replace : goal.decreases-replace
+decreases-replace l = l.deep * 16 + 9
+
+abbrev pub decreases-seek : goal.decreases-seek
+decreases-seek l = l.deep * 16 + 11
+
+abbrev pub decreases-step : goal.decreases-step
+decreases-step l = l.deep * 16 + 10
+
+abbrev pub decreases-succeeds : goal.decreases-succeeds
+decreases-succeeds l = l.deep * 16 + 7
+
+abbrev pub invariant-any_succeeds-loop-k : goal.invariant-any_succeeds-loop-k
+invariant-any_succeeds-loop-k l = Trying (given_of l.heads l.rows l.types l.book l.starts) l.initial.w l.pairs l.start l.n (open_of l.places l.frame) l.deep l.initial.fuel l.w l.k l.at l.fuel
+
+abbrev pub decreases-any_succeeds-loop-k : goal.decreases-any_succeeds-loop-k
+decreases-any_succeeds-loop-k l = l.k
+
+abbrev pub invariant-call-loop-plan : goal.invariant-call-loop-plan
+invariant-call-loop-plan l =
+    Calling (given_of l.heads l.rows l.types l.book l.starts) l.initial.w l.at l.base l.n (vars_of l.initial.places l.bound) l.besides l.deep l.initial.fuel l.w l.nodes l.fuel l.count l.from × Still l.initial.places l.places l.bound
+
+abbrev pub decreases-call-loop-plan : goal.decreases-call-loop-plan
+decreases-call-loop-plan l = l.fuel.attempts
+
+abbrev pub invariant-chain-loop-k : goal.invariant-chain-loop-k
+invariant-chain-loop-k l = Chaining (given_of l.heads l.rows l.types l.book l.starts) l.initial.w l.pairs l.from l.base l.n (vars_of l.places l.bound) l.besides l.under l.deep l.initial.fuel l.w l.k l.at l.fuel l.nodes
+
+abbrev pub decreases-chain-loop-k : goal.decreases-chain-loop-k
+decreases-chain-loop-k l = l.k
+
+abbrev pub invariant-fill-loop-i : goal.invariant-fill-loop-i
+invariant-fill-loop-i l = Filling (given_of l.heads l.rows l.types l.book l.starts) l.initial.w l.pairs (open_of l.places l.frame) l.deep l.initial.fuel l.w l.fuel l.n l.i
+
+abbrev pub decreases-fill-loop-i : goal.decreases-fill-loop-i
+decreases-fill-loop-i l = length l.pairs - l.i
+
+abbrev pub invariant-seek-loop-k : goal.invariant-seek-loop-k
+invariant-seek-loop-k l =
+    (l.i ≡ l.initial.i) × Parting (given_of l.heads l.rows l.types l.book l.starts) l.deep l.initial.w l.initial.fuel (open_of l.initial.places l.initial.now) l.initial.at l.initial.k l.w l.fuel (open_of l.places l.now) l.at l.k
+
+abbrev pub decreases-seek-loop-k : goal.decreases-seek-loop-k
+decreases-seek-loop-k l =
+    l.k
+
+abbrev pub invariant-seek-nodes : goal.invariant-seek-nodes
+invariant-seek-nodes l =
+    Still l.initial.places l.places l.frame.bound × Searching (given_of l.heads l.rows l.types l.book l.starts) l.initial.w l.plan l.base l.n (open_of l.initial.places l.frame) l.deep l.initial.fuel l.from l.w l.fuel l.i
+
+abbrev pub decreases-seek-nodes : goal.decreases-seek-nodes
+decreases-seek-nodes l =
+    l.n - l.i
