@@ -1,4 +1,6 @@
 // The product's face: the callable functions, and their exports for C and Rust.
+#![tactic(auto)]
+
 ghost use Rattle.std.specs.Prelude.{◌≡◌, ◌<◌, ◌≤◌, ◌^◌, length, replicate};
 ghost use Rattle.words.specs.Reader.{Words};
 ghost use Rattle.words.specs.Views.{answer};
