@@ -9,12 +9,17 @@ ghost use Rattle.decimal.specs.Input.{input, input_of, parts_at};
 ghost use Rattle.decimal.specs.Printed.{printed, Put};
 ghost use Rattle.bench.specs.Bench.{Answers, AnswersWhole, ReadsOnce, ReadsOn, AnswersInput};
 
+use std::io::{self, Read, Stdin, Write};
+
 use decimal::input::{Lengths, Parts};
 use decimal::numbers::{Piece, Place, Reading};
 use tamarind::Outcome;
 
 // A budget, three lengths, and one word past each limit.
 const NUMBERS: usize = 26631;
+
+// The bytes of one `read`.
+const BUFFER: usize = 65536;
 
 const RESULT: usize = 6144;
 
@@ -118,23 +123,31 @@ fn answer_whole(
     answer(read, numbers, res, work, out)
 }
 
+// What `read` delivered, as a count: negative where it failed.
+fn count_of(read: io::Result<usize>) -> isize {
+    match read {
+        Ok(n) => isize::try_from(n).unwrap_or(-1),
+        Err(_) => -1,
+    }
+}
+
 // Reads once, on from what was read before.
-fn read_once(before: Reading, numbers: &mut [u32]) -> Piece
+fn read_once(mut stdin: Stdin, before: Reading, numbers: &mut [u32]) -> Piece
     ensures { ReadsOnce before numbers.old result numbers.new }
 {
-    let mut buffer = io::large_buffer();
-    let got = libc::read(0, &mut buffer);
+    let mut buffer = [0u8; BUFFER];
+    let got = count_of(stdin.read(&mut buffer));
     decimal::numbers::read_piece(before, got, &buffer, numbers)
 }
 
 // Reads on to the end of standard input, or up to the first byte that makes it unread. A proved loop has to end, and nothing says that an input does: so the
 // loop counts its turns down, from a number that no run uses up.
-fn read_on(mut read: Reading, numbers: &mut [u32]) -> Reading
+fn read_on(stdin: Stdin, mut read: Reading, numbers: &mut [u32]) -> Reading
     ensures { ReadsOn read numbers.old result numbers.new }
 {
     let mut turns: u64 = 18446744073709551615;
     while turns > 0 {
-        let piece = read_once(read, numbers);
+        let piece = read_once(stdin, read, numbers);
         read = piece.read;
         if !piece.more {
             return read;
@@ -146,6 +159,7 @@ fn read_on(mut read: Reading, numbers: &mut [u32]) -> Reading
 
 // Reads standard input and answers it.
 fn answer_input(
+    stdin: Stdin,
     numbers: &mut [u32; NUMBERS],
     res: &mut [u32; RESULT],
     work: &mut [u32; WORK],
@@ -153,17 +167,18 @@ fn answer_input(
 ) -> usize
     ensures { AnswersInput result out.new }
 {
-    let read = read_on(decimal::numbers::first(), numbers);
+    let read = read_on(stdin, decimal::numbers::first(), numbers);
     answer_whole(read, numbers, res, work, out)
 }
 
-fn main() {
+fn main(rt: HostRuntime) {
     let mut numbers = [0u32; NUMBERS];
     let mut result = [0u32; RESULT];
     let mut work = [0u32; WORK];
     let mut out = [0u8; OUT];
-    let n = answer_input(&mut numbers, &mut result, &mut work, &mut out);
-    if !io::write_all(1, &out[..n]) {
-        io::write_all(2, b"bench: the answer could not be written\n");
+    let n = answer_input(rt.stdin(), &mut numbers, &mut result, &mut work, &mut out);
+    if rt.stdout().write_all(&out[..n]).is_err() {
+        let told = rt.stderr().write_all(b"bench: the answer could not be written\n");
+        drop(told);
     }
 }
