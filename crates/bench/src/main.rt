@@ -1,6 +1,8 @@
 // The bench: one input from standard input, and what came of it to standard output. Of the system's `read` and `write` nothing is assumed but that they return, and how
 // many bytes they may move. So it is outside the proof that the bytes handed to `read_piece` are those that `read` delivered, each once and in order, and that those
 // of the answer are written.
+#![tactic(auto)]
+
 ghost use Rattle.std.specs.Prelude.{◌≡◌, ◌+◌, ◌≤◌, length};
 ghost use Rattle.std.proofs.Math.Option.{some};
 ghost use Rattle.tamarind.specs.Run.{said, filled_of, memories};
