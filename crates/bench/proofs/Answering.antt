@@ -7,7 +7,7 @@ use lib.ListN.{length, get_or, take, drop, length-take}
 use lib.Seq.{length-take-le}
 use Rattle.words.specs.Reader.{Words}
 use Rattle.meaning.specs.Limits.{least_result, least_work}
-use Rattle.meaning.specs.Outcome.{Inputs, Outcome, outcome, filled_by}
+use Rattle.meaning.specs.Outcome.{Inputs, outcome, filled_by}
 use Rattle.meaning.specs.Runs.{Memories}
 use Rattle.tamarind.specs.Run.{said, filled_of, inputs_of, Runs}
 use Rattle.tamarind.specs.declared.Outcome as Code
@@ -18,10 +18,9 @@ use Rattle.decimal.specs.Numbers.{Bytes, Numbers}
 use Rattle.decimal.specs.Input.{input, input_at, input_of, most_numbers, parts_at, Parted}
 use Rattle.decimal.specs.Printed.{printed, printed_unread, Put}
 use Rattle.decimal.specs.declared.input.Parts.{Parts}
-use Rattle.decimal.specs.declared.input.Parts.TheVariants as Parts
 use Rattle.decimal.specs.declared.input.Lengths.{Lengths}
 use Rattle.decimal.specs.declared.numbers.Place.{Place}
-use Rattle.decimal.specs.declared.numbers.Place.TheVariants.{Unread, Between, Within}
+use Rattle.decimal.specs.declared.numbers.Place.TheVariants.{Between, Within}
 use Rattle.decimal.proofs.Reading.{count_all}
 use Rattle.decimal.proofs.Whole.{printed_short, put_whole, enough_room}
 use Rattle.bench.specs.Bench.{answer_to, bench, left_by, Answers, Whole, AnswersWhole}

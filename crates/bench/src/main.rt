@@ -11,10 +11,9 @@ ghost use Rattle.decimal.specs.Input.{input, input_of, parts_at};
 ghost use Rattle.decimal.specs.Printed.{printed, Put};
 ghost use Rattle.bench.specs.Bench.{Answers, AnswersWhole, ReadsOnce, ReadsOn, AnswersInput};
 
-use std::io::{self, Read, Stdin, Write};
-
 use decimal::input::{Lengths, Parts};
 use decimal::numbers::{Piece, Place, Reading};
+use std::io::{self, Read, Stdin, Write};
 use tamarind::Outcome;
 
 // A budget, three lengths, and one word past each limit.
@@ -180,7 +179,9 @@ fn main(rt: HostRuntime) {
     let mut out = [0u8; OUT];
     let n = answer_input(rt.stdin(), &mut numbers, &mut result, &mut work, &mut out);
     if rt.stdout().write_all(&out[..n]).is_err() {
-        let told = rt.stderr().write_all(b"bench: the answer could not be written\n");
+        let told = rt
+            .stderr()
+            .write_all(b"bench: the answer could not be written\n");
         drop(told);
     }
 }

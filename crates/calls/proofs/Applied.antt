@@ -9,7 +9,7 @@ use lib.ListN.{length, get_or, take, drop, get_elem?}
 use lib.Seq.{get_or-drop}
 use lib.Dec.{eqb, leb}
 use borrow.Author.Tests.{leb-true, eqb-true}
-use Rattle.words.specs.Reader.{Words, value, many}
+use Rattle.words.specs.Reader.{Words, value}
 use Rattle.grammar.specs.Limits.{greatest_number}
 use Rattle.grammar.specs.Grammar.{Grammar}
 use Rattle.rules.specs.Limits.{most_parameters}

@@ -18,7 +18,6 @@ use Rattle.rules.specs.declared.Deconstruct.{Deconstruct}
 use Rattle.rules.specs.declared.Construct.{Construct}
 use Rattle.rules.specs.declared.Condition.{Condition}
 use Rattle.rules.specs.declared.Part.{Part}
-use Rattle.rules.specs.declared.Part.TheVariants as Part
 use Rattle.rules.specs.declared.FoundPart.{FoundPart}
 use Rattle.rules.proofs.Laid.{Told, part_tells}
 use Rattle.meaning.specs.declared.State.{State}

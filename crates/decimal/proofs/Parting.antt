@@ -15,7 +15,6 @@ use Rattle.words.proofs.Laws.{and_both}
 use Rattle.meaning.specs.Outcome.{Inputs}
 use Rattle.decimal.specs.Input.{counted, whole, input, length_at, parts_at, most_grammar, most_rules, most_slip, Parted}
 use Rattle.decimal.specs.declared.input.Parts.{Parts}
-use Rattle.decimal.specs.declared.input.Parts.TheVariants as Parts
 use Rattle.decimal.specs.declared.input.Found.{Found}
 use Rattle.decimal.specs.declared.input.Found.TheVariants.{Length, Nothing}
 

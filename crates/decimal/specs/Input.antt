@@ -7,7 +7,6 @@ use Rattle.decimal.specs.Numbers.{Bytes, Numbers, numbers}
 use Rattle.decimal.specs.declared.numbers.Place.{Place}
 use Rattle.decimal.specs.declared.numbers.Place.TheVariants.{Unread, Between, Within}
 use Rattle.decimal.specs.declared.input.Parts.{Parts}
-use Rattle.decimal.specs.declared.input.Parts.TheVariants as Parts
 use Rattle.decimal.specs.declared.input.Found.{Found}
 use Rattle.decimal.specs.declared.input.Found.TheVariants.{Length, Nothing}
 

@@ -1,6 +1,6 @@
 -- What the code that meets a pair keeps and hands back: the variables, the stack of what is due, and what a pair leaves. Assumes nothing: these are definitions.
 use Rattle.std.specs.Prelude.{ℕ, zero, suc, ◌+◌, ◌*◌, ◌≤◌, ◌<◌, ◌≡◌, List, [], ◌∷◌, ◌++◌, map, Bool, true, false, length, get_or, take, drop, ltb, leb, eqb}
-use Rattle.words.specs.Reader.{Words, pick, and, Read, value, refused, Reader, ◌>>=◌, ◌>>◌}
+use Rattle.words.specs.Reader.{Words, pick, and, Read, value, refused, Reader, ◌>>◌}
 use Rattle.grammar.specs.Grammar.{Grammar}
 use Rattle.grammar.specs.Kinds.{children, is_sequence}
 use Rattle.tables.specs.Tables.{is_token, Rows}

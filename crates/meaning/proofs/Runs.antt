@@ -11,7 +11,7 @@ use borrow.Author.Tests.{le-leb}
 use Rattle.words.specs.Reader.{Words, pick}
 use Rattle.words.proofs.Laws.{and_true}
 use Rattle.words.proofs.Stretches.{over_word, over_length}
-use Rattle.meaning.specs.Outcome.{Inputs, Outcome, refused, ended, outcome, result_after, work_after, output, is_done, filled_by}
+use Rattle.meaning.specs.Outcome.{Inputs, Outcome, refused, ended, result_after, work_after, output, is_done, filled_by}
 use Rattle.meaning.specs.Runs.{Memories, Step, Ran, step_of, Each, lastly, Sure, Leaves, Fine, word_after, OneAfterAnother}
 use Rattle.meaning.proofs.FromWords.{outcome_sure}
 

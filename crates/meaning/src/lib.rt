@@ -2,7 +2,6 @@
 // same.
 #![tactic(auto)]
 
-
 // What a run carries from step to step: the attempts left (the paper's trials). The budget at first.
 #[derive(Clone, Copy)]
 pub struct State {

@@ -15,7 +15,7 @@ use Rattle.tree.specs.Reading.{tree}
 use Rattle.rules.specs.Limits.{most_parameters}
 use Rattle.rules.specs.Rules.{Rule, Rules, root_only, firstMatch, exhaustive, onePass, searches}
 use Rattle.rules.specs.Rules as Rules
-use Rattle.rules.specs.Layout.{Head, bit, only_if, strategy_of, field, reach, type_field, parameters, head_fields, head, rule}
+use Rattle.rules.specs.Layout.{Head, bit, only_if, strategy_of, field, reach, type_field, parameters, head_fields, head}
 use Rattle.rules.specs.Views.{head_read, strategy_as}
 use Rattle.rules.proofs.Laws.{head_refused, head_found}
 use Rattle.rules.specs.declared.Head.{Head as HeadFound}

@@ -2,7 +2,6 @@
 #![tactic(auto)]
 
 use std::io;
-
 use words::Check;
 
 // `accepted`, or `refused`, the number and the position.
@@ -45,12 +44,18 @@ fn check_slip(rt: &impl Print, ws: &[u32]) -> io::Result<()> {
 
 // The paper's slips, and its variants of them; wrong counts.
 fn papers_slips(rt: &impl Print) -> io::Result<()> {
-    check_slip(rt, &[0, 0, 6, 1, 0, 5, 2, 200, 1, 1, 0, 3, 2, 500, 1, 1, 1, 1])?;
+    check_slip(
+        rt,
+        &[0, 0, 6, 1, 0, 5, 2, 200, 1, 1, 0, 3, 2, 500, 1, 1, 1, 1],
+    )?;
     check_slip(rt, &[0, 0, 2, 1, 1, 1])?;
     check_slip(rt, &[0, 0, 1])?;
-    check_slip(rt, &[
-        0, 0, 6, 1, 0, 5, 2, 200, 1, 1, 0, 3, 2, 500, 1, 1, 1, 1, 1, 1, 1,
-    ])?;
+    check_slip(
+        rt,
+        &[
+            0, 0, 6, 1, 0, 5, 2, 200, 1, 1, 0, 3, 2, 500, 1, 1, 1, 1, 1, 1, 1,
+        ],
+    )?;
     check_slip(rt, &[0, 0, 4, 1, 0, 3, 2, 4000000000, 1, 1, 1, 1])?;
     check_slip(rt, &[0, 0, 4, 1, 0, 3, 2, 4000000001, 1, 1, 1, 1])?;
     check_slip(rt, &[0, 0, 2, 1, 2, 1])?;

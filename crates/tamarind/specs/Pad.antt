@@ -1,6 +1,6 @@
 -- ONE RUN AFTER ANOTHER, by this core: the claim of demand 3 about a whole list of runs, each made by `run` or by `tamarind_run` as its caller likes.
 -- proofs/Pad.antt proves it. Assumes nothing: these are definitions.
-use Rattle.std.specs.Prelude.{◌≤◌, ◌≡◌, List, [], ◌∷◌, map, Bool, take, eqb}
+use Rattle.std.specs.Prelude.{◌≤◌, ◌≡◌, List, map, Bool, take, eqb}
 use Rattle.words.specs.Reader.{Words, pick}
 use Rattle.meaning.specs.Outcome.{Inputs, output}
 use Rattle.meaning.specs.Runs.{Memories, Step, EachLeaving, zeroed, Whole}

@@ -3,7 +3,6 @@ use Rattle.std.specs.Prelude.{ℕ, ◌-◌, ◌/◌, ◌≤◌, ◌≡◌, lengt
 use Rattle.words.specs.Reader.{Words, Read, value, and_then, return}
 use Rattle.words.specs.Views.{answer}
 use Rattle.words.specs.declared.Check.{Check}
-use Rattle.words.specs.declared.Check.TheVariants as Check
 use Rattle.grammar.specs.Grammar.{read_grammar}
 use Rattle.tables.specs.Tables.{Tables}
 use Rattle.tree.specs.Slip.{read_slip}

@@ -5,7 +5,7 @@ use Rattle.grammar.specs.Grammar.{Grammar}
 use Rattle.tables.specs.Tables.{Tables}
 use Rattle.tables.specs.Filling.{next_of}
 use Rattle.tree.specs.Reading.{tree}
-use Rattle.rules.specs.Rules.{Rules, searches}
+use Rattle.rules.specs.Rules.{Rules}
 use Rattle.rules.specs.Layout as Layout
 use Rattle.rules.specs.Layout.{PartAt, deconstruct_at, bit, only_if, field}
 use Rattle.rules.specs.Views.{searched_type}

@@ -1,7 +1,6 @@
 -- `bench::run_parts` meets its contract. Assumes nothing.
 use Rattle.bench.proofs.Answering.{filled_there, parts_answer}
 use Rattle.tamarind.specs.Run.{memories}
-use borrow.Author.Rules.{rules}
 use Rattle.bench.proofs.run_parts.Goals as goal
 
 pub print_outcome-requires : goal.print_outcome-requires

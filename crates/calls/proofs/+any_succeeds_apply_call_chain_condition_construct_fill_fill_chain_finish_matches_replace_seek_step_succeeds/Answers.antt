@@ -102,7 +102,6 @@ any_succeeds-returns t c = let a = c.args in
     trying_end (given_of a.heads.now a.rows.now a.types a.book.now a.starts.now) a.w.now a.pairs.now a.start a.n (open_of a.places.now a.frame) a.deep a.left
     _ _ _ _ c.loop-k.invariant (omega arith)
 
-
 pub apply-returns-then-deep-eq0 : goal.apply-returns-then-deep-eq0
 apply-returns-then-deep-eq0 t c = let a = c.args in let p = c.requires in
     apply_deep (given_of a.heads.now a.rows.now a.types a.book.now a.starts.now) a.w.now a.pairs.now a.at a.base a.n (vars_of a.places.now a.bound) a.besides a.under a.deep a.left p.3 p.1
@@ -128,7 +127,6 @@ apply-returns t c = let a = c.args in let p = c.requires in
     apply_edited (given_of a.heads.now a.rows.now a.types a.book.now a.starts.now) a.w.now a.pairs.now a.at a.base a.n (vars_of a.places.now a.bound) a.besides a.under a.deep a.left p.3 p.1
     c.word-a.result (get_or a.pairs.now (a.at + 1) 0) c.word-a.ensures refl c.if-a-lt-JOIN.false p.0
     c.edit_at-p.new.w c.edit_at-p.result c.edit_at-p.ensures c.building-2.result c.building-2.ensures
-
 
 pub call-loop-plan-init : goal.call-loop-plan-init
 call-loop-plan-init t c =
@@ -200,19 +198,35 @@ call-returns-then-not-repeats t c = ((let a = c.args in
     c.in-At.i c.in-At.is c.replace-b.new.w c.replace-b.result c.replace-b.ensures c.again-repeats.result c.again-repeats.ensures)).last c.calling-then-not-repeats.result c.if-b-ne0.false (ap not c.if-not-repeats.true) c.calling-then-not-repeats.ensures
 
 pub call-overflow_mul-i : goal.call-overflow_mul-i
-call-overflow_mul-i t c = omega (arith, (((let a = c.args in
-    let i = c.loop-plan in
-    searched (given_of a.heads.now a.rows.now a.types a.book.now a.starts.now) a.w.now a.at a.base a.n (vars_of a.places.now a.bound) a.besides a.deep a.left i.w i.nodes i.fuel i.count i.from i.invariant.0 c.if-live-gt-MOST_LIVE.false c.plan_of-plan.result c.plan_of-plan.ensures.1 c.seek-s.new.w _ (seeks_still (vars_of a.places.now a.bound) (vars_of i.places a.bound) refl i.invariant.1.1 c.seek-s.ensures))).place c.in-At.i c.in-At.is).0, c.loop-plan.invariant.0.few)
+call-overflow_mul-i t c = omega (
+  arith,
+  (((let a = c.args in
+      let i = c.loop-plan in
+      searched (given_of a.heads.now a.rows.now a.types a.book.now a.starts.now) a.w.now a.at a.base a.n (vars_of a.places.now a.bound) a.besides a.deep a.left i.w i.nodes i.fuel i.count i.from i.invariant.0 c.if-live-gt-MOST_LIVE.false c.plan_of-plan.result c.plan_of-plan.ensures.1 c.seek-s.new.w _ (seeks_still (vars_of a.places.now a.bound) (vars_of i.places a.bound) refl i.invariant.1.1 c.seek-s.ensures))).place c.in-At.i c.in-At.is).0,
+  c.loop-plan.invariant.0.few,
+)
 
 pub call-overflow_add-base : goal.call-overflow_add-base
-call-overflow_add-base t c = omega (arith, (((let a = c.args in
-    let i = c.loop-plan in
-    searched (given_of a.heads.now a.rows.now a.types a.book.now a.starts.now) a.w.now a.at a.base a.n (vars_of a.places.now a.bound) a.besides a.deep a.left i.w i.nodes i.fuel i.count i.from i.invariant.0 c.if-live-gt-MOST_LIVE.false c.plan_of-plan.result c.plan_of-plan.ensures.1 c.seek-s.new.w _ (seeks_still (vars_of a.places.now a.bound) (vars_of i.places a.bound) refl i.invariant.1.1 c.seek-s.ensures))).place c.in-At.i c.in-At.is).0, c.loop-plan.invariant.0.few, c.requires.3)
+call-overflow_add-base t c = omega (
+  arith,
+  (((let a = c.args in
+      let i = c.loop-plan in
+      searched (given_of a.heads.now a.rows.now a.types a.book.now a.starts.now) a.w.now a.at a.base a.n (vars_of a.places.now a.bound) a.besides a.deep a.left i.w i.nodes i.fuel i.count i.from i.invariant.0 c.if-live-gt-MOST_LIVE.false c.plan_of-plan.result c.plan_of-plan.ensures.1 c.seek-s.new.w _ (seeks_still (vars_of a.places.now a.bound) (vars_of i.places a.bound) refl i.invariant.1.1 c.seek-s.ensures))).place c.in-At.i c.in-At.is).0,
+  c.loop-plan.invariant.0.few,
+  c.requires.3,
+)
 
 pub call-onward-from-requires : goal.call-onward-from-requires
-call-onward-from-requires t c = (omega (arith, (((let a = c.args in
-    let i = c.loop-plan in
-    searched (given_of a.heads.now a.rows.now a.types a.book.now a.starts.now) a.w.now a.at a.base a.n (vars_of a.places.now a.bound) a.besides a.deep a.left i.w i.nodes i.fuel i.count i.from i.invariant.0 c.if-live-gt-MOST_LIVE.false c.plan_of-plan.result c.plan_of-plan.ensures.1 c.seek-s.new.w _ (seeks_still (vars_of a.places.now a.bound) (vars_of i.places a.bound) refl i.invariant.1.1 c.seek-s.ensures))).place c.in-At.i c.in-At.is).0, c.loop-plan.invariant.0.few), c.size_at-put.ensures.1)
+call-onward-from-requires t c = (
+  omega (
+    arith,
+    (((let a = c.args in
+        let i = c.loop-plan in
+        searched (given_of a.heads.now a.rows.now a.types a.book.now a.starts.now) a.w.now a.at a.base a.n (vars_of a.places.now a.bound) a.besides a.deep a.left i.w i.nodes i.fuel i.count i.from i.invariant.0 c.if-live-gt-MOST_LIVE.false c.plan_of-plan.result c.plan_of-plan.ensures.1 c.seek-s.new.w _ (seeks_still (vars_of a.places.now a.bound) (vars_of i.places a.bound) refl i.invariant.1.1 c.seek-s.ensures))).place c.in-At.i c.in-At.is).0,
+    c.loop-plan.invariant.0.few,
+  ),
+  c.size_at-put.ensures.1,
+)
 
 pub call-loop-plan-smaller : goal.call-loop-plan-smaller
 call-loop-plan-smaller t c = ((let a = c.args in
@@ -223,13 +237,14 @@ call-loop-plan-smaller t c = ((let a = c.args in
 
 pub call-loop-plan-preserved : goal.call-loop-plan-preserved
 call-loop-plan-preserved t c =
-    let g = c.seek-s.ensures.grown in
-    (rw ((c.onward-from.ensures ∙ ap (onward_of c.plan_of-plan.result.strategy c.in-At.i) c.size_at-put.ensures.0)) (((let a = c.args in
-    let i = c.loop-plan in
-    let s = c.seek-s in
-    placed (given_of a.heads.now a.rows.now a.types a.book.now a.starts.now) a.w.now a.at a.base a.n (vars_of a.places.now a.bound) a.besides a.deep a.left i.w i.nodes i.fuel i.count i.from i.invariant.0 c.if-live-gt-MOST_LIVE.false c.plan_of-plan.result c.plan_of-plan.ensures.1 s.new.w _ (seeks_still (vars_of a.places.now a.bound) (vars_of i.places a.bound) refl i.invariant.1.1 s.ensures)
-    c.in-At.i c.in-At.is c.replace-b.new.w c.replace-b.result c.replace-b.ensures c.again-repeats.result c.again-repeats.ensures)).again c.if-b-ne0.false (ap not c.if-not-repeats.false)), still_after c.loop-plan.invariant.1 g.sound g.kept)
-
+    let g = c.seek-s.ensures.grown in (
+      rw ((c.onward-from.ensures ∙ ap (onward_of c.plan_of-plan.result.strategy c.in-At.i) c.size_at-put.ensures.0)) (((let a = c.args in
+          let i = c.loop-plan in
+          let s = c.seek-s in
+          placed (given_of a.heads.now a.rows.now a.types a.book.now a.starts.now) a.w.now a.at a.base a.n (vars_of a.places.now a.bound) a.besides a.deep a.left i.w i.nodes i.fuel i.count i.from i.invariant.0 c.if-live-gt-MOST_LIVE.false c.plan_of-plan.result c.plan_of-plan.ensures.1 s.new.w _ (seeks_still (vars_of a.places.now a.bound) (vars_of i.places a.bound) refl i.invariant.1.1 s.ensures)
+          c.in-At.i c.in-At.is c.replace-b.new.w c.replace-b.result c.replace-b.ensures c.again-repeats.result c.again-repeats.ensures)).again c.if-b-ne0.false (ap not c.if-not-repeats.false)),
+      still_after c.loop-plan.invariant.1 g.sound g.kept,
+    )
 
 pub chain-loop-k-init : goal.chain-loop-k-init
 chain-loop-k-init t c = let a = c.args in let p = c.requires in
@@ -273,7 +288,6 @@ chain-returns t c = let a = c.args in
     chaining_end (given_of a.heads.now a.rows.now a.types a.book.now a.starts.now) a.w.now a.pairs.now a.from a.base a.n (vars_of a.places.now a.bound) a.besides a.under a.deep a.left
     _ _ _ _ _ c.loop-k.invariant (omega arith) c.building-b.result c.building-b.ensures
 
-
 pub condition-returns-then-frame-n-gt-MOST_LIVE : goal.condition-returns-then-frame-n-gt-MOST_LIVE
 condition-returns-then-frame-n-gt-MOST_LIVE t c = let a = c.args in let s = c.start_in-start in
     condition_over (given_of a.heads.now a.rows.now a.types a.book.now a.starts.now) a.w.now a.c.negated a.c.chain a.next (open_of a.places.now a.frame) a.deep a.left c.requires.0
@@ -284,7 +298,6 @@ condition-returns t c = let a = c.args in let s = c.start_in-start in let t = c.
     condition_tested (given_of a.heads.now a.rows.now a.types a.book.now a.starts.now) a.w.now a.c.negated a.c.chain a.next (open_of a.places.now a.frame) a.deep a.left c.requires.0
     _ c.word.result s.result c.nodes_at-n.result c.pairs_of-pairs.ensures.0 c.word.ensures s.ensures.0 c.nodes_at-n.ensures c.if-frame-n-gt-MOST_LIVE.false
     t.new.w t.result t.ensures c.turned-v.result c.turned-v.ensures (taking_in a.places.now c.taking-2.result) (ap (taking_in a.places.now) c.taking-2.ensures)
-
 
 pub construct-returns-then-stop-ne0 : goal.construct-returns-then-stop-ne0
 construct-returns-then-stop-ne0 t c =
@@ -300,7 +313,6 @@ construct-constructed-more-requires t c = (omega (arith, (c.finish-b.ensures 0).
 pub construct-returns : goal.construct-returns
 construct-returns t c = let a = c.args in
     constructs_bound (given_of a.heads.now a.rows.now a.types a.book.now a.starts.now) a.w.now c.finish-b.new.w a.at a.next (open_of a.places.now a.frame) a.deep a.left c.requires.0 c.finish-b.result c.finish-b.ensures c.if-stop-ne0.false _ c.bind-bound.ensures _ (ap (open_of c.bind-bound.new.places) c.constructed-more.ensures) _ (ap (taking_in c.bind-bound.new.places) c.taking-2.ensures)
-
 
 pub fill-loop-i-init : goal.fill-loop-i-init
 fill-loop-i-init t c =
@@ -357,7 +369,6 @@ fill-returns t c =
     let l = c.loop-i in
     filling_end (given_of a.heads.now a.rows.now a.types a.book.now a.starts.now) a.w.now c.pairs_of-pairs.result.now (open_of a.places.now a.frame) a.deep a.left c.requires.0 l.w l.fuel l.n l.i l.invariant a.at c.pairs_of-pairs.ensures.0 c.loop-i-test.false c.building-2.result c.building-2.ensures
 
-
 pub fill_chain-returns-then-besides-m-gt-MOST_LIVE : goal.fill_chain-returns-then-besides-m-gt-MOST_LIVE
 fill_chain-returns-then-besides-m-gt-MOST_LIVE t c =
     let a = c.args in
@@ -379,7 +390,6 @@ fill_chain-returns t c =
     let q = c.requires in
     fills_added (given_of a.heads.now a.rows.now a.types a.book.now a.starts.now) a.w.now a.pairs.now a.i a.n (open_of a.places.now a.frame) a.deep a.left q.0 q.3 c.start_in-start.result c.nodes_at-m.result (c.start_in-start.ensures.0 ∙ ap (start_at (vars_of a.places.now a.frame.bound)) c.word.ensures) c.nodes_at-m.ensures c.if-besides-m-gt-MOST_LIVE.false c.push_tree.new.w c.chain-c.new.w c.push_tree.auto.w c.push_tree.ensures c.chain-c.result c.chain-c.ensures c.if-b-ne0.false c.over-stop.result c.over-stop.ensures c.building-r.result c.building-r.ensures
 
-
 pub finish-returns-then-b-ne0 : goal.finish-returns-then-b-ne0
 finish-returns-then-b-ne0 t c =
     let a = c.args in
@@ -395,7 +405,6 @@ pub finish-returns : goal.finish-returns
 finish-returns t c =
     let a = c.args in
     finishes_closed (given_of a.heads.now a.rows.now a.types a.book.now a.starts.now) a.w.now c.fill-b.new.w a.at (open_of a.places.now a.frame) a.deep a.left c.fill-b.result c.fill-b.ensures c.if-b-ne0.false c.close-stop.new.w c.close-stop.result c.close-stop.ensures c.building.result c.building.ensures
-
 
 pub matches-returns-then-live-gt-MOST_LIVE : goal.matches-returns-then-live-gt-MOST_LIVE
 matches-returns-then-live-gt-MOST_LIVE t c = let a = c.args in matches_over (given_of a.heads.now a.rows.now a.types a.book.now a.starts.now) a.w.now a.at a.start a.n (open_of a.places.now a.frame) a.deep a.left c.if-live-gt-MOST_LIVE.true
@@ -415,7 +424,6 @@ matches-returns-in-Nowhere t c = (let a = c.args in
 pub matches-returns-in-Stopped : goal.matches-returns-in-Stopped
 matches-returns-in-Stopped t c = (let a = c.args in
     matches_found (given_of a.heads.now a.rows.now a.types a.book.now a.starts.now) a.w.now a.at a.start a.n (open_of a.places.now a.frame) a.deep a.left c.if-live-gt-MOST_LIVE.false c.seek-s.new.w c.plan_of-plan.result _ c.plan_of-plan.ensures.1 c.seek-s.ensures _ (ap found_verdict c.in-Stopped.is))
-
 
 pub replace-returns-then-b-ne0 : goal.replace-returns-then-b-ne0
 replace-returns-then-b-ne0 t c =
@@ -438,7 +446,6 @@ replace-returns t c =
     let p = c.replace_tree-p in
     replaces_put (given_of a.heads.now a.rows.now a.types a.book.now a.starts.now) a.w.now f.new.w a.at a.base a.n a.i (open_of a.places.now a.frame) a.deep a.left f.result c.building-2.result
     c.requires.2 c.requires.4 f.ensures p.new.w p.result c.requires.3 c.if-b-ne0.false p.ensures c.building-2.ensures
-
 
 pub seek-nodes-init : goal.seek-nodes-init
 seek-nodes-init t c = ((c.requires.0.sound, kept_same (vars_of c.args.places.now c.args.frame.bound)), searching_start (given_of c.args.heads.now c.args.rows.now c.args.types c.args.book.now c.args.starts.now) c.args.w.now c.args.plan c.args.base c.args.n (open_of c.args.places.now c.args.frame) c.args.deep c.args.left c.args.from c.requires.0)
@@ -495,10 +502,13 @@ pub seek-nodes-preserved-in-Differs : goal.seek-nodes-preserved-in-Differs
 seek-nodes-preserved-in-Differs t c = let s = (searching_next (given_of c.args.heads.now c.args.rows.now c.args.types c.args.book.now c.args.starts.now) c.args.w.now c.args.plan c.args.base c.args.n (open_of c.args.places.now c.args.frame) c.args.deep c.args.left c.args.from c.requires.0 c.requires.5 _ c.pairs_of-pairs.ensures.0 c.nodes.w c.nodes.fuel c.nodes.i c.nodes.invariant.1 _ _ c.tried-last.ensures refl _ ((let h = tried_inside c.args.plan.strategy c.args.n c.nodes.i c.tried-last.result c.tried-last.ensures c.if-last-i.false in
     let below : c.args.base + (c.args.base + 2 * c.args.n - c.args.base) ≤ c.args.frame.top = omega (arith, h, c.requires.5 (omega (arith, h))) in
     let few : c.tried-last.result ≤ c.args.n = omega (arith, c.tried-last.ensures, tried_few c.args.plan.strategy c.args.n) in
-    next_in _ c.nodes.w _ c.args.plan.target c.args.base c.args.n c.args.frame.live (stretch_below c.nodes.w c.args.frame.top c.args.base (c.args.base + 2 * c.args.n - c.args.base) below) c.nodes.i c.tried-last.result c.nodes.fuel _ few c.next_candidate-next.ensures))) in let h = tried_inside c.args.plan.strategy c.args.n c.next_candidate-next.result.node c.tried-last.result c.tried-last.ensures c.if-last-i-2.false in let z : c.args.base + 2 * c.args.n - (c.args.base + 2 * c.next_candidate-next.result.node) ≡ 2 * (c.args.n - c.next_candidate-next.result.node) = omega (arith, h) in ((still_after c.nodes.invariant.0 (c.match_pattern-m.ensures true).sound (c.match_pattern-m.ensures true).kept), searching_differs (given_of c.args.heads.now c.args.rows.now c.args.types c.args.book.now c.args.starts.now) c.args.w.now c.args.plan c.args.base c.args.n (open_of c.args.places.now c.args.frame) c.args.deep c.args.left c.args.from c.requires.0 c.nodes.w c.next_candidate-next.result.left c.next_candidate-next.result.node s (subst (λ x. c.next_candidate-next.result.node < x) c.tried-last.ensures c.if-last-i-2.false) (((let h = tried_inside c.args.plan.strategy c.args.n c.nodes.i c.tried-last.result c.tried-last.ensures c.if-last-i.false in
-    let below : c.args.base + (c.args.base + 2 * c.args.n - c.args.base) ≤ c.args.frame.top = omega (arith, h, c.requires.5 (omega (arith, h))) in
-    let few : c.tried-last.result ≤ c.args.n = omega (arith, c.tried-last.ensures, tried_few c.args.plan.strategy c.args.n) in
-    next_in _ c.nodes.w _ c.args.plan.target c.args.base c.args.n c.args.frame.live (stretch_below c.nodes.w c.args.frame.top c.args.base (c.args.base + 2 * c.args.n - c.args.base) below) c.nodes.i c.tried-last.result c.nodes.fuel _ few c.next_candidate-next.ensures)).typed c.if-last-i-2.false) c.if-fuel-eq0.false (match_in c.match_pattern-m.new.places c.match_pattern-m.result) (take c.args.frame.top c.nodes.w) _ _ refl (ap (λ x. take x (drop (c.args.base + 2 * c.next_candidate-next.result.node) (take c.args.frame.top c.nodes.w))) z) c.pairs_of-pairs.ensures.0 (answers_kept (vars_of c.args.places.now c.args.frame.bound) (vars_of c.nodes.places c.args.frame.bound) refl c.nodes.invariant.0.1 (c.match_pattern-m.ensures true)) c.in-Differs.is)
+    next_in _ c.nodes.w _ c.args.plan.target c.args.base c.args.n c.args.frame.live (stretch_below c.nodes.w c.args.frame.top c.args.base (c.args.base + 2 * c.args.n - c.args.base) below) c.nodes.i c.tried-last.result c.nodes.fuel _ few c.next_candidate-next.ensures))) in let h = tried_inside c.args.plan.strategy c.args.n c.next_candidate-next.result.node c.tried-last.result c.tried-last.ensures c.if-last-i-2.false in let z : c.args.base + 2 * c.args.n - (c.args.base + 2 * c.next_candidate-next.result.node) ≡ 2 * (c.args.n - c.next_candidate-next.result.node) = omega (arith, h) in (
+      (still_after c.nodes.invariant.0 (c.match_pattern-m.ensures true).sound (c.match_pattern-m.ensures true).kept),
+      searching_differs (given_of c.args.heads.now c.args.rows.now c.args.types c.args.book.now c.args.starts.now) c.args.w.now c.args.plan c.args.base c.args.n (open_of c.args.places.now c.args.frame) c.args.deep c.args.left c.args.from c.requires.0 c.nodes.w c.next_candidate-next.result.left c.next_candidate-next.result.node s (subst (λ x. c.next_candidate-next.result.node < x) c.tried-last.ensures c.if-last-i-2.false) (((let h = tried_inside c.args.plan.strategy c.args.n c.nodes.i c.tried-last.result c.tried-last.ensures c.if-last-i.false in
+          let below : c.args.base + (c.args.base + 2 * c.args.n - c.args.base) ≤ c.args.frame.top = omega (arith, h, c.requires.5 (omega (arith, h))) in
+          let few : c.tried-last.result ≤ c.args.n = omega (arith, c.tried-last.ensures, tried_few c.args.plan.strategy c.args.n) in
+          next_in _ c.nodes.w _ c.args.plan.target c.args.base c.args.n c.args.frame.live (stretch_below c.nodes.w c.args.frame.top c.args.base (c.args.base + 2 * c.args.n - c.args.base) below) c.nodes.i c.tried-last.result c.nodes.fuel _ few c.next_candidate-next.ensures)).typed c.if-last-i-2.false) c.if-fuel-eq0.false (match_in c.match_pattern-m.new.places c.match_pattern-m.result) (take c.args.frame.top c.nodes.w) _ _ refl (ap (λ x. take x (drop (c.args.base + 2 * c.next_candidate-next.result.node) (take c.args.frame.top c.nodes.w))) z) c.pairs_of-pairs.ensures.0 (answers_kept (vars_of c.args.places.now c.args.frame.bound) (vars_of c.nodes.places c.args.frame.bound) refl c.nodes.invariant.0.1 (c.match_pattern-m.ensures true)) c.in-Differs.is,
+    )
 
 pub seek-loop-k-init : goal.seek-loop-k-init
 seek-loop-k-init t c = let s = (searching_next (given_of c.args.heads.now c.args.rows.now c.args.types c.args.book.now c.args.starts.now) c.args.w.now c.args.plan c.args.base c.args.n (open_of c.args.places.now c.args.frame) c.args.deep c.args.left c.args.from c.requires.0 c.requires.5 _ c.pairs_of-pairs.ensures.0 c.nodes.w c.nodes.fuel c.nodes.i c.nodes.invariant.1 _ _ c.tried-last.ensures refl _ ((let h = tried_inside c.args.plan.strategy c.args.n c.nodes.i c.tried-last.result c.tried-last.ensures c.if-last-i.false in
@@ -522,13 +532,16 @@ pub seek-nodes-preserved : goal.seek-nodes-preserved
 seek-nodes-preserved t c = let s = (searching_next (given_of c.args.heads.now c.args.rows.now c.args.types c.args.book.now c.args.starts.now) c.args.w.now c.args.plan c.args.base c.args.n (open_of c.args.places.now c.args.frame) c.args.deep c.args.left c.args.from c.requires.0 c.requires.5 _ c.pairs_of-pairs.ensures.0 c.nodes.w c.nodes.fuel c.nodes.i c.nodes.invariant.1 _ _ c.tried-last.ensures refl _ ((let h = tried_inside c.args.plan.strategy c.args.n c.nodes.i c.tried-last.result c.tried-last.ensures c.if-last-i.false in
     let below : c.args.base + (c.args.base + 2 * c.args.n - c.args.base) ≤ c.args.frame.top = omega (arith, h, c.requires.5 (omega (arith, h))) in
     let few : c.tried-last.result ≤ c.args.n = omega (arith, c.tried-last.ensures, tried_few c.args.plan.strategy c.args.n) in
-    next_in _ c.nodes.w _ c.args.plan.target c.args.base c.args.n c.args.frame.live (stretch_below c.nodes.w c.args.frame.top c.args.base (c.args.base + 2 * c.args.n - c.args.base) below) c.nodes.i c.tried-last.result c.nodes.fuel _ few c.next_candidate-next.ensures))) in let h = tried_inside c.args.plan.strategy c.args.n c.next_candidate-next.result.node c.tried-last.result c.tried-last.ensures c.if-last-i-2.false in let z : c.args.base + 2 * c.args.n - (c.args.base + 2 * c.next_candidate-next.result.node) ≡ 2 * (c.args.n - c.next_candidate-next.result.node) = omega (arith, h) in (((let g = c.step-t.ensures.takes.grown in still_after c.nodes.invariant.0 g.sound (kept_more (kept_more (c.match_pattern-m.ensures true).kept ((subst (λ x. Parting (given_of c.args.heads.now c.args.rows.now c.args.types c.args.book.now c.args.starts.now) c.args.deep c.nodes.w (spent c.next_candidate-next.result.left) (open_of c.match_pattern-m.new.places x) c.args.plan.first c.args.plan.count c.loop-k.w c.loop-k.fuel (open_of c.loop-k.places c.loop-k.now) c.loop-k.at c.loop-k.k) c.after_match-now.ensures c.loop-k.invariant.1)).grown.kept) g.kept))), rw c.loop-k.invariant.0 (trying_differs (given_of c.args.heads.now c.args.rows.now c.args.types c.args.book.now c.args.starts.now) c.args.w.now c.args.plan c.args.base c.args.n (open_of c.args.places.now c.args.frame) c.args.deep c.args.left c.args.from c.requires.0 c.nodes.w c.next_candidate-next.result.left c.next_candidate-next.result.node s (subst (λ x. c.next_candidate-next.result.node < x) c.tried-last.ensures c.if-last-i-2.false) (((let h = tried_inside c.args.plan.strategy c.args.n c.nodes.i c.tried-last.result c.tried-last.ensures c.if-last-i.false in
-    let below : c.args.base + (c.args.base + 2 * c.args.n - c.args.base) ≤ c.args.frame.top = omega (arith, h, c.requires.5 (omega (arith, h))) in
-    let few : c.tried-last.result ≤ c.args.n = omega (arith, c.tried-last.ensures, tried_few c.args.plan.strategy c.args.n) in
-    next_in _ c.nodes.w _ c.args.plan.target c.args.base c.args.n c.args.frame.live (stretch_below c.nodes.w c.args.frame.top c.args.base (c.args.base + 2 * c.args.n - c.args.base) below) c.nodes.i c.tried-last.result c.nodes.fuel _ few c.next_candidate-next.ensures)).typed c.if-last-i-2.false) c.if-fuel-eq0.false (match_in c.match_pattern-m.new.places c.match_pattern-m.result) (take c.args.frame.top c.nodes.w) _ _ refl (ap (λ x. take x (drop (c.args.base + 2 * c.next_candidate-next.result.node) (take c.args.frame.top c.nodes.w))) z) c.pairs_of-pairs.ensures.0 (answers_kept (vars_of c.args.places.now c.args.frame.bound) (vars_of c.nodes.places c.args.frame.bound) refl c.nodes.invariant.0.1 (c.match_pattern-m.ensures true)) c.loop-k.w c.loop-k.fuel (open_of c.loop-k.places c.loop-k.now) c.loop-k.at c.loop-k.k (trying_run (given_of c.args.heads.now c.args.rows.now c.args.types c.args.book.now c.args.starts.now) c.args.w.now c.args.plan c.args.base c.args.n (open_of c.args.places.now c.args.frame) c.args.deep c.args.left c.args.from c.requires.0 c.nodes.w c.next_candidate-next.result.left c.next_candidate-next.result.node s (subst (λ x. c.next_candidate-next.result.node < x) c.tried-last.ensures c.if-last-i-2.false) (((let h = tried_inside c.args.plan.strategy c.args.n c.nodes.i c.tried-last.result c.tried-last.ensures c.if-last-i.false in
-    let below : c.args.base + (c.args.base + 2 * c.args.n - c.args.base) ≤ c.args.frame.top = omega (arith, h, c.requires.5 (omega (arith, h))) in
-    let few : c.tried-last.result ≤ c.args.n = omega (arith, c.tried-last.ensures, tried_few c.args.plan.strategy c.args.n) in
-    next_in _ c.nodes.w _ c.args.plan.target c.args.base c.args.n c.args.frame.live (stretch_below c.nodes.w c.args.frame.top c.args.base (c.args.base + 2 * c.args.n - c.args.base) below) c.nodes.i c.tried-last.result c.nodes.fuel _ few c.next_candidate-next.ensures)).typed c.if-last-i-2.false) c.if-fuel-eq0.false (match_in c.match_pattern-m.new.places c.match_pattern-m.result) (take c.args.frame.top c.nodes.w) _ _ refl (ap (λ x. take x (drop (c.args.base + 2 * c.next_candidate-next.result.node) (take c.args.frame.top c.nodes.w))) z) c.pairs_of-pairs.ensures.0 (answers_kept (vars_of c.args.places.now c.args.frame.bound) (vars_of c.nodes.places c.args.frame.bound) refl c.nodes.invariant.0.1 (c.match_pattern-m.ensures true)) c.in-Matches.is c.requires.2 c.loop-k.w c.loop-k.fuel (open_of c.loop-k.places c.loop-k.now) c.loop-k.at c.loop-k.k ((subst (λ x. Parting (given_of c.args.heads.now c.args.rows.now c.args.types c.args.book.now c.args.starts.now) c.args.deep c.nodes.w (spent c.next_candidate-next.result.left) (open_of c.match_pattern-m.new.places x) c.args.plan.first c.args.plan.count c.loop-k.w c.loop-k.fuel (open_of c.loop-k.places c.loop-k.now) c.loop-k.at c.loop-k.k) c.after_match-now.ensures c.loop-k.invariant.1))) (omega (arith, c.if-k-eq0.false)) _ _ c.step-t.ensures c.in-Differs-verdict.is))
+    next_in _ c.nodes.w _ c.args.plan.target c.args.base c.args.n c.args.frame.live (stretch_below c.nodes.w c.args.frame.top c.args.base (c.args.base + 2 * c.args.n - c.args.base) below) c.nodes.i c.tried-last.result c.nodes.fuel _ few c.next_candidate-next.ensures))) in let h = tried_inside c.args.plan.strategy c.args.n c.next_candidate-next.result.node c.tried-last.result c.tried-last.ensures c.if-last-i-2.false in let z : c.args.base + 2 * c.args.n - (c.args.base + 2 * c.next_candidate-next.result.node) ≡ 2 * (c.args.n - c.next_candidate-next.result.node) = omega (arith, h) in (
+      ((let g = c.step-t.ensures.takes.grown in still_after c.nodes.invariant.0 g.sound (kept_more (kept_more (c.match_pattern-m.ensures true).kept ((subst (λ x. Parting (given_of c.args.heads.now c.args.rows.now c.args.types c.args.book.now c.args.starts.now) c.args.deep c.nodes.w (spent c.next_candidate-next.result.left) (open_of c.match_pattern-m.new.places x) c.args.plan.first c.args.plan.count c.loop-k.w c.loop-k.fuel (open_of c.loop-k.places c.loop-k.now) c.loop-k.at c.loop-k.k) c.after_match-now.ensures c.loop-k.invariant.1)).grown.kept) g.kept))),
+      rw c.loop-k.invariant.0 (trying_differs (given_of c.args.heads.now c.args.rows.now c.args.types c.args.book.now c.args.starts.now) c.args.w.now c.args.plan c.args.base c.args.n (open_of c.args.places.now c.args.frame) c.args.deep c.args.left c.args.from c.requires.0 c.nodes.w c.next_candidate-next.result.left c.next_candidate-next.result.node s (subst (λ x. c.next_candidate-next.result.node < x) c.tried-last.ensures c.if-last-i-2.false) (((let h = tried_inside c.args.plan.strategy c.args.n c.nodes.i c.tried-last.result c.tried-last.ensures c.if-last-i.false in
+          let below : c.args.base + (c.args.base + 2 * c.args.n - c.args.base) ≤ c.args.frame.top = omega (arith, h, c.requires.5 (omega (arith, h))) in
+          let few : c.tried-last.result ≤ c.args.n = omega (arith, c.tried-last.ensures, tried_few c.args.plan.strategy c.args.n) in
+          next_in _ c.nodes.w _ c.args.plan.target c.args.base c.args.n c.args.frame.live (stretch_below c.nodes.w c.args.frame.top c.args.base (c.args.base + 2 * c.args.n - c.args.base) below) c.nodes.i c.tried-last.result c.nodes.fuel _ few c.next_candidate-next.ensures)).typed c.if-last-i-2.false) c.if-fuel-eq0.false (match_in c.match_pattern-m.new.places c.match_pattern-m.result) (take c.args.frame.top c.nodes.w) _ _ refl (ap (λ x. take x (drop (c.args.base + 2 * c.next_candidate-next.result.node) (take c.args.frame.top c.nodes.w))) z) c.pairs_of-pairs.ensures.0 (answers_kept (vars_of c.args.places.now c.args.frame.bound) (vars_of c.nodes.places c.args.frame.bound) refl c.nodes.invariant.0.1 (c.match_pattern-m.ensures true)) c.loop-k.w c.loop-k.fuel (open_of c.loop-k.places c.loop-k.now) c.loop-k.at c.loop-k.k (trying_run (given_of c.args.heads.now c.args.rows.now c.args.types c.args.book.now c.args.starts.now) c.args.w.now c.args.plan c.args.base c.args.n (open_of c.args.places.now c.args.frame) c.args.deep c.args.left c.args.from c.requires.0 c.nodes.w c.next_candidate-next.result.left c.next_candidate-next.result.node s (subst (λ x. c.next_candidate-next.result.node < x) c.tried-last.ensures c.if-last-i-2.false) (((let h = tried_inside c.args.plan.strategy c.args.n c.nodes.i c.tried-last.result c.tried-last.ensures c.if-last-i.false in
+          let below : c.args.base + (c.args.base + 2 * c.args.n - c.args.base) ≤ c.args.frame.top = omega (arith, h, c.requires.5 (omega (arith, h))) in
+          let few : c.tried-last.result ≤ c.args.n = omega (arith, c.tried-last.ensures, tried_few c.args.plan.strategy c.args.n) in
+          next_in _ c.nodes.w _ c.args.plan.target c.args.base c.args.n c.args.frame.live (stretch_below c.nodes.w c.args.frame.top c.args.base (c.args.base + 2 * c.args.n - c.args.base) below) c.nodes.i c.tried-last.result c.nodes.fuel _ few c.next_candidate-next.ensures)).typed c.if-last-i-2.false) c.if-fuel-eq0.false (match_in c.match_pattern-m.new.places c.match_pattern-m.result) (take c.args.frame.top c.nodes.w) _ _ refl (ap (λ x. take x (drop (c.args.base + 2 * c.next_candidate-next.result.node) (take c.args.frame.top c.nodes.w))) z) c.pairs_of-pairs.ensures.0 (answers_kept (vars_of c.args.places.now c.args.frame.bound) (vars_of c.nodes.places c.args.frame.bound) refl c.nodes.invariant.0.1 (c.match_pattern-m.ensures true)) c.in-Matches.is c.requires.2 c.loop-k.w c.loop-k.fuel (open_of c.loop-k.places c.loop-k.now) c.loop-k.at c.loop-k.k ((subst (λ x. Parting (given_of c.args.heads.now c.args.rows.now c.args.types c.args.book.now c.args.starts.now) c.args.deep c.nodes.w (spent c.next_candidate-next.result.left) (open_of c.match_pattern-m.new.places x) c.args.plan.first c.args.plan.count c.loop-k.w c.loop-k.fuel (open_of c.loop-k.places c.loop-k.now) c.loop-k.at c.loop-k.k) c.after_match-now.ensures c.loop-k.invariant.1))) (omega (arith, c.if-k-eq0.false)) _ _ c.step-t.ensures c.in-Differs-verdict.is),
+    )
 
 pub seek-loop-k-smaller : goal.seek-loop-k-smaller
 seek-loop-k-smaller t c = omega (arith, c.if-k-eq0.false)
@@ -605,7 +618,6 @@ seek-returns-in-Stops-verdict t c = let s = (searching_next (given_of c.args.hea
     let few : c.tried-last.result ≤ c.args.n = omega (arith, c.tried-last.ensures, tried_few c.args.plan.strategy c.args.n) in
     next_in _ c.nodes.w _ c.args.plan.target c.args.base c.args.n c.args.frame.live (stretch_below c.nodes.w c.args.frame.top c.args.base (c.args.base + 2 * c.args.n - c.args.base) below) c.nodes.i c.tried-last.result c.nodes.fuel _ few c.next_candidate-next.ensures)).typed c.if-last-i-2.false) c.if-fuel-eq0.false (match_in c.match_pattern-m.new.places c.match_pattern-m.result) (take c.args.frame.top c.nodes.w) _ _ refl (ap (λ x. take x (drop (c.args.base + 2 * c.next_candidate-next.result.node) (take c.args.frame.top c.nodes.w))) z) c.pairs_of-pairs.ensures.0 (answers_kept (vars_of c.args.places.now c.args.frame.bound) (vars_of c.nodes.places c.args.frame.bound) refl c.nodes.invariant.0.1 (c.match_pattern-m.ensures true)) c.in-Matches.is c.requires.2 c.loop-k.w c.loop-k.fuel (open_of c.loop-k.places c.loop-k.now) c.loop-k.at c.loop-k.k ((subst (λ x. Parting (given_of c.args.heads.now c.args.rows.now c.args.types c.args.book.now c.args.starts.now) c.args.deep c.nodes.w (spent c.next_candidate-next.result.left) (open_of c.match_pattern-m.new.places x) c.args.plan.first c.args.plan.count c.loop-k.w c.loop-k.fuel (open_of c.loop-k.places c.loop-k.now) c.loop-k.at c.loop-k.k) c.after_match-now.ensures c.loop-k.invariant.1))) (omega (arith, c.if-k-eq0.false)) _ _ c.step-t.ensures c.in-Stops-verdict.is (open_of c.step-t.new.places c.args.frame) (grown_still c.requires.0 (vars_of c.step-t.new.places c.args.frame.bound) ((let g = c.step-t.ensures.takes.grown in still_after c.nodes.invariant.0 g.sound (kept_more (kept_more (c.match_pattern-m.ensures true).kept ((subst (λ x. Parting (given_of c.args.heads.now c.args.rows.now c.args.types c.args.book.now c.args.starts.now) c.args.deep c.nodes.w (spent c.next_candidate-next.result.left) (open_of c.match_pattern-m.new.places x) c.args.plan.first c.args.plan.count c.loop-k.w c.loop-k.fuel (open_of c.loop-k.places c.loop-k.now) c.loop-k.at c.loop-k.k) c.after_match-now.ensures c.loop-k.invariant.1)).grown.kept) g.kept))).0 ((let g = c.step-t.ensures.takes.grown in still_after c.nodes.invariant.0 g.sound (kept_more (kept_more (c.match_pattern-m.ensures true).kept ((subst (λ x. Parting (given_of c.args.heads.now c.args.rows.now c.args.types c.args.book.now c.args.starts.now) c.args.deep c.nodes.w (spent c.next_candidate-next.result.left) (open_of c.match_pattern-m.new.places x) c.args.plan.first c.args.plan.count c.loop-k.w c.loop-k.fuel (open_of c.loop-k.places c.loop-k.now) c.loop-k.at c.loop-k.k) c.after_match-now.ensures c.loop-k.invariant.1)).grown.kept) g.kept))).1))
 
-
 pub step-returns-in-Deconstruct : goal.step-returns-in-Deconstruct
 step-returns-in-Deconstruct t c = let a = c.args in
     step_deconstruct (given_of a.heads.now a.rows.now a.types a.book.now a.starts.now) a.w.now a.at (open_of a.places.now a.frame) a.deep a.left a.w.now _ _ c.part_of-f.ensures _ c.in-Deconstruct.is c.deconstruct.ensures refl
@@ -617,7 +629,6 @@ step-returns-in-Construct t c = let a = c.args in
 pub step-returns-in-Condition : goal.step-returns-in-Condition
 step-returns-in-Condition t c = let a = c.args in
     step_condition (given_of a.heads.now a.rows.now a.types a.book.now a.starts.now) a.w.now a.at (open_of a.places.now a.frame) a.deep a.left _ _ _ c.part_of-f.ensures _ c.in-Condition.is c.condition.ensures
-
 
 pub succeeds-returns-then-deep-eq0 : goal.succeeds-returns-then-deep-eq0
 succeeds-returns-then-deep-eq0 t c = let a = c.args in
@@ -648,4 +659,3 @@ succeeds-returns t c = let a = c.args in
     succeeds_holds (given_of a.heads.now a.rows.now a.types a.book.now a.starts.now) a.w.now a.pairs.now a.at a.start a.n (open_of a.places.now a.frame) a.deep a.left
     c.word-a.result (get_or a.pairs.now (a.at + 1) 0) c.word-a.ensures refl c.if-a-lt-FIRST_OPERATION.false c.requires.0.sound c.value_of-b.result c.word.result c.value_of-b.ensures c.word.ensures
     c.holds.result c.holds.ensures _ (ap test_verdict c.if-holds.false)
-

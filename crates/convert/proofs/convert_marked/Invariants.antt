@@ -1,5 +1,4 @@
 -- `convert::convert_marked` meets its contract. Assumes nothing.
-use Prim.Native.Nat.{◌-◌}
 use Rattle.convert.proofs.Writing.{WriteLoop}
 use Rattle.convert.proofs.convert_marked.Given as goal
 

@@ -1,4 +1,3 @@
-use Prim.Native.Nat.{◌-◌}
 use Rattle.dues.proofs.Tokens.{pass_none, pass_start, pass_more, pass_end}
 use Rattle.dues.specs.Views.{place_as}
 use Rattle.dues.proofs.pass_tokens.Goals as goal

@@ -1,4 +1,3 @@
-use mathlib.Core.Bool.{true}
 use mathlib.Core.Path.{refl}
 use Rattle.grammar.proofs.Laws.{elements_end, elements_fault, elements_more}
 use Rattle.grammar.proofs.elements.Goals as goal

@@ -1,6 +1,5 @@
 use Rattle.grammar.proofs.Laws.{flags_next, flags_none, flags_settled}
 use mathlib.Core.Path.{refl, ap, ◌∙◌}
-use Prim.Native.Nat.{◌-◌}
 use native.Mathlib.Omega.{arith}
 use Rattle.words.specs.Reader.{many}
 use Rattle.grammar.specs.Grammar.{kind}

@@ -1,6 +1,4 @@
-use borrow.Author.Tests.{not-true, not-false}
 use native.Mathlib.Omega.{arith}
-use Prim.Native.Nat.{◌-◌}
 use mathlib.Core.Path.{refl}
 use Rattle.grammar.proofs.Laws.{records_end, records_false, records_fault, records_more}
 use Rattle.grammar.proofs.finite_records.Goals as goal

@@ -1,4 +1,3 @@
-use mathlib.Core.Bool.{false}
 use mathlib.Core.Path.{refl}
 use Rattle.grammar.proofs.Laws.{forms_end, forms_fault, forms_more}
 use Rattle.grammar.proofs.forms.Goals as goal

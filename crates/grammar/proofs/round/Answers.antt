@@ -1,6 +1,5 @@
 use Rattle.grammar.proofs.Laws.{round_end, round_fault, round_more}
 use native.Mathlib.Omega.{arith}
-use mathlib.Core.Bool.{false}
 use mathlib.Core.Path.{refl}
 use Rattle.grammar.proofs.round.Goals as goal
 

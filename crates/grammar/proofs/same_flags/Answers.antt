@@ -1,7 +1,6 @@
 use Rattle.grammar.proofs.Laws.{same_more, same_whole}
-use borrow.Author.Tests.{not-false}
 use native.Mathlib.Omega.{arith}
-use Prim.Native.Nat.{ℕ, ◌-◌}
+use Prim.Native.Nat.{ℕ}
 use mathlib.Core.Path.{◌≡◌, refl}
 use Rattle.grammar.proofs.same_flags.Goals as goal
 

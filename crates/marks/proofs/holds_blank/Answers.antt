@@ -1,6 +1,5 @@
 use Rattle.marks.proofs.Blanks.{blank_start, pair_inside, blank_short, blank_end, blank_other, blank_filled, blank_found}
 use native.Mathlib.Omega.{arith}
-use Prim.Native.Nat.{◌-◌}
 use Rattle.marks.proofs.holds_blank.Goals as goal
 
 pub returns-then-part-end : goal.returns-then-part-end

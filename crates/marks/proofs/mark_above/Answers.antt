@@ -3,7 +3,6 @@ use Rattle.marks.proofs.Spans.{mark_start, mark_more}
 use Rattle.marks.specs.Post.{Kept}
 use native.Mathlib.Omega.{arith}
 use mathlib.Core.Path.{refl}
-use Prim.Native.Nat.{◌-◌}
 use Rattle.marks.proofs.mark_above.Goals as goal
 
 pub loop-p-init : goal.loop-p-init

@@ -1,6 +1,5 @@
 use Rattle.marks.proofs.Marking.{marking_start, marking_more, marking_end}
 use native.Mathlib.Omega.{arith}
-use Prim.Native.Nat.{◌-◌}
 use Rattle.marks.proofs.mark_of.Goals as goal
 
 pub loop-i-init : goal.loop-i-init

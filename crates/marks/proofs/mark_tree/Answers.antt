@@ -2,7 +2,6 @@ use Rattle.marks.proofs.Spans.{mark_start, mark_more}
 use Rattle.marks.proofs.Laying.{tree_skip, tree_end}
 use Rattle.marks.specs.Post.{span}
 use Rattle.marks.specs.Marked.{UnderWay}
-use Prim.Native.Nat.{◌-◌}
 use native.Mathlib.Omega.{arith}
 use mathlib.Core.Path.{refl, ◌∙◌}
 use Rattle.marks.proofs.mark_tree.Goals as goal

@@ -1,5 +1,4 @@
 use mathlib.Core.Path.{refl}
-use Prim.Native.Nat.{◌-◌}
 use native.Mathlib.Omega.{arith}
 use Rattle.marks.proofs.Descent.{descent_start, descent_none, descent_over, descent_into, descent_end}
 use Rattle.marks.proofs.nesting_at.Goals as goal

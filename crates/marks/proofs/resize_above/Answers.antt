@@ -1,6 +1,5 @@
 use Rattle.marks.proofs.Resizing.{resize_start, resize_none, resize_over, resize_into, resize_end}
 use native.Mathlib.Omega.{arith}
-use Prim.Native.Nat.{◌-◌}
 use Rattle.marks.proofs.resize_above.Goals as goal
 
 pub loop-p-init : goal.loop-p-init

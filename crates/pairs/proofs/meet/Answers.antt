@@ -1,5 +1,4 @@
 -- `pairs::meet` meets its contract. Assumes nothing.
-use borrow.Author.Rules.{rules}
 use lib.ListN.{take}
 use Rattle.pairs.proofs.Book.{due_tree}
 use Rattle.dues.specs.Views.{place_as}

@@ -1,5 +1,4 @@
 -- `pairs::meet_application` meets its contract. Assumes nothing.
-use borrow.Author.Rules.{rules}
 use Rattle.pairs.proofs.Book.{rule_head, rule_there, rule_not_there, application_unusable, application_rule, application_operation}
 use Rattle.dues.specs.Views.{place_as}
 use Rattle.pairs.proofs.meet_application.Goals as goal

@@ -1,5 +1,4 @@
 -- `pairs::meet_link` meets its contract. Assumes nothing.
-use borrow.Author.Rules.{rules}
 use lib.ListN.{take}
 use Rattle.pairs.proofs.Book.{due_chain, due_count, due_application, due_argument}
 use Rattle.dues.specs.Views.{place_as}

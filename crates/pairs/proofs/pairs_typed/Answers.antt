@@ -1,21 +1,11 @@
-use Prim.Native.Nat.{ℕ, ◌-◌}
 use borrow.Author.Rules.{rules}
 use lib.ListN.{take}
-use mathlib.Core.List.{[], ◌∷◌}
-use mathlib.Core.Path.{◌≡◌, refl}
+use mathlib.Core.Path.{refl}
 use native.Mathlib.Omega.{arith}
-use Rattle.grammar.specs.Grammar.{Grammar}
-use Rattle.tables.specs.Tables.{Tables}
-use Rattle.words.specs.Reader.{Words}
-use Rattle.rules.specs.Rules.{Rules}
 use Rattle.judgement.specs.Typing.{meets}
-use Rattle.tree.specs.Dues.{whole}
 use Rattle.judgement.proofs.Accept.{meets_steady}
-use Rattle.pairs.proofs.Loop.{rest, rest_all, loop_passed, loop_short, loop_fault, loop_next, loop_new, loop_over, loop_whole}
-use Rattle.dues.specs.declared.Ctx.{Ctx}
-use Rattle.dues.specs.declared.Place.{Place}
-use Rattle.dues.specs.Views.{place_as, context_of, due_of, stack_of}
-use Rattle.pairs.specs.Views.{Book}
+use Rattle.pairs.proofs.Loop.{rest_all, loop_passed, loop_short, loop_fault, loop_next, loop_new, loop_over, loop_whole}
+use Rattle.dues.specs.Views.{place_as, context_of}
 use Rattle.pairs.proofs.pairs_typed.Goals as goal
 
 pub push-requires : goal.push-requires

@@ -1,5 +1,4 @@
 -- `pairs::stretch_typed` meets its contract. Assumes nothing.
-use borrow.Author.Rules.{rules}
 use mathlib.Core.Path.{◌∙◌}
 use native.Mathlib.Omega.{arith}
 use Rattle.pairs.proofs.Stretch.{stretch_inside}

@@ -1,5 +1,4 @@
 -- `pairs::usable` meets its contract. Assumes nothing.
-use borrow.Author.Rules.{rules}
 use Rattle.pairs.proofs.Book.{usable_rule, rule_head, usable_other, usable_operation}
 use Rattle.dues.specs.Views.{place_as}
 use Rattle.pairs.proofs.usable.Goals as goal

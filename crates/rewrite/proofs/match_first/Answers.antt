@@ -5,7 +5,6 @@ use Rattle.rewrite.proofs.Matcher.{answers_kept, kept_same, kept_more, kept_back
 use Rattle.rewrite.proofs.Finding.{finding_start, finding_none, finding_other, finding_matches, finding_stops, finding_differs}
 use Rattle.words.proofs.Stretches.{part_rest}
 use native.Mathlib.Omega.{arith}
-use Prim.Native.Nat.{◌-◌}
 use mathlib.Core.Path.{refl, sym, ap, ◌∙◌}
 use Rattle.rewrite.proofs.match_first.Goals as goal
 

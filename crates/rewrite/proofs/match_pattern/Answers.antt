@@ -1,7 +1,6 @@
 use Rattle.rewrite.specs.Vars.{vars_of}
 use Rattle.rewrite.proofs.Matcher.{going_start, going_end, pair_failed, pair_bound, pair_on}
 use mathlib.Core.Path.{refl}
-use Prim.Native.Nat.{◌-◌}
 use native.Mathlib.Omega.{arith}
 use Rattle.rewrite.proofs.match_pattern.Goals as goal
 

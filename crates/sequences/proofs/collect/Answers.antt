@@ -1,5 +1,4 @@
 use Rattle.sequences.proofs.Collecting.{collecting_start, collecting_end, collecting_other, collecting_none, collecting_past, collecting_over, collecting_more}
-use Prim.Native.Nat.{◌-◌}
 use native.Mathlib.Omega.{arith}
 use mathlib.Core.Path.{refl}
 use borrow.Author.Rules.{rules}

@@ -1,4 +1,3 @@
-use Prim.Native.Nat.{◌-◌}
 use native.Mathlib.Omega.{arith}
 use Rattle.sequences.proofs.Loosening.{loosening_start, loosening_more, loosening_end}
 use Rattle.sequences.proofs.loosen.Goals as goal

@@ -1,4 +1,3 @@
-use Prim.Native.Nat.{◌-◌}
 use mathlib.Core.Path.{refl, ap, ◌∙◌}
 use Rattle.marks.specs.Marked.{size_in}
 use Rattle.sequences.proofs.Walking.{walking_start, walking_done, walking_last, walking_past, walking_more}

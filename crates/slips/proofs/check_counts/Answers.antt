@@ -1,4 +1,3 @@
-use Prim.Native.Nat.{◌-◌}
 use Rattle.slips.proofs.Counts.{count_wrong, count_more, count_end}
 use Rattle.slips.proofs.check_counts.Goals as goal
 

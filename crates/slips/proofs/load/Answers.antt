@@ -1,4 +1,3 @@
-use Prim.Native.Nat.{◌-◌}
 use native.Mathlib.Omega.{arith}
 use Rattle.slips.proofs.Loading.{load_more, load_end}
 use Rattle.slips.proofs.load.Goals as goal

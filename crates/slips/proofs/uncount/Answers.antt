@@ -1,5 +1,5 @@
 use lib.ListN.{get_or, length-set}
-use Prim.Native.Nat.{◌-◌, ◌*◌}
+use Prim.Native.Nat.{◌*◌}
 use native.Mathlib.Omega.{arith}
 use Rattle.slips.proofs.Copying.{uncount_more, uncount_end}
 use Rattle.slips.proofs.uncount.Goals as goal

@@ -1,5 +1,5 @@
 use lib.ListN.{get_or, set, length-set}
-use Prim.Native.Nat.{◌+◌, ◌-◌, ◌*◌}
+use Prim.Native.Nat.{◌+◌, ◌*◌}
 use native.Mathlib.Omega.{arith}
 use Rattle.slips.proofs.Copying.{write_more, write_end}
 use Rattle.slips.proofs.write_slip.Goals as goal

@@ -3,7 +3,6 @@ use mathlib.Core.Path.{refl}
 use Rattle.tamarind.specs.Run.{inputs_of}
 use Rattle.tamarind.proofs.Executing.{tree_small, work_long, types_some, starts_fit, part_long, part_fits, executed}
 use native.Mathlib.Omega.{arith}
-use borrow.Author.Rules.{rules}
 use Rattle.tamarind.proofs.execute.Goals as goal
 
 pub rule_starts-starts-requires : goal.rule_starts-starts-requires

@@ -1,5 +1,4 @@
 -- `tamarind::read_inputs` meets its contract. Assumes nothing.
-use borrow.Author.Rules.{rules}
 use mathlib.Core.Path.{◌∙◌, sym}
 use native.Mathlib.Omega.{arith}
 use Rattle.tamarind.proofs.Inputs.{grammar_refused, grammar_read, rules_refused, slip_read}

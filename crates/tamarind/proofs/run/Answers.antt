@@ -1,5 +1,4 @@
 -- `tamarind::run` meets its contract. Assumes nothing.
-use borrow.Author.Rules.{rules}
 use mathlib.Core.Path.{refl, sym}
 use native.Mathlib.Omega.{arith}
 use Rattle.tamarind.proofs.Inputs.{call_refused, call_room, inputs_refused, inputs_accepted}

@@ -1,5 +1,4 @@
 -- `tamarind::tamarind_check_rules` meets its contract. Assumes nothing.
-use borrow.Author.Rules.{rules}
 use Rattle.judgement.specs.Typing.{check_rules}
 use Rattle.tamarind.proofs.Laws.{export_check}
 use Rattle.tamarind.proofs.tamarind_check_rules.Goals as goal

@@ -1,5 +1,4 @@
 -- `tamarind::tamarind_run` meets its contract. Assumes nothing.
-use borrow.Author.Rules.{rules}
 use Rattle.tamarind.proofs.Laws.{run_exported}
 use Rattle.tamarind.specs.Run.{inputs_of, memories}
 use Rattle.tamarind.proofs.tamarind_run.Goals as goal

@@ -7,7 +7,7 @@ use Rattle.words.proofs.Stretches.{part_rest}
 use native.Mathlib.Omega.{arith}
 use mathlib.Core.List.{[], ◌∷◌}
 use mathlib.Core.Path.{refl, sym, ◌∙◌}
-use Prim.Native.Nat.{◌+◌, ◌-◌}
+use Prim.Native.Nat.{◌+◌}
 use Rattle.tree.proofs.+children_node_sequence.Goals as goal
 
 pub children-loop-i-init : goal.children-loop-i-init

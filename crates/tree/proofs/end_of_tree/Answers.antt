@@ -1,6 +1,5 @@
 use Rattle.tree.proofs.Ends.{owed_start, owed_more, owed_short, owed_none}
 use native.Mathlib.Omega.{arith}
-use Prim.Native.Nat.{◌-◌}
 use Rattle.tree.proofs.end_of_tree.Goals as goal
 
 pub loop-owed-init : goal.loop-owed-init

@@ -1,5 +1,4 @@
 -- `typing::construct_typed` meets its contract. Assumes nothing.
-use borrow.Author.Rules.{rules}
 use lib.ListN.{length}
 use mathlib.Core.Path.{◌≡◌}
 use Rattle.typing.proofs.Whole.{construct_full, construct_refused, construct_there}

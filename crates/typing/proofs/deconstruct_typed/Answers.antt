@@ -1,5 +1,4 @@
 -- `typing::deconstruct_typed` meets its contract. Assumes nothing.
-use borrow.Author.Rules.{rules}
 use lib.ListN.{length}
 use mathlib.Core.Path.{◌≡◌}
 use Rattle.typing.proofs.Whole.{deconstruct_absent, deconstruct_searched, deconstruct_own}

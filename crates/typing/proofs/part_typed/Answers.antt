@@ -1,5 +1,4 @@
 -- `typing::part_typed` meets its contract. Assumes nothing.
-use borrow.Author.Rules.{rules}
 use Rattle.pairs.proofs.Stretch.{stretch_accepted}
 use Rattle.typing.proofs.Places.{part_pairs}
 use Rattle.typing.proofs.Whole.{no_part, part_taken, part_built, part_tested, part_refused, part_there, part_condition}

@@ -1,6 +1,5 @@
 -- `typing::parts_typed` meets its contract. The loop's invariant: the typing of all the parts is that of those left, from where the loop stands. Assumes nothing.
 use Prim.Native.Nat.{◌≤◌}
-use borrow.Author.Rules.{rules}
 use lib.ListN.{length}
 use mathlib.Core.Path.{◌≡◌}
 use Rattle.grammar.specs.Grammar.{Grammar}

@@ -1,5 +1,4 @@
 -- `typing::read_parts` meets its contract. Assumes nothing.
-use borrow.Author.Rules.{rules}
 use Rattle.typing.proofs.Whole.{parts_none, parts_bad, parts_there}
 use Rattle.typing.proofs.read_parts.Goals as goal
 

@@ -1,5 +1,4 @@
 -- `typing::read_replacement` meets its contract. Assumes nothing.
-use borrow.Author.Rules.{rules}
 use Rattle.typing.proofs.Whole.{pairs_accepted, replacement_none, replacement_there}
 use Rattle.dues.specs.Views.{context_of}
 use Rattle.typing.proofs.read_replacement.Goals as goal

@@ -1,5 +1,4 @@
 use lib.ListN.{length-set}
-use mathlib.Core.Bool.{true}
 use mathlib.Core.Path.{refl}
 use native.Mathlib.Omega.{arith}
 use Rattle.rules.specs.Layout.{rule}

@@ -1,5 +1,4 @@
 -- `typing::rule_typed` meets its contract. Assumes nothing.
-use borrow.Author.Rules.{rules}
 use native.Mathlib.Omega.{arith}
 use Rattle.pairs.proofs.Book.{head_few}
 use Rattle.typing.proofs.Whole.{passed_few, head_fault, pattern_accepted, pattern_fault, parts_refused, rule_done, replacement_accepted}

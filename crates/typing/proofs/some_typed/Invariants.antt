@@ -1,5 +1,4 @@
 -- `typing::some_typed` meets its contract. The loop's invariant: the typing of all the rules is that of those left, from where the loop stands, and the layout of those left passes. Assumes nothing.
-use borrow.Author.Rules.{rules}
 use lib.ListN.{length}
 use mathlib.Core.Bool.{true}
 use mathlib.Core.Path.{◌≡◌}

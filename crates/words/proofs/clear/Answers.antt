@@ -2,7 +2,7 @@ use Rattle.words.proofs.Stretches.{zeros, zero_turn, zero_all}
 use lib.Seq.{paste-zero}
 use lib.ListN.{length, length-set}
 use native.Mathlib.Omega.{arith}
-use Prim.Native.Nat.{◌-◌, ◌<◌}
+use Prim.Native.Nat.{◌<◌}
 use mathlib.Core.Path.{refl, ◌∙◌}
 use Rattle.words.proofs.clear.Goals as goal
 

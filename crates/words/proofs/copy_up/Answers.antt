@@ -2,7 +2,6 @@ use Rattle.words.proofs.Stretches.{up_turn}
 use lib.Seq.{paste-zero}
 use lib.ListN.{drop, length-set}
 use native.Mathlib.Omega.{arith}
-use Prim.Native.Nat.{◌-◌}
 use mathlib.Core.Path.{◌≡◌, refl}
 use Rattle.words.proofs.copy_up.Goals as goal
 

@@ -1,5 +1,4 @@
 use mathlib.Core.Path.{sym}
-use Prim.Native.Nat.{◌-◌}
 use native.Mathlib.Omega.{arith}
 use Rattle.words.proofs.Stretches.{equal_lengths, equal_differs, equal_second, equal_two, equal_last, equal_end}
 use Rattle.words.proofs.same.Goals as goal

@@ -1,4 +1,3 @@
-use Prim.Native.Nat.{◌-◌}
 use Rattle.convert.proofs.Fitting.{misfit_start, misfit_end, misfit_found, misfit_more}
 use Rattle.convert.proofs.table.first_misfit.Goals as goal
 

@@ -1,4 +1,3 @@
-use Prim.Native.Nat.{◌-◌}
 use Rattle.convert.proofs.Fitting.{form_start, form_lengths, form_end, form_differs, form_more}
 use Rattle.convert.proofs.table.same_form.Goals as goal
 

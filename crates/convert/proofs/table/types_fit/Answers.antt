@@ -1,4 +1,3 @@
-use Prim.Native.Nat.{◌-◌}
 use native.Mathlib.Omega.{arith}
 use Rattle.convert.proofs.Fitting.{types_start, types_end, types_misfit, types_more}
 use Rattle.convert.proofs.table.types_fit.Goals as goal

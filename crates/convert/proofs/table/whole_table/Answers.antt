@@ -1,4 +1,3 @@
-use Prim.Native.Nat.{◌-◌}
 use Rattle.convert.proofs.Entries.{table_start, table_fault, table_stored, table_left, table_end}
 use Rattle.convert.proofs.table.whole_table.Goals as goal
 

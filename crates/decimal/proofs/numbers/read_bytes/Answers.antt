@@ -1,4 +1,3 @@
-use Prim.Native.Nat.{◌-◌}
 use Rattle.decimal.proofs.Reading.{going_first, going_next, going_last, said_all}
 use Rattle.decimal.specs.Numbers.{Numbers, bytes, Stands}
 use lib.ListN.{length}

@@ -1,4 +1,4 @@
-use Prim.Native.Nat.{ℕ, ◌-◌}
+use Prim.Native.Nat.{ℕ}
 use Rattle.decimal.proofs.Putting.{put_both, put_none, spaced_next}
 use Rattle.decimal.specs.Numbers.{Bytes}
 use Rattle.decimal.specs.Printed.{Put, spaced, all_spaced}

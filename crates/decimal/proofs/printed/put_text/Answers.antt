@@ -1,4 +1,3 @@
-use Prim.Native.Nat.{◌-◌}
 use Rattle.decimal.proofs.Putting.{put_nothing, put_both, text_next}
 use Rattle.decimal.specs.Numbers.{Bytes}
 use Rattle.decimal.specs.Printed.{Put}

@@ -2,7 +2,6 @@ use Rattle.rewrite.specs.Vars.{vars_of}
 use Rattle.rewrite.proofs.Leaves.{gathering_start, gathering_over, gathering_end, gathering_more}
 use native.Mathlib.Omega.{arith}
 use mathlib.Core.Path.{refl}
-use Prim.Native.Nat.{◌-◌}
 use Rattle.rewrite.proofs.arena.gather.Goals as goal
 
 pub loop-i-init : goal.loop-i-init

@@ -1,6 +1,6 @@
 use Rattle.rewrite.proofs.Clashing.{clashing_begun, clashing_type, clashing_value, clashing_node, clashing_other, clashing_new}
 use mathlib.Core.Path.{◌≡◌, refl, sym, ◌∙◌}
-use Prim.Native.Nat.{ℕ, ◌-◌}
+use Prim.Native.Nat.{ℕ}
 use native.Mathlib.Omega.{arith}
 use Rattle.rewrite.proofs.candidates.clashes_later.Goals as goal
 

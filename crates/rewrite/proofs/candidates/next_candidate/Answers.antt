@@ -1,6 +1,5 @@
 use borrow.Author.Tests.{not-false}
 use Rattle.rewrite.proofs.Clashing.{passing_start, candidate_found, candidate_begun, candidate_fails}
-use Prim.Native.Nat.{◌-◌}
 use native.Mathlib.Omega.{arith}
 use Rattle.rewrite.proofs.candidates.next_candidate.Goals as goal
 

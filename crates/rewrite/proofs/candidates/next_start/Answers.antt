@@ -1,7 +1,6 @@
 use Rattle.rewrite.proofs.Clashing.{passing_start, passing_other, passing_fail, start_found}
 use Rattle.rules.proofs.Laid.{no_true}
 use mathlib.Core.Path.{refl, sym, ◌∙◌}
-use Prim.Native.Nat.{◌-◌}
 use native.Mathlib.Omega.{arith}
 use Rattle.rewrite.proofs.candidates.next_start.Goals as goal
 

@@ -1,4 +1,3 @@
-use Prim.Native.Nat.{◌-◌}
 use Rattle.rewrite.proofs.candidates.node_follows.Goals as goal
 
 pub loop-i-init : goal.loop-i-init
