@@ -148,8 +148,8 @@ first_value : (g : Grammar) (w pairs : Words) (at k top : ℕ) (vars : Vars) (en
     → b ≡ get_or w (start_at vars (get_or pairs (at + 1) 0) + 1) 0 → get_or (values_of args) 0 b ≡ b
 unfolding values_of
 first_value g w pairs at zero top vars env args l b s e read eb =
-    let none-given = variables_none env l args (ap (λ xs. variables env xs l) (sym (arguments_none 0 (drop at pairs) (omega arith))) ∙ read) in
-    rw none-given
+    let none_given = variables_none env l args (ap (λ xs. variables env xs l) (sym (arguments_none 0 (drop at pairs) (omega arith))) ∙ read) in
+    rw none_given
 first_value g w pairs at (suc k) top vars env args l b s e read eb =
     let t = variables_more env (get_or (drop at pairs) 1 0) _ l args (ap (λ xs. variables env xs l) (sym (arguments_more (suc k) (drop at pairs) (omega arith))) ∙ read) in
     let here = stands_whole w top (variable_stands g (take top w) vars env (get_or (drop at pairs) 1 0) t.0 s e t.2) in

@@ -136,7 +136,7 @@ module _ (given : Given) (w pairs : Words) (at base n : ℕ) (vars : Vars) (besi
         fits = fits;
         less = le_refl left.attempts;
         long = refl;
-        meant = λ g rules env scope st env-at tree s.
+        meant = λ g rules env scope st env_at tree s.
             let q = ruled g rules env scope s in
             (refl, q.same ∙ rewrites_none g rules q.rule q.args scope besides left deep d);
       })
@@ -149,7 +149,7 @@ module _ (given : Given) (w pairs : Words) (at base n : ℕ) (vars : Vars) (besi
         fits = cs.fits besides (omega arith) fits;
         less = cs.less;
         long = cs.long;
-        meant = λ g rules env scope st env-at tree s.
+        meant = λ g rules env scope st env_at tree s.
             let q = ruled g rules env scope s in
             let p = st.placed (get_or pairs at 0) q.rule q.there in
             let m : M.Called = M.call true g rules (calls true g rules (deep - 1)) q.rule q.args scope besides left in
@@ -157,7 +157,7 @@ module _ (given : Given) (w pairs : Words) (at base n : ℕ) (vars : Vars) (besi
             let goes = result_sure m (sure_as run s) in
             let b = begin_sure g q.rule q.args scope besides left (call_begins g rules (calls true g rules (deep - 1)) q.rule q.args scope besides left goes) in
             let f = rule_few given.types given.book (get_or given.starts (get_or pairs at 0) 0) q.rule p.1.0 p.1.1 in
-            let held = ga.stands g base env q.args left st.tables.heads_of.types env-at (omega (arith, f, b.0, q.many, arguments_length (get_or pairs (at + 1) 0) (drop (at + 2) pairs)))
+            let held = ga.stands g base env q.args left st.tables.heads_of.types env_at (omega (arith, f, b.0, q.many, arguments_length (get_or pairs (at + 1) 0) (drop (at + 2) pairs)))
             (subst (λ j. variables env (arguments j (drop (at + 2) pairs)) left ≡ ok q.args left) (sym ek) q.read) in
             let place : start ≡ get_or given.starts (get_or pairs at 0) 0 = es (omega (arith, p.0)) ∙ ap (λ j. get_or given.starts j 0) ea in
             let z = cs.meant g rules q.rule p.1.0 q.args scope besides st (ap (Layout.rule given.types given.book) place ∙ p.1.1) held.0 (omega (arith, held.1)) tree goes in (
@@ -175,13 +175,13 @@ module _ (given : Given) (w pairs : Words) (at base n : ℕ) (vars : Vars) (besi
         fits = fits;
         less = le_refl left.attempts;
         long = cp.long;
-        meant = λ g rules env scope st env-at tree s.
+        meant = λ g rules env scope st env_at tree s.
             let q = operation_given env names (get_or pairs at 0) left (λ p args. M.apply true g rules (calls true g rules deep) p args scope besides under)
             (λ args. and (is_number_token g scope) (are_number_tokens g args)) (computes g rules (calls true g rules deep) scope besides under) (omega arith)
             (λ args. apply_nothing g rules (calls true g rules deep) scope besides under args left) (λ o args e. absurd (omega (arith, edit_from (get_or pairs at 0) o e))) (λ o args. apply_operation g rules (calls true g rules deep) scope besides under o args left) s in
             let cs = sure_first (compute q.o (value_of scope) (values_of q.args) left) (λ v. return (with_value scope v)) (sure_as q.same s) in
             let y : at + 2 + 1 ≡ at + 3 = omega arith in
-            let values = operand_values g w pairs (at + 2) (get_or pairs (at + 1) 0) base vars q.o env q.args left b sound env-at q.read (eb ∙ ap (λ i. get_or w (start_at vars (get_or pairs i 0) + 1) 0) (sym y))
+            let values = operand_values g w pairs (at + 2) (get_or pairs (at + 1) 0) base vars q.o env q.args left b sound env_at q.read (eb ∙ ap (λ i. get_or w (start_at vars (get_or pairs i 0) + 1) 0) (sym y))
             (λ c h. compute_arguments q.o (value_of scope) (values_of q.args) left c h cs) in
             let here = value_there w base scope (standing_stands w tree.1) in
             let same : compute q.o (value_of scope) (values_of q.args) left ≡ compute q.o (get_or w (base + 1) 0) (arguments_of q.o b) left = rw (here, values) in
@@ -198,13 +198,13 @@ module _ (given : Given) (w pairs : Words) (at base n : ℕ) (vars : Vars) (besi
         fits = ed.fits;
         less = le_refl left.attempts;
         long = ed.long;
-        meant = λ g rules env scope st env-at tree s.
+        meant = λ g rules env scope st env_at tree s.
             let q = edit_given env names (get_or pairs at 0) left (λ p args. M.apply true g rules (calls true g rules deep) p args scope besides under) (omega arith)
             (λ args. apply_nothing g rules (calls true g rules deep) scope besides under args left) s in
             let run = q.same ∙ apply_edit g rules (calls true g rules deep) scope besides under q.o q.args left in
             let sure = sure_as run s in
             let few = edit_few g q.o q.args scope besides under left sure in
-            let stand = arguments_stand g (take base w) (drop (at + 2) pairs) (get_or pairs (at + 1) 0) vars env q.args left sound env-at q.read few in
+            let stand = arguments_stand g (take base w) (drop (at + 2) pairs) (get_or pairs (at + 1) 0) vars env q.args left sound env_at q.read few in
             let y : at + 2 + 1 ≡ at + 3 = omega arith in
             let z : at + 2 + 3 ≡ at + 5 = omega arith in
             let one : get_or (drop (at + 2) pairs) 1 0 ≡ get_or pairs (at + 3) 0 = get_or-drop (at + 2) pairs 1 0 ∙ ap (λ i. get_or pairs i 0) y in
@@ -264,7 +264,7 @@ module _ (given : Given) (w₀ pairs : Words) (from base n : ℕ) (vars : Vars) 
     later = le_refl (from + 2);
     near = omega arith;
     ends = ap (λ j. from + 2 + 2 * pairs_in (applications j (drop (from + 2) pairs))) e;
-    gone = λ g rules env scope st env-at tree s. record {
+    gone = λ g rules env scope st env_at tree s. record {
       kept = refl;
       now = scope;
       tree = tree;
@@ -278,10 +278,10 @@ module _ (given : Given) (w₀ pairs : Words) (from base n : ℕ) (vars : Vars) 
       one : (g : Grammar) (rules : Rules.Rules) (env : Env) (scope : Words) → Setting given g rules → EnvAt g (take base w₀) (starts_of vars) env → Tree g w₀ base n scope
           → Sure (Whole g rules env scope) → (now : Words) × (take base w' ≡ take base w₀) × Says (Tree g w' base b.nodes) b.stop b.left (apply_at deep pairs at g rules env now besides under fuel)
           × (Whole g rules env scope ≡ then_of (apply_at deep pairs at g rules env now besides under fuel) (λ next. M.apply_chain true g rules (calls true g rules deep) (applications (k - 1) (drop (next_at pairs at) pairs)) env next besides under))
-      one g rules env scope st env-at tree s =
-          let q = i.gone g rules env scope st env-at tree s in
+      one g rules env scope st env_at tree s =
+          let q = i.gone g rules env scope st env_at tree s in
           let e = q.same ∙ chain_step g rules deep pairs at k env q.now besides under fuel h in
-          let m = done.meant g rules env q.now st (env_kept g w₀ w base q.kept (starts_of vars) env env-at) q.tree (sure_first _ _ (sure_as e s)) in
+          let m = done.meant g rules env q.now st (env_kept g w₀ w base q.kept (starts_of vars) env env_at) q.tree (sure_first _ _ (sure_as e s)) in
           (q.now, m.0 ∙ q.kept, m.1, e)
 
       pub chaining_stop : (b.stop ≡ 0 → ⊥) → Chains given w₀ w' pairs from base n vars besides under deep left (record { built = b; next = at })
@@ -291,8 +291,8 @@ module _ (given : Given) (w₀ pairs : Words) (from base n : ℕ) (vars : Vars) 
           fits = done.fits;
           less = omega (arith, done.less, i.less);
           long = done.long ∙ i.long;
-          meant = λ g rules env scope st env-at tree s.
-              let q = one g rules env scope st env-at tree s in
+          meant = λ g rules env scope st env_at tree s.
+              let q = one g rules env scope st env_at tree s in
               (q.1, stop_says (Tree g w' base b.nodes) (Whole g rules env scope) b.left b.stop ne (q.3 ∙ then_stop _ _ b.stop b.left (says_stop _ _ b.left b.stop ne q.2)));
         };
         later = i.later;
@@ -311,8 +311,8 @@ module _ (given : Given) (w₀ pairs : Words) (from base n : ℕ) (vars : Vars) 
             later = omega (arith, i.later);
             near = omega (arith, i.near);
             ends = ap (λ j. j + 2 * pairs_in (applications (k - 1) (drop j pairs))) next ∙ sym (pairs_step pairs at k h) ∙ i.ends;
-            gone = λ g rules env scope st env-at tree s.
-                let q = one g rules env scope st env-at tree s in
+            gone = λ g rules env scope st env_at tree s.
+                let q = one g rules env scope st env_at tree s in
                 let v = says_ok _ _ b.left b.stop z q.2 in
                 record {
                   kept = q.1;
@@ -331,8 +331,8 @@ module _ (given : Given) (w₀ pairs : Words) (from base n : ℕ) (vars : Vars) 
         fits = i.fits;
         less = i.less;
         long = i.long;
-        meant = λ g rules env scope st env-at tree s.
-            let q = i.gone g rules env scope st env-at tree s in
+        meant = λ g rules env scope st env_at tree s.
+            let q = i.gone g rules env scope st env_at tree s in
             (q.kept, (q.now, q.tree, q.same ∙ chain_end g rules (calls true g rules deep) (drop at pairs) k env q.now besides under fuel z));
       };
       later = i.later;

@@ -525,9 +525,9 @@ module _ (given : Given) (w₀ pairs : Words) (frame : Open) (deep : ℕ) (left 
     v = get_or pairs (i + 1) 0
 
     -- a written node
-    module _ (no-chain : t ≡ mark_chain → ⊥) (no-variable : t ≡ mark_variable → ⊥) (s : ℕ) (es : s ≡ over_by (n + 1) (frame.live + n + 1)) where
+    module _ (no_chain : t ≡ mark_chain → ⊥) (no_variable : t ≡ mark_variable → ⊥) (s : ℕ) (es : s ≡ over_by (n + 1) (frame.live + n + 1)) where
       writes : (g : Grammar) (rules : Rules.Rules) (b : Bindings) → rest g rules b ≡ filled g rules deep b.env (live b) (write t v ∷ pieces (drop (i + 2) pairs)) n fuel
-      writes g rules b = ap (λ ps. filled g rules deep b.env (live b) ps n fuel) (pieces_write pairs i h no-chain no-variable)
+      writes g rules b = ap (λ ps. filled g rules deep b.env (live b) ps n fuel) (pieces_write pairs i h no_chain no_variable)
 
       limit : {g : Grammar} {b : Bindings} → Held g w frame b → s ≡ over_by (n + 1) (live b + n + 1)
       limit hd = es ∙ ap (λ k. over_by (n + 1) (k + n + 1)) hd.counted
@@ -552,7 +552,7 @@ module _ (given : Given) (w₀ pairs : Words) (frame : Open) (deep : ℕ) (left 
           })
 
     -- a copy
-    module _ (no-chain : t ≡ mark_chain → ⊥) (is-variable : t ≡ mark_variable) (start m : ℕ) (es : start ≡ start_at frame.vars v) (nodes : NodesAt w start frame.top m)
+    module _ (no_chain : t ≡ mark_chain → ⊥) (is_variable : t ≡ mark_variable) (start m : ℕ) (es : start ≡ start_at frame.vars v) (nodes : NodesAt w start frame.top m)
         (s : ℕ) (eo : s ≡ over_by (n + m) (frame.live + n + m)) where
       record Taken (g : Grammar) (rules : Rules.Rules) (b : Bindings) : Type 0 where
         u : Words
@@ -564,7 +564,7 @@ module _ (given : Given) (w₀ pairs : Words) (frame : Open) (deep : ℕ) (left 
 
       taken : (g : Grammar) (rules : Rules.Rules) (b : Bindings) → Setting given g rules → Held g w frame b → Sure (rest g rules b) → Taken g rules b
       taken g rules b st hd sure =
-          let e = ap (λ ps. filled g rules deep b.env (live b) ps n fuel) (pieces_copy pairs i h no-chain is-variable) in
+          let e = ap (λ ps. filled g rules deep b.env (live b) ps n fuel) (pieces_copy pairs i h no_chain is_variable) in
           let q = copy_there g rules deep b.env (live b) (pieces (drop (i + 2) pairs)) n fuel v (sure_as e sure) in
           let x = rw (← es) at (variable_stands g (take frame.top w) frame.vars b.env v q.0 room.sound hd.stands q.1) in
           let k = nodes.stands g q.0 st.tables.heads_of.types x in
@@ -594,15 +594,15 @@ module _ (given : Given) (w₀ pairs : Words) (frame : Open) (deep : ℕ) (left 
           })
 
     -- a chain
-    module _ (is-chain : t ≡ mark_chain) (w' : Words) (c : Chained) (chains : FillsChain given w w' pairs i n frame deep fuel c) where
+    module _ (is_chain : t ≡ mark_chain) (w' : Words) (c : Chained) (chains : FillsChain given w w' pairs i n frame deep fuel c) where
       pub filling_chain_stops : (c.built.stop ≡ 0 → ⊥) → (at : ℕ) → pairs ≡ pairs_at given.book at → Fills given w₀ w' at frame deep left c.built
       filling_chain_stops z at ep = ends at ep w' c.built z chains.less chains.long (λ g rules b st hd sure.
-          let q = chains.meant g rules b st hd (chain_sure g rules deep b.env (live b) pairs i n fuel h is-chain sure) in
-          (take_less frame.top (frame.top + 2 * n) w w' (omega arith) q.0, chain_stops g rules deep b.env (live b) pairs i n fuel h is-chain sure c.built.stop c.built.left (says_stop _ _ c.built.left c.built.stop z q.1)))
+          let q = chains.meant g rules b st hd (chain_sure g rules deep b.env (live b) pairs i n fuel h is_chain sure) in
+          (take_less frame.top (frame.top + 2 * n) w w' (omega arith) q.0, chain_stops g rules deep b.env (live b) pairs i n fuel h is_chain sure c.built.stop c.built.left (says_stop _ _ c.built.left c.built.stop z q.1)))
 
       pub filling_chain : c.built.stop ≡ 0 → Filling given w₀ pairs frame deep left w' c.built.left c.built.nodes c.next
       filling_chain z = grows w' c.built.left c.built.nodes c.next (chains.few z) (chains.fits z) chains.less chains.long chains.near (λ g rules b st hd sure.
-          let q = chains.meant g rules b st hd (chain_sure g rules deep b.env (live b) pairs i n fuel h is-chain sure) in
+          let q = chains.meant g rules b st hd (chain_sure g rules deep b.env (live b) pairs i n fuel h is_chain sure) in
           let o = says_ok _ _ c.built.left c.built.stop z q.1 in
           let x = o.1.1.1 in
           record {
@@ -612,6 +612,6 @@ module _ (given : Given) (w₀ pairs : Words) (frame : Open) (deep : ℕ) (left 
             long = tree_length x.tree;
             kept = q.0;
             there = under_tree x.tree.typed x.words;
-            step = chain_gives g rules deep b.env (live b) pairs i n fuel h is-chain sure o.0 c.built.left o.2
+            step = chain_gives g rules deep b.env (live b) pairs i n fuel h is_chain sure o.0 c.built.left o.2
                 ∙ ap₂ (λ j k. onward g rules deep b.env (live b) o.0 (pieces (drop j pairs)) k c.built.left) (sym (chains.next_is z)) (sym o.1.0);
           })

@@ -74,7 +74,7 @@ module _ (heads book w : Words) (d : Deconstruct) (next : ℕ) (frame : Open) (l
   there g b held t e = rw es (variable_stands g (take frame.top w) frame.vars b.env (get_or book d.variable 0) t room.sound held.stands e)
 
   pub deconstruct_none : n ≡ 0 → Deconstructs heads book w d next frame left (record { verdict = Differs; frame = frame; left = left; next = next })
-  deconstruct_none zero-nodes = record {
+  deconstruct_none zero_nodes = record {
     next_is = refl;
     takes = λ deep. record {
       grown = grown_same room;

@@ -14,7 +14,7 @@ use Rattle.tree.specs.Limits.{most_nodes}
 use Rattle.tree.specs.Tree.{size, after, first_tree}
 use Rattle.tree.proofs.Trees.{trees_even, first_after}
 use Rattle.rules.specs.Rules as Rules
-use Rattle.rules.specs.Rules.{Piece, Rule, root_only, firstMatch, exhaustive, onePass, searches, pieces}
+use Rattle.rules.specs.Rules.{Piece, Rule, root_only, first_match, exhaustive, one_pass, searches, pieces}
 use Rattle.rules.specs.Layout as Layout
 use Rattle.meaning.specs.Limits.{most_live}
 use Rattle.meaning.specs.declared.State.{State}
@@ -87,45 +87,45 @@ module _ (g : Grammar) (rules : Rules.Rules) (deeper : M.Calls) (r : Rule) (args
 -- where the rounds go on after a replacement
 abbrev place_after : Rules.Strategy → Turned → ℕ
 place_after root_only t = 0
-place_after firstMatch t = 0
+place_after first_match t = 0
 place_after exhaustive t = 0
-place_after onePass t = t.behind
+place_after one_pass t = t.behind
 
 module _ (scope : Words) (k : ℕ) (rest : Words → ℕ → State → M.Called) (m : Result (Option Turned)) where
   after_sure : (s : Rules.Strategy) → ((after_round scope k s rest m).ending ≡ cannot_go_on → ⊥) → Sure m
   unfolding after_round
   after_sure root_only h e = h (rw e)
-  after_sure firstMatch h e = h (rw e)
+  after_sure first_match h e = h (rw e)
   after_sure exhaustive h e = h (rw e)
-  after_sure onePass h e = h (rw e)
+  after_sure one_pass h e = h (rw e)
 
   after_none : (s : Rules.Strategy) (l : State) → m ≡ ok none l → after_round scope k s rest m ≡ called scope k done l
   unfolding after_round
   after_none root_only l e = rw e
-  after_none firstMatch l e = rw e
+  after_none first_match l e = rw e
   after_none exhaustive l e = rw e
-  after_none onePass l e = rw e
+  after_none one_pass l e = rw e
 
   after_stop : (s : Rules.Strategy) (n : ℕ) (l : State) → m ≡ stop n l → after_round scope k s rest m ≡ called scope k (stopped n) l
   unfolding after_round
   after_stop root_only n l e = rw e
-  after_stop firstMatch n l e = rw e
+  after_stop first_match n l e = rw e
   after_stop exhaustive n l e = rw e
-  after_stop onePass n l e = rw e
+  after_stop one_pass n l e = rw e
 
   after_done : (s : Rules.Strategy) (t : Turned) (l : State) → again_of (strategy_as s) ≡ false → m ≡ ok (some t) l → after_round scope k s rest m ≡ called t.scope (suc k) done l
   unfolding after_round
   after_done root_only t l a e = rw e
-  after_done firstMatch t l a e = rw e
+  after_done first_match t l a e = rw e
   after_done exhaustive t l a e = let z : ◌≡◌ {A = ℕ} 0 1 = cc in absurd (omega arith)
-  after_done onePass t l a e = let z : ◌≡◌ {A = ℕ} 0 1 = cc in absurd (omega arith)
+  after_done one_pass t l a e = let z : ◌≡◌ {A = ℕ} 0 1 = cc in absurd (omega arith)
 
   after_again : (s : Rules.Strategy) (t : Turned) (l : State) → again_of (strategy_as s) ≡ true → m ≡ ok (some t) l → after_round scope k s rest m ≡ rest t.scope (place_after s t) l
   unfolding after_round
   after_again root_only t l a e = let z : ◌≡◌ {A = ℕ} 0 1 = cc in absurd (omega arith)
-  after_again firstMatch t l a e = let z : ◌≡◌ {A = ℕ} 0 1 = cc in absurd (omega arith)
+  after_again first_match t l a e = let z : ◌≡◌ {A = ℕ} 0 1 = cc in absurd (omega arith)
   after_again exhaustive t l a e = rw e
-  after_again onePass t l a e = rw e
+  after_again one_pass t l a e = rw e
 
 module _ (g : Grammar) (rules : Rules.Rules) (deeper : M.Calls) (r : Rule) (ps : List Piece) (args : Env) (now : Words) (place others : ℕ) where
   abbrev sought : State → Result (Option M.Found)
@@ -208,15 +208,15 @@ module _ {g : Grammar} {w : Words} {base n t : ℕ} {ws : Words} (few : length g
 
   onward_place : (s : Rules.Strategy) → 2 * onward_of (strategy_as s) j (size_in (get_or w (base + 2 * j) 0)) ≡ place_after s (record { scope = ws; behind = 2 * j + length (first_tree g (drop (2 * j) ws)) })
   onward_place root_only = refl
-  onward_place firstMatch = refl
+  onward_place first_match = refl
   onward_place exhaustive = refl
-  onward_place onePass = let x = put_there in omega (arith, x.0, x.1)
+  onward_place one_pass = let x = put_there in omega (arith, x.0, x.1)
 
   onward_begins : (r : Rule) (s : Rules.Strategy) → r.strategy ≡ s → Begins r n (onward_of (strategy_as s) j (size_in (get_or w (base + 2 * j) 0)))
   onward_begins r root_only e = record { inside = omega arith; root = λ _. refl }
-  onward_begins r firstMatch e = record { inside = omega arith; root = λ _. refl }
+  onward_begins r first_match e = record { inside = omega arith; root = λ _. refl }
   onward_begins r exhaustive e = record { inside = omega arith; root = λ _. refl }
-  onward_begins r onePass e = let x = put_there in record { inside = omega (arith, x.0, x.2); root = λ h. absurd (searching (ap searches (sym e) ∙ h)) }
+  onward_begins r one_pass e = let x = put_there in record { inside = omega (arith, x.0, x.2); root = λ h. absurd (searching (ap searches (sym e) ∙ h)) }
     where
       searching : true ≡ false → ⊥
       searching z = let y : ◌≡◌ {A = ℕ} 0 1 = cc in omega arith

@@ -18,7 +18,7 @@ use Rattle.grammar.specs.Kinds.{children}
 use Rattle.tree.specs.Rest.{Rest}
 use Rattle.tree.proofs.Rest.{tree_rest, rest_node, rest_at}
 use Rattle.rules.specs.Rules as Rules
-use Rattle.rules.specs.Rules.{Rule, root_only, firstMatch, exhaustive, onePass, searches, shapes, pieces}
+use Rattle.rules.specs.Rules.{Rule, root_only, first_match, exhaustive, one_pass, searches, shapes, pieces}
 use Rattle.rules.specs.Layout as Layout
 use Rattle.rules.specs.Layout.{part_at, part_of}
 use Rattle.rules.specs.Views.{pairs_at, Planned, strategy_as, tried_of}
@@ -65,12 +65,12 @@ tried_here : (s : Rules.Strategy) (n i : ℕ) → i < tried_of (strategy_as s) n
 tried_here root_only zero i h = absurd (omega arith)
 tried_here root_only (suc n) zero h = refl
 tried_here root_only (suc n) (suc i) h = absurd (omega arith)
-tried_here firstMatch n zero h = refl
-tried_here firstMatch n (suc i) h = rw (ne_eqb (2 * suc i) 0 (λ e. omega arith))
+tried_here first_match n zero h = refl
+tried_here first_match n (suc i) h = rw (ne_eqb (2 * suc i) 0 (λ e. omega arith))
 tried_here exhaustive n zero h = refl
 tried_here exhaustive n (suc i) h = rw (ne_eqb (2 * suc i) 0 (λ e. omega arith))
-tried_here onePass n zero h = refl
-tried_here onePass n (suc i) h = rw (ne_eqb (2 * suc i) 0 (λ e. omega arith))
+tried_here one_pass n zero h = refl
+tried_here one_pass n (suc i) h = rw (ne_eqb (2 * suc i) 0 (λ e. omega arith))
 
 -- .. and so is the node that a search begins at
 begins_here : {rule : Rule} {n start : ℕ} → Begins rule n start → or (eqb (2 * start) 0) (searches rule.strategy) ≡ true
@@ -85,9 +85,9 @@ tried_past : (s : Rules.Strategy) (n i : ℕ) → 0 < n → i ≤ n → tried_of
 tried_past root_only zero i p h l = absurd (omega arith)
 tried_past root_only (suc n) zero p h l = absurd (omega arith)
 tried_past root_only (suc n) (suc i) p h l = inl (rw (ne_eqb (2 * suc i) 0 (λ e. omega arith)))
-tried_past firstMatch n i p h l = inr (omega arith)
+tried_past first_match n i p h l = inr (omega arith)
 tried_past exhaustive n i p h l = inr (omega arith)
-tried_past onePass n i p h l = inr (omega arith)
+tried_past one_pass n i p h l = inr (omega arith)
 
 -- ONE NODE OF THE MEANING'S SEARCH
 
@@ -570,13 +570,13 @@ module _ (given : Given) (w₀ : Words) (plan : Plan) (base n : ℕ) (frame : Op
                       let a = tr.try k in
                       let e : value [] at ≡ value a.ps k.planned.end = sym (many_none (Layout.part given.types given.book) count at (omega arith)) ∙ a.read in
                       let all : a.ps ≡ [] = cc in
-                      let ends-here : k.planned.end ≡ at = cc in (
+                      let ends_here : k.planned.end ≡ at = cc in (
                         a.env,
                         a.held,
                         a.is ∙ ap (λ x. then_of (M.parts true k.g k.rules (calls true k.g k.rules deep) x (bindings a.env k.b.besides) now) (next k (node k).below (2 * i))) all
                             ∙ then_ok _ (next k (node k).below (2 * i)) (some (bindings a.env k.b.besides)) now (parts_end k.g k.rules deep (bindings a.env k.b.besides) now)
                             ∙ after_some k.g k.rules deep k.rule k.b (node k).below (2 * i) now (bindings a.env k.b.besides),
-                        λ ps replaces. k.planned.replacement ps replaces ∙ ap (λ x. pieces (pairs_at given.book x)) ends-here,
+                        λ ps replaces. k.planned.replacement ps replaces ∙ ap (λ x. pieces (pairs_at given.book x)) ends_here,
                       )
 
               module _ (more : 0 < count) (w₂ : Words) (r : Taking) (steps : Steps given w₁ w₂ at fr deep now r) where
@@ -631,16 +631,16 @@ module _ (given : Given) (w₀ : Words) (plan : Plan) (base n : ℕ) (frame : Op
           ap (λ x. take x (drop (base + 2 * j) w)) a ∙ sym (ap (take (2 * (n - j))) (drop_take frame.top (base + 2 * j) w) ∙ take-take (2 * (n - j)) (frame.top - (base + 2 * j)) (drop (base + 2 * j) w) (omega arith))
 
       passed_other : (k : ℕ) (now : State) → Searching w now (i + k) → i + k < tried_of plan.strategy n → (type_in (get_or w (base + 2 * (i + k)) 0) ≡ plan.target → ⊥) → Searching w now (i + suc k)
-      passed_other k now at-k l other = let z : i + suc k ≡ i + k + 1 = omega arith in rw z (searching_other w now (i + k) at-k l other)
+      passed_other k now at_k l other = let z : i + suc k ≡ i + k + 1 = omega arith in rw z (searching_other w now (i + k) at_k l other)
 
       passed_clash : (k : ℕ) (now : State) → Searching w (unspent now) (i + k) → i + k < tried_of plan.strategy n → type_in (get_or w (base + 2 * (i + k)) 0) ≡ plan.target
           → Clashes pairs (span w (base + 2 * (i + k)) (base + 2 * n)) frame.live → Searching w now (i + suc k)
-      passed_clash k now at-k l this clashes =
+      passed_clash k now at_k l this clashes =
           let z : i + suc k ≡ i + k + 1 = omega arith in
           let y : suc now.attempts - 1 ≡ now.attempts = omega arith in
           let c = clashes.clash given.heads (take frame.top w) (base + 2 * (i + k)) frame.vars room.sound in
           let s : Searching w (spent (unspent now)) (i + k + 1) =
-          searching_differs w (unspent now) (i + k) at-k l this (λ e. omega arith) c.0 (take frame.top w) (span w (base + 2 * (i + k)) (base + 2 * n)) pairs refl (stretch (i + k) (omega (arith, tried_few plan.strategy n))) es (c.2 true) c.1 in
+          searching_differs w (unspent now) (i + k) at_k l this (λ e. omega arith) c.0 (take frame.top w) (span w (base + 2 * (i + k)) (base + 2 * n)) pairs refl (stretch (i + k) (omega (arith, tried_few plan.strategy n))) es (c.2 true) c.1 in
           rw (z, ← y) s
 
       searching_passed : (k : ℕ) (now : State) → (0 < k → i + k ≤ tried_of plan.strategy n) → Passed (ClashesAt pairs w (base + 2 * n) frame.live) w plan.target base i fuel k now → Searching w now (i + k)

@@ -20,7 +20,7 @@ use Rattle.tree.specs.Dues.{Next, pairs}
 use Rattle.tree.specs.Reading.{tree, dues_of}
 use Rattle.tree.specs.Views.{InTables}
 use Rattle.rules.specs.Rules.{Rules}
-use Rattle.judgement.specs.Typing.{Place, in_pattern, inReplacement, inCondition, Due, a_tree, Context, may_stand, node, meets}
+use Rattle.judgement.specs.Typing.{Place, in_pattern, in_replacement, in_condition, Due, a_tree, Context, may_stand, node, meets}
 use Rattle.dues.specs.Views.{due_of, node_due, tokens_due, TokensPassed}
 use Rattle.dues.proofs.Stack.{tree_due, some_due}
 
@@ -93,8 +93,8 @@ token_ends g e v n h = kind_ends (kind_of g e) e v n (eqb-true (map_of (kind_of 
 stand_any : (here : Place) (d e : ℕ) → may_stand here d d ≡ true → may_stand here e e ≡ true
 unfolding may_stand
 stand_any in_pattern d e h = rw (eq-eqb e e refl)
-stand_any inReplacement d e h = rw (eq-eqb e e refl)
-stand_any inCondition d e h = let z : ◌≡◌ {A = ℕ} 0 1 = cc in absurd (omega arith)
+stand_any in_replacement d e h = rw (eq-eqb e e refl)
+stand_any in_condition d e h = let z : ◌≡◌ {A = ℕ} 0 1 = cc in absurd (omega arith)
 
 -- a node where its tree is due
 node_leaves : (g : Grammar) (rules : Rules) (here : Place) (n d v : ℕ) (Γ : Context) (at : ℕ) (ds : List Due) → may_stand here d d ≡ true → n ≤ 64 → allowed g d v ≡ true → node_due g d v n ≡ ds

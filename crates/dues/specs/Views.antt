@@ -15,7 +15,7 @@ use Rattle.rules.specs.declared.Strategy.{Strategy}
 use Rattle.rules.specs.declared.Strategy.TheVariants.{RootOnly, FirstMatch, Exhaustive, OnePass}
 use Rattle.judgement.specs.Wanted.{Wanted, exactly, a_number, to_join, a_sequence, anything}
 use Rattle.judgement.specs.Typing as Typing
-use Rattle.judgement.specs.Typing.{Due, a_tree, a_chain, application_count, application, argument, Context, in_pattern, inReplacement, inCondition, may_stand, meets}
+use Rattle.judgement.specs.Typing.{Due, a_tree, a_chain, application_count, application, argument, Context, in_pattern, in_replacement, in_condition, may_stand, meets}
 use Rattle.dues.specs.declared.Place.{Place}
 use Rattle.dues.specs.declared.Place.TheVariants.{Pattern, Replacement, Condition}
 use Rattle.dues.specs.declared.Ctx.{Ctx}
@@ -25,8 +25,8 @@ use Rattle.dues.specs.declared.Met.TheVariants.{Bad, Top, New}
 -- the place, as the typing has it
 abbrev pub place_as : Place → Typing.Place
 place_as Pattern = in_pattern
-place_as Replacement = inReplacement
-place_as Condition = inCondition
+place_as Replacement = in_replacement
+place_as Condition = in_condition
 
 -- the types of the variables that are there
 abbrev pub context_of : Ctx → Context
@@ -127,8 +127,8 @@ searches_as OnePass = true
 -- is a rule with this map applied here?
 abbrev pub applies_map : Typing.Place → ℕ → Bool
 applies_map in_pattern m = false
-applies_map inReplacement m = bit 3 m
-applies_map inCondition m = true
+applies_map in_replacement m = bit 3 m
+applies_map in_condition m = true
 
 -- an application's second word, where these arguments are wanted
 unfoldable pub arguments_counted : List Wanted → Context → ℕ → Reader (Next Due Context)

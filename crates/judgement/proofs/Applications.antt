@@ -16,31 +16,31 @@ use Rattle.rules.specs.Limits.{most_rules}
 use Rattle.rules.specs.Rules.{Applied, rule, operation, editing, nothing, searches, Rule, Rules, operations, applied}
 use Rattle.rules.proofs.Numbers.{rule_number}
 use Rattle.judgement.specs.Wanted.{Wanted, exactly, scope_fits, wanted_in}
-use Rattle.judgement.specs.Typing.{is_some as present, Place, in_pattern, inReplacement, inCondition, applies_rule, applies_operation, fits_scope, no_rule, operates_on, usable, wanted_by_edit, wanted_by_operation, wanted_by}
+use Rattle.judgement.specs.Typing.{is_some as present, Place, in_pattern, in_replacement, in_condition, applies_rule, applies_operation, fits_scope, no_rule, operates_on, usable, wanted_by_edit, wanted_by_operation, wanted_by}
 use Rattle.judgement.specs.WellTyped.{Types, Role, replacing, testing}
 use Rattle.judgement.specs.Tested.{some_is, arguments_of, operates_of, is_replacing, usable_of, fits_of, applies_of}
 
 -- the role that applications have at a place
 abbrev pub Plays : Place → Role → Type 0
 Plays in_pattern role = ⊥
-Plays inReplacement replacing = Unit {0}
-Plays inReplacement testing = ⊥
-Plays inCondition replacing = ⊥
-Plays inCondition testing = Unit {0}
+Plays in_replacement replacing = Unit {0}
+Plays in_replacement testing = ⊥
+Plays in_condition replacing = ⊥
+Plays in_condition testing = Unit {0}
 
 -- RULES
 
 usable_same : (here : Place) (role : Role) → Plays here role → (r : Rule) → applies_rule here r ≡ usable_of role r
 unfolding applies_rule usable_of present some_is
 usable_same in_pattern role p r = absurd p
-usable_same inReplacement replacing p r = go r.replacement
+usable_same in_replacement replacing p r = go r.replacement
   where
     go : {A : Type 0} (o : Option A) → present o ≡ some_is o (λ x. true)
     go none = refl
     go (some x) = refl
-usable_same inReplacement testing p r = absurd p
-usable_same inCondition replacing p r = absurd p
-usable_same inCondition testing p r = refl
+usable_same in_replacement testing p r = absurd p
+usable_same in_condition replacing p r = absurd p
+usable_same in_condition testing p r = refl
 
 eqb_sym : (a b : ℕ) → eqb a b ≡ eqb b a
 eqb_sym a b = go (eqb b a) refl
@@ -58,14 +58,14 @@ scope_same r s = rw (eqb_sym r.target s)
 far : (here : Place) (a : ℕ) → 1015 < a → applies_operation here a ≡ false
 unfolding applies_operation
 far in_pattern a h = refl
-far inReplacement a h = rw (le-leb 1000 a (omega arith), lt-leb a 1005 (omega arith), le-leb 1010 a (omega arith), lt-leb a 1015 (omega arith))
-far inCondition a h = rw (le-leb 1008 a (omega arith), lt-leb a 1009 (omega arith))
+far in_replacement a h = rw (le-leb 1000 a (omega arith), lt-leb a 1005 (omega arith), le-leb 1010 a (omega arith), lt-leb a 1015 (omega arith))
+far in_condition a h = rw (le-leb 1008 a (omega arith), lt-leb a 1009 (omega arith))
 
 near : (here : Place) (a : ℕ) → a < 1000 → applies_operation here a ≡ false
 unfolding applies_operation
 near in_pattern a h = refl
-near inReplacement a h = rw (lt-leb 1000 a (omega arith), lt-leb 1010 a (omega arith))
-near inCondition a h = rw (lt-leb 1008 a (omega arith))
+near in_replacement a h = rw (lt-leb 1000 a (omega arith), lt-leb 1010 a (omega arith))
+near in_condition a h = rw (lt-leb 1008 a (omega arith))
 
 module _ (g : Grammar) (here : Place) (role : Role) (s : ℕ) where
   -- the arguments that the operation of the number a wants, if the check lets it stand here
@@ -86,11 +86,11 @@ module _ (g : Grammar) (here : Place) (role : Role) (s : ℕ) where
 
 operations_agree : (g : Grammar) (here : Place) (role : Role) (s : ℕ) → Plays here role → Agree g here role s operations 1000
 unfolding applies_operation operates_on wanted_by_edit wanted_by_operation operates_of is_replacing scope_fits wanted_in operations
-operations_agree g inReplacement replacing s p = ((refl, refl), ((refl, refl), ((refl, refl), ((refl, refl), ((refl, refl), ((refl, refl), ((refl, refl), ((refl, refl), ((refl, refl), ((refl, refl), ((refl, refl), ((refl, refl), ((refl, refl), ((refl, refl), ((refl, refl), ((refl, refl), omega arith))))))))))))))))
-operations_agree g inCondition testing s p = ((refl, refl), ((refl, refl), ((refl, refl), ((refl, refl), ((refl, refl), ((refl, refl), ((refl, refl), ((refl, refl), ((refl, refl), ((refl, refl), ((refl, refl), ((refl, refl), ((refl, refl), ((refl, refl), ((refl, refl), ((refl, refl), omega arith))))))))))))))))
+operations_agree g in_replacement replacing s p = ((refl, refl), ((refl, refl), ((refl, refl), ((refl, refl), ((refl, refl), ((refl, refl), ((refl, refl), ((refl, refl), ((refl, refl), ((refl, refl), ((refl, refl), ((refl, refl), ((refl, refl), ((refl, refl), ((refl, refl), ((refl, refl), omega arith))))))))))))))))
+operations_agree g in_condition testing s p = ((refl, refl), ((refl, refl), ((refl, refl), ((refl, refl), ((refl, refl), ((refl, refl), ((refl, refl), ((refl, refl), ((refl, refl), ((refl, refl), ((refl, refl), ((refl, refl), ((refl, refl), ((refl, refl), ((refl, refl), ((refl, refl), omega arith))))))))))))))))
 operations_agree g in_pattern role s p = absurd p
-operations_agree g inReplacement testing s p = absurd p
-operations_agree g inCondition replacing s p = absurd p
+operations_agree g in_replacement testing s p = absurd p
+operations_agree g in_condition replacing s p = absurd p
 
 -- a rule that is not there
 absent : (g : Grammar) (rules : Rules) (Γ : Types) (role : Role) (s : ℕ) (xs : List ℕ) (a : ℕ) → get_elem? rules a ≡ none → applies_of g rules Γ role s xs (rule a) ≡ false

@@ -15,7 +15,7 @@ use Rattle.tree.specs.Dues.{Next, first_word, second_word, leaves, whole}
 use Rattle.tree.proofs.Dues.{plain, placed, done, bind, when, bind_when, when_none, exact}
 use Rattle.rules.specs.Limits.{most_rules, mark_chain}
 use Rattle.rules.specs.Rules.{Rules, Application, condition, pairs_in, chain_of, condition_of, unreadable}
-use Rattle.judgement.specs.Typing.{inCondition, Due, a_chain, application_count, Context, meets}
+use Rattle.judgement.specs.Typing.{in_condition, Due, a_chain, application_count, Context, meets}
 use Rattle.judgement.specs.WellTyped.{Types, testing}
 use Rattle.judgement.specs.Tested.{on_some, all_apply_of, part_of}
 use Rattle.judgement.proofs.Accept.{meet, read, whole_read, leaving}
@@ -32,14 +32,14 @@ read_variable {A} Γ x f = go (ltb x (length Γ)) refl
 
 module _ (g : Grammar) (rules : Rules) (few : length rules ≤ most_rules) where
   abbrev run : Words → List Due → Context → Option Context
-  run ws ds Γ = read g rules inCondition ws ds Γ
+  run ws ds Γ = read g rules in_condition ws ds Γ
 
   -- the variables, if the applications fit a scope of type t
   abbrev fitting : Context → List Application → ℕ → Option Types
   fitting Γ apps t = cond (all_apply_of g rules Γ testing t apps) (some Γ) none
 
   -- the condition's first pair
-  first_meet : (Γ : Context) (t v : ℕ) → meet g rules inCondition a_chain Γ t v ≡ when (eqb t mark_chain) (when (ltb v (length Γ)) (leaving Γ (application_count (get_or Γ v 0) ∷ [])))
+  first_meet : (Γ : Context) (t v : ℕ) → meet g rules in_condition a_chain Γ t v ≡ when (eqb t mark_chain) (when (ltb v (length Γ)) (leaving Γ (application_count (get_or Γ v 0) ∷ [])))
   unfolding meet meets
   first_meet Γ t v = go (eqb t mark_chain) (ltb v (length Γ)) (application_count (get_or Γ v 0) ∷ [])
     where
@@ -63,7 +63,7 @@ module _ (g : Grammar) (rules : Rules) (few : length rules ≤ most_rules) where
       go false e = let z = leb-false (length ws) n e in lt-leb (length (drop n ws)) 0 (omega (arith, length-drop n ws))
 
   bad : (Γ : Types) (x : ℕ) → none ≡ on_some (get_elem? Γ x) (fitting Γ unreadable)
-  bad Γ x = rw (read_variable Γ x (fitting Γ unreadable), unreadable_fails g rules inCondition testing tt few Γ (get_or Γ x 0)) (when_none (ltb x (length Γ)))
+  bad Γ x = rw (read_variable Γ x (fitting Γ unreadable), unreadable_fails g rules in_condition testing tt few Γ (get_or Γ x 0)) (when_none (ltb x (length Γ)))
 
   condition_exact : (negated : Bool) (ws : Words) (Γ : Context) → run ws (a_chain ∷ []) Γ ≡ part_of g rules Γ (condition negated (get_or ws 1 0) (condition_of ws))
   unfolding exact meet part_of condition_of
@@ -88,7 +88,7 @@ module _ (g : Grammar) (rules : Rules) (few : length rules ≤ most_rules) where
       chosen b = elim b as (λ x. List Application) [ true ↦ chain_of ws | false ↦ unreadable ]
 
       behind : (c : Bool) → leb (length ws) n ≡ c → run ws (application_count s ∷ []) Γ ≡ when all (when c (some Γ))
-      behind c e = chain_exact g rules inCondition testing tt few s ws [] Γ ∙ ap (when all) (no_more (drop n ws) Γ ∙ ap (λ b. when b (some Γ)) (dropped n ws ∙ e))
+      behind c e = chain_exact g rules in_condition testing tt few s ws [] Γ ∙ ap (when all) (no_more (drop n ws) Γ ∙ ap (λ b. when b (some Γ)) (dropped n ws ∙ e))
 
       same : (a : Bool) → when a (some Γ) ≡ cond a (some Γ) none
       same true = refl
@@ -105,5 +105,5 @@ module _ (g : Grammar) (rules : Rules) (few : length rules ≤ most_rules) where
 
   -- the pairs of a condition
   pub condition_whole : (negated : Bool) (ws : Words) (Γ : Context) (at : ℕ)
-      → plain (whole (meets g rules inCondition) 23 ws (a_chain ∷ []) Γ at) ≡ placed (part_of g rules Γ (condition negated (get_or ws 1 0) (condition_of ws))) (at + length ws)
-  condition_whole negated ws Γ at = whole_read g rules inCondition ws a_chain Γ at ∙ ap (λ o. placed o (at + length ws)) (condition_exact negated ws Γ)
+      → plain (whole (meets g rules in_condition) 23 ws (a_chain ∷ []) Γ at) ≡ placed (part_of g rules Γ (condition negated (get_or ws 1 0) (condition_of ws))) (at + length ws)
+  condition_whole negated ws Γ at = whole_read g rules in_condition ws a_chain Γ at ∙ ap (λ o. placed o (at + length ws)) (condition_exact negated ws Γ)

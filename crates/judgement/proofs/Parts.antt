@@ -20,7 +20,7 @@ use Rattle.rules.specs.Limits.{most_rules, most_variables}
 use Rattle.rules.specs.Rules.{Rules, Part, Shape, Application, deconstruct, search, construct, condition, shapes, pieces, condition_of}
 use Rattle.rules.specs.Layout.{PartAt, deconstruct_at, construct_at, condition_at, stretch, part_at, part, part_of as decoded}
 use Rattle.rules.proofs.Laid.{Stretch, Told, part_tells, part_value}
-use Rattle.judgement.specs.Typing.{in_pattern, inReplacement, inCondition, a_tree, a_chain, Context, typed, variable_there, part_typed, parts_typed}
+use Rattle.judgement.specs.Typing.{in_pattern, in_replacement, in_condition, a_tree, a_chain, Context, typed, variable_there, part_typed, parts_typed}
 use Rattle.judgement.specs.WellTyped.{Types, Has, testing, Pattern, pattern_end, a_node, a_new, a_same, PartFits, deconstructs, searches_for, constructs, tests, PartsFit, no_part, a_part}
 use Rattle.judgement.specs.Tested.{one_pattern, one_replacement, all_apply_of, part_of, parts_of}
 use Rattle.judgement.proofs.Tested.{part_of_lem, parts_of_lem}
@@ -82,7 +82,7 @@ module _ (g : Grammar) (rules : Rules) (ws : Words) (bounded : Bounded g) (few :
     typed_pattern t lt n = pattern_whole g rules bounded (stretch ws p) t Γ (suc p) st.even lt n ∙ ap (placed (limited (one_pattern g Γ (shapes (stretch ws p)) t))) st.ends
 
     pub typed_replacement : (t : ℕ) → t < most_types
-        → plain (typed g rules ws inReplacement (a_tree (tree 1 t)) Γ p) ≡ placed (when (one_replacement g rules Γ (pieces (stretch ws p)) t) (some Γ)) next
+        → plain (typed g rules ws in_replacement (a_tree (tree 1 t)) Γ p) ≡ placed (when (one_replacement g rules Γ (pieces (stretch ws p)) t) (some Γ)) next
     unfolding typed
     typed_replacement t lt =
         replacement_whole g rules bounded few (stretch ws p) t Γ (suc p) st.even lt ∙ ap (placed (when (one_replacement g rules Γ (pieces (stretch ws p)) t) (some Γ))) st.ends
@@ -91,7 +91,7 @@ module _ (g : Grammar) (rules : Rules) (ws : Words) (bounded : Bounded g) (few :
     abbrev chain_part : Bool → Part
     chain_part negated = condition negated (get_or (stretch ws p) 1 0) (condition_of (stretch ws p))
 
-    typed_condition : (negated : Bool) → plain (typed g rules ws inCondition a_chain Γ p) ≡ placed (part_of g rules Γ (chain_part negated)) next
+    typed_condition : (negated : Bool) → plain (typed g rules ws in_condition a_chain Γ p) ≡ placed (part_of g rules Γ (chain_part negated)) next
     unfolding typed
     typed_condition negated = condition_whole g rules few negated (stretch ws p) Γ (suc p) ∙ ap (placed (part_of g rules Γ (chain_part negated))) st.ends
 
@@ -139,11 +139,11 @@ module _ (g : Grammar) (rules : Rules) (ws : Words) (bounded : Bounded g) (few :
           no_room true e = rw e
           no_room false e = refl
 
-          go : (c : Bool) → ltb (length Γ) most_variables ≡ c → plain (and_then (require c 24 0 at) (λ u next. and_then (typed g rules ws inReplacement (a_tree (tree 1 s)) Γ p) (λ Δ. return built)))
+          go : (c : Bool) → ltb (length Γ) most_variables ≡ c → plain (and_then (require c 24 0 at) (λ u next. and_then (typed g rules ws in_replacement (a_tree (tree 1 s)) Γ p) (λ Δ. return built)))
               ≡ placed (limited (cond fits (some built) none)) next
           go true e =
               let z = ltb-true (length Γ) most_variables e in
-              plain_then (typed g rules ws inReplacement (a_tree (tree 1 s)) Γ p) (when fits (some Γ)) next (λ Δ. return built) (λ Δ. some built) next (typed_replacement s lt) (λ Δ q. refl)
+              plain_then (typed g rules ws in_replacement (a_tree (tree 1 s)) Γ p) (when fits (some Γ)) next (λ Δ. return built) (λ Δ. some built) next (typed_replacement s lt) (λ Δ q. refl)
               ∙ ap (λ o. placed o next) (room fits (le-leb (length built) most_variables (omega (arith, length-append Γ (s ∷ [])))))
           go false e =
               let z = ltb-false (length Γ) most_variables e in

@@ -69,7 +69,7 @@ over g ps Γ due h = limited_none (pattern_of g Γ ps due) (λ Δ e. let z = pat
 
 -- the shape that a pair stands for
 abbrev shape_of : Bool → Bool → ℕ → ℕ → Shape
-shape_of is_new isVariable t v = pick is_new (new v) (pick isVariable (same v) (node t v))
+shape_of is_new is_variable t v = pick is_new (new v) (pick is_variable (same v) (node t v))
 
 -- the variables after the shapes, if they stand for trees of the types at the nestings
 abbrev answer : Grammar → Context → List Shape → List ℕ → List ℕ → Option Context

@@ -19,7 +19,7 @@ use Rattle.rules.specs.Limits.{most_rules, most_parts, most_variables}
 use Rattle.rules.specs.Rules.{Rules, Rule, Part, Piece, shapes, pieces}
 use Rattle.rules.specs.Layout.{Head, bit, only_if, stretch, field, pairs, replacement, part, head, parts, rule}
 use Rattle.rules.proofs.Laid.{Stretch, pairs_value, HeadTold, head_value, rule_value, made}
-use Rattle.judgement.specs.Typing.{in_pattern, inReplacement, a_tree, Context, typed, parts_typed, rule_typed}
+use Rattle.judgement.specs.Typing.{in_pattern, in_replacement, a_tree, Context, typed, parts_typed, rule_typed}
 use Rattle.judgement.specs.WellTyped.{Types}
 use Rattle.judgement.specs.Tested.{some_is, one_pattern, one_replacement, parts_of, replacement_of, rule_of}
 use Rattle.judgement.proofs.Tested.{no_some, one_pattern_of}
@@ -39,7 +39,7 @@ module _ (g : Grammar) (rules : Rules) (ws : Words) (bounded : Bounded g) (few :
   parts_check m Γ = only_if (bit 2 m) Γ (◌>>=◌ (field ws 1 most_parts) (λ k. parts_typed g rules ws k Γ))
 
   abbrev replacement_check : ℕ → ℕ → Context → Reader (Unit {0})
-  replacement_check m t Γ = ◌>>=◌ (only_if (bit 3 m) Γ (typed g rules ws inReplacement (a_tree (tree 1 t)) Γ)) (λ Δ. return (tt {0}))
+  replacement_check m t Γ = ◌>>=◌ (only_if (bit 3 m) Γ (typed g rules ws in_replacement (a_tree (tree 1 t)) Γ)) (λ Δ. return (tt {0}))
 
   parts_checked : (m n₁ n₂ : ℕ) (ps : List Part) (Γ : Context) → parts (length g) ws m n₁ ≡ value ps n₂ → Low Γ → length Γ ≤ most_variables
       → plain (parts_check m Γ n₁) ≡ placed (limited (parts_of g rules Γ ps)) n₂
@@ -68,17 +68,17 @@ module _ (g : Grammar) (rules : Rules) (ws : Words) (bounded : Bounded g) (few :
       returned false = refl
 
       there : (q n : ℕ) → q ≡ n₂ → some (pieces (stretch ws q)) ≡ o → n ≡ next → Stretch ws n₂ n
-          → plain (and_then (typed g rules ws inReplacement (a_tree (tree 1 t)) Γ n₂) (λ Δ. return (tt {0}))) ≡ placed (when (replacement_of g rules Γ t o) (some (tt {0}))) next
+          → plain (and_then (typed g rules ws in_replacement (a_tree (tree 1 t)) Γ n₂) (λ Δ. return (tt {0}))) ≡ placed (when (replacement_of g rules Γ t o) (some (tt {0}))) next
       there q n a y z st =
           rw (← y, a, ← z)
-          (plain_then (typed g rules ws inReplacement (a_tree (tree 1 t)) Γ n₂) (when fits (some Γ)) n (λ Δ. return (tt {0})) (λ Δ. some (tt {0})) n (typed_replacement g rules ws bounded few n₂ n st Γ t lt) (λ Δ q. refl)
+          (plain_then (typed g rules ws in_replacement (a_tree (tree 1 t)) Γ n₂) (when fits (some Γ)) n (λ Δ. return (tt {0})) (λ Δ. some (tt {0})) n (typed_replacement g rules ws bounded few n₂ n st Γ t lt) (λ Δ q. refl)
           ∙ ap (λ o. placed o n) (returned fits))
         where
           fits : Bool
           fits = one_replacement g rules Γ (pieces (stretch ws n₂)) t
 
       go : (b : Bool) → only_if b none (replacement_reader ws) n₂ ≡ value o next
-          → plain (and_then (only_if b Γ (typed g rules ws inReplacement (a_tree (tree 1 t)) Γ) n₂) (λ Δ. return (tt {0}))) ≡ placed (when (replacement_of g rules Γ t o) (some (tt {0}))) next
+          → plain (and_then (only_if b Γ (typed g rules ws in_replacement (a_tree (tree 1 t)) Γ) n₂) (λ Δ. return (tt {0}))) ≡ placed (when (replacement_of g rules Γ t o) (some (tt {0}))) next
       go true e =
           let x = then_value (pairs ws n₂) (λ q. return (some (pieces (stretch ws q)))) e in
           let p = pairs_value ws n₂ x.2 in

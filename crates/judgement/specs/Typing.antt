@@ -17,7 +17,7 @@ use Rattle.judgement.specs.Wanted.{Wanted, exactly, a_number, to_join, a_sequenc
 
 -- where pairs stand
 pub data Place : Type 0 where
-  in_pattern inReplacement inCondition : Place
+  in_pattern in_replacement in_condition : Place
 
 -- what is due at a pair
 pub data Due : Type 0 where
@@ -41,8 +41,8 @@ Context = List ℕ
 -- the first words that may stand where a tree of type d is due: a node's type, 64 "in a pattern, a new variable", 65 "variable", 66 "in a replacement a group"
 unfoldable pub may_stand : Place → ℕ → ℕ → Bool
 may_stand in_pattern d t = or (eqb t d) (or (eqb t mark_new) (eqb t mark_variable))
-may_stand inReplacement d t = or (eqb t d) (or (eqb t mark_variable) (eqb t mark_chain))
-may_stand inCondition d t = false
+may_stand in_replacement d t = or (eqb t d) (or (eqb t mark_variable) (eqb t mark_chain))
+may_stand in_condition d t = false
 
 -- is there one?
 unfoldable pub is_some : {A : Type 0} → Option A → Bool
@@ -51,14 +51,14 @@ is_some (some a) = true
 
 -- "Replacements apply rules with bit 3 or operations 1,000 to 1,005; tests apply any rule, or 1,008 and 1,009"
 unfoldable pub applies_rule : Place → Rule → Bool
-applies_rule inCondition r = true
-applies_rule inReplacement r = is_some r.replacement
+applies_rule in_condition r = true
+applies_rule in_replacement r = is_some r.replacement
 applies_rule in_pattern r = false
 
 -- may the operation of this number stand here? 1,010 to 1,015: "Only replacements apply these operations, not tests"
 unfoldable pub applies_operation : Place → ℕ → Bool
-applies_operation inCondition o = between 1008 1009 o
-applies_operation inReplacement o = or (between 1000 1005 o) (between 1010 1015 o)
+applies_operation in_condition o = between 1008 1009 o
+applies_operation in_replacement o = or (between 1000 1005 o) (between 1010 1015 o)
 applies_operation in_pattern o = false
 
 -- "A rule without reach applies only to its target type"
@@ -174,8 +174,8 @@ module _ (g : Grammar) (rules : Rules) (ws : Words) where
   unfoldable pub part_typed : PartAt → Context → Reader Context
   part_typed (deconstruct_at none x p) Γ at = and_then (variable_there Γ x) (λ v next. typed in_pattern (a_tree (tree 1 (get_or Γ v 0))) Γ p)
   part_typed (deconstruct_at (some s) x p) Γ at = and_then (variable_there Γ x) (λ v next. typed in_pattern (a_tree (tree 1 s)) Γ p)
-  part_typed (construct_at s p) Γ at = and_then (require (ltb (length Γ) most_variables) 24 0 at) (λ u next. and_then (typed inReplacement (a_tree (tree 1 s)) Γ p) (λ Δ. return (Γ ++ s ∷ [])))
-  part_typed (condition_at negated p) Γ at = typed inCondition a_chain Γ p
+  part_typed (construct_at s p) Γ at = and_then (require (ltb (length Γ) most_variables) 24 0 at) (λ u next. and_then (typed in_replacement (a_tree (tree 1 s)) Γ p) (λ Δ. return (Γ ++ s ∷ [])))
+  part_typed (condition_at negated p) Γ at = typed in_condition a_chain Γ p
 
   -- k parts, one after the other: each sees the variables of those before it
   unfoldable pub parts_typed : ℕ → Context → Reader Context
@@ -190,7 +190,7 @@ module _ (g : Grammar) (rules : Rules) (ws : Words) where
     Δ ← only_if (bit 2 h.map) Γ (do
       k ← field ws 1 most_parts
       parts_typed k Γ)
-    Θ ← only_if (bit 3 h.map) Δ (typed inReplacement (a_tree (tree 1 h.target)) Δ)
+    Θ ← only_if (bit 3 h.map) Δ (typed in_replacement (a_tree (tree 1 h.target)) Δ)
     return tt
 
   -- 23 at "the rule's target word, where rule 0 lacks reach and has not type 0"

@@ -144,7 +144,7 @@ module _ (g : Grammar) (ws : Words) (q p above : ℕ) (sequence : Bool) (i : ℕ
       }
 
   -- q lies in the first tree, below its root
-  enter : (w t : ℕ) (s : Bool) → w ≡ get_or (marked g ws) p 0 → t ≡ type_in w → s ≡ is_sequence g t → p < q → q < p + 2 * size_in w → (half-q : ℕ) → q ≡ 2 * half-q → Down g ws q (p + 2) m s 0
+  enter : (w t : ℕ) (s : Bool) → w ≡ get_or (marked g ws) p 0 → t ≡ type_in w → s ≡ is_sequence g t → p < q → q < p + 2 * size_in w → (half_q : ℕ) → q ≡ 2 * half_q → Down g ws q (p + 2) m s 0
   unfolding node_nesting marked mark_of
   enter w t s ew et es before within hq eq =
       let y = child w ew in
@@ -154,7 +154,7 @@ module _ (g : Grammar) (ws : Words) (q p above : ℕ) (sequence : Bool) (i : ℕ
       let r : Trees g (c ∷ (drop (i + 1) d.types ++ d.rest)) (t₀ ∷ v ∷ z) = rw pair at here in
       let k = tells r in
       let low : t₀ < 64 = rw k.0 (omega (arith, type_there g c v k.1)) in
-      let is-type : t ≡ t₀ = et ∙ ap type_in (ew ∙ marked_drop g ws d.half p d.even ∙ ap (λ l. get_or (marked g l) 0 0) pair) ∙ mark_type t₀ _ _ low in
+      let is_type : t ≡ t₀ = et ∙ ap type_in (ew ∙ marked_drop g ws d.half p d.even ∙ ap (λ l. get_or (marked g l) 0 0) pair) ∙ mark_type t₀ _ _ low in
       let one : length (first_tree g x) ≡ suc (suc (length (first g z (length (children g t₀ v))))) = ap (λ l. length (first_tree g l)) pair ∙ ap length (first_one g t₀ v z) in
       let far : q - p ≡ suc (suc (q - (p + 2))) = omega (arith, d.even) in
       record {
@@ -170,7 +170,7 @@ module _ (g : Grammar) (ws : Words) (q p above : ℕ) (sequence : Bool) (i : ℕ
         trees = rw k.0 k.2;
         is = is_here ∙ ap (λ l. node_nesting g l (m ∷ (drop (i + 1) d.deep ++ d.deeper)) (q - p)) pair ∙ ap (node_nesting g (t₀ ∷ v ∷ z) (m ∷ (drop (i + 1) d.deep ++ d.deeper))) far;
         inside = omega (arith, one, first_even g x 1, y.counted, d.even);
-        level = λ j l. level_at g t₀ v m j (omega (arith, levels_length g t₀ v m)) ∙ ap (λ b. m + pick (and b (eqb j 1)) 0 1) (sym (es ∙ ap (is_sequence g) is-type));
+        level = λ j l. level_at g t₀ v m j (omega (arith, levels_length g t₀ v m)) ∙ ap (λ b. m + pick (and b (eqb j 1)) 0 1) (sym (es ∙ ap (is_sequence g) is_type));
       }
 
   -- q is reached

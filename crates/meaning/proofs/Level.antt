@@ -19,7 +19,7 @@ use Rattle.tree.specs.Tree as T
 use Rattle.tree.specs.Tree.{Trees, Tree, size, are_trees, is_tree, after, first_tree, type_of, put}
 use Rattle.tree.proofs.Trees.{tells, trees_append, trees_even, first_append, size_append, and_intro, trees_pass, tree_passes, tree_type}
 use Rattle.rules.specs.Limits.{most_variables}
-use Rattle.rules.specs.Rules.{Operation, Edit, Applied, rule, operation, editing, Application, Piece, Part, Strategy, root_only, firstMatch, exhaustive, onePass, searches, Rule, Rules}
+use Rattle.rules.specs.Rules.{Operation, Edit, Applied, rule, operation, editing, Application, Piece, Part, Strategy, root_only, first_match, exhaustive, one_pass, searches, Rule, Rules}
 use Rattle.judgement.specs.Wanted.{Wanted, wants, scope_fits, wanted_in}
 use Rattle.judgement.specs.WellTyped.{Types, Role, replacing, testing, Operates, adds, subtracts, divides, remains, rounds, truncates, equals, exceeds, Usable, Applies, a_rule, an_operation, an_edit, AllApply, all_none, all_more, Replacement, pieces_end, a_written, a_copy, a_chain, PartFits, deconstructs, searches_for, constructs, tests, PartsFit, no_part, a_part, RuleFits}
 use Rattle.judgement.specs.Tested.{is_replacing}
@@ -209,8 +209,8 @@ after_round_sound : {g : Grammar} {t : ℕ} {n : State} {scope : Words} {x y : R
 unfolding after_round
 after_round_sound tree k s (goes {a = none} {l} h p) f = record { agree = refl; ends = tt; scope = tree; attempts = h }
 after_round_sound tree k exhaustive (goes {a = some next} {l} h p) f = sound_less h (f next.scope 0 l p.0.tree (from_start p.0.tree) p.1)
-after_round_sound tree k onePass (goes {a = some next} {l} h p) f = sound_less h (f next.scope next.behind l p.0.tree p.0.from p.1)
-after_round_sound tree k firstMatch (goes {a = some next} {l} h p) f = record { agree = refl; ends = tt; scope = p.0.tree; attempts = h }
+after_round_sound tree k one_pass (goes {a = some next} {l} h p) f = sound_less h (f next.scope next.behind l p.0.tree p.0.from p.1)
+after_round_sound tree k first_match (goes {a = some next} {l} h p) f = record { agree = refl; ends = tt; scope = p.0.tree; attempts = h }
 after_round_sound tree k root_only (goes {a = some next} {l} h p) f = record { agree = refl; ends = tt; scope = p.0.tree; attempts = h }
 after_round_sound tree k s (stops h a b) f = record { agree = refl; ends = (a, b); scope = tree; attempts = h }
 

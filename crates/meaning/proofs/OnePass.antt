@@ -16,7 +16,7 @@ use Rattle.grammar.specs.Grammar.{Grammar}
 use Rattle.grammar.specs.Kinds.{children}
 use Rattle.tree.specs.Tree.{Trees, size, is_tree, after, first_tree, type_of, put}
 use Rattle.tree.proofs.Trees.{first_append, passes_tree}
-use Rattle.rules.specs.Rules.{Piece, Strategy, onePass, searches, Rule, Rules}
+use Rattle.rules.specs.Rules.{Piece, Strategy, one_pass, searches, Rule, Rules}
 use Rattle.meaning.specs.Limits.{most_calls}
 use Rattle.meaning.specs.declared.State.{State}
 use Rattle.meaning.specs.Computation.{initial, Result, ok, stop, stuck, Comp, then_of, spend_of, spend, surely, check, choose, whether}
@@ -171,7 +171,7 @@ opened_costs scope rest (stops h e) f = stops h e
 opened_costs scope rest sticks f = sticks
 
 -- what a round leaves to be tried pays for the rest
-round_costs : {most : ℕ} {n : State} {x : Result (Option Turned)} (target : ℕ) (scope : Words) (k : ℕ) (s : Strategy) (rest : Words → ℕ → State → Called) → s ≡ onePass → Costs (Leaves target) most n x
+round_costs : {most : ℕ} {n : State} {x : Result (Option Turned)} (target : ℕ) (scope : Words) (k : ℕ) (s : Strategy) (rest : Words → ℕ → State → Called) → s ≡ one_pass → Costs (Leaves target) most n x
     → ((next : Words) (place : ℕ) (l : State) → Ended (nodes_of target (drop place next)) l (rest next place l)) → Ended most n (after_round scope k s rest x)
 unfolding after_round result_of result_as
 round_costs target scope k s rest is (goes {a = none} m e h) f = goes m tt h
@@ -204,7 +204,7 @@ module _ (g : Grammar) (rules : Rules) (deeper : Calls) (ps : List Piece) (alone
         returns (z.0 ∙ p.1 ∙ ap (nodes_of r.target) (sym z.1)))
         (λ l. returns tt)
 
-    rounds_costs : r.strategy ≡ onePass → (most : ℕ) (scope : Words) (place k : ℕ) (n : State)
+    rounds_costs : r.strategy ≡ one_pass → (most : ℕ) (scope : Words) (place k : ℕ) (n : State)
         → Ended (nodes_of r.target (drop place scope)) n (M.rounds true g rules deeper most r ps args scope place besides k n)
     unfolding M.rounds result_of result_as
     rounds_costs is zero scope place k n = sticks

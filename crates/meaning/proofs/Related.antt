@@ -15,7 +15,7 @@ use Rattle.grammar.specs.Limits.{greatest_number}
 use Rattle.tree.specs.Limits.{most_nodes, most_nesting}
 use Rattle.tree.specs.Tree.{size, nesting, are_trees, is_tree, after, first_tree, type_of, put}
 use Rattle.rules.specs.Limits.{most_variables}
-use Rattle.rules.specs.Rules.{Applied, rule, operation, editing, nothing, Operation, add, subtract, quotient, remainder, round, truncate, equal, greater, Shape, node, new, same, Application, Piece, write, copy, chain, Part, deconstruct, search, construct, condition, Strategy, root_only, firstMatch, exhaustive, onePass, searches, Rule, Rules}
+use Rattle.rules.specs.Rules.{Applied, rule, operation, editing, nothing, Operation, add, subtract, quotient, remainder, round, truncate, equal, greater, Shape, node, new, same, Application, Piece, write, copy, chain, Part, deconstruct, search, construct, condition, Strategy, root_only, first_match, exhaustive, one_pass, searches, Rule, Rules}
 use Rattle.meaning.specs.Limits.{most_live, most_calls}
 use Rattle.meaning.specs.declared.State.{State}
 use Rattle.meaning.specs.Computation.{initial, Result, ok, stop, stuck, Comp, then_of, spend, stop_unless, surely, check, present, choose, whether, nodes_within, nesting_within, live_within}
@@ -192,8 +192,8 @@ module _ (R : State → State → Type 0) (Free Kept : ℕ → State → Type 0)
   unfolding after_round
   after_related scope k s rest rest' (goes {a = none} r) f = both r
   after_related scope k exhaustive rest rest' (goes {a = some t} {l} {m} r) f = f t.scope 0 l m r
-  after_related scope k onePass rest rest' (goes {a = some t} {l} {m} r) f = f t.scope t.behind l m r
-  after_related scope k firstMatch rest rest' (goes {a = some t} r) f = both r
+  after_related scope k one_pass rest rest' (goes {a = some t} {l} {m} r) f = f t.scope t.behind l m r
+  after_related scope k first_match rest rest' (goes {a = some t} r) f = both r
   after_related scope k root_only rest rest' (goes {a = some t} r) f = both r
   after_related scope k s rest rest' (stops i r) f = stopped_both i r
   after_related scope k s rest rest' (free h) f = stopped_free h

@@ -22,35 +22,35 @@ defined_ran before x = record { outcome = refl; result = refl; work = refl }
 
 -- ONE STEP
 
-module _ (o : Outcome) (before after : Memories) (isResult : after.result ≡ result_after o before.result) (isWork : after.work ≡ work_after o before.work) where
+module _ (o : Outcome) (before after : Memories) (is_result : after.result ≡ result_after o before.result) (is_work : after.work ≡ work_after o before.work) where
   leaves : (q : Outcome) → o ≡ q → Leaves before q after
   unfolding result_after work_after
-  leaves (refused n p) e = (rw e at isResult, rw e at isWork)
+  leaves (refused n p) e = (rw e at is_result, rw e at is_work)
   leaves (ended s a k ws) e =
-      let r : after.result ≡ ws ++ drop (length ws) before.result = rw e at isResult in
-      (rw r (take_at ws (drop (length ws) before.result) (length ws) refl), rw r (drop_at ws (drop (length ws) before.result) (length ws) refl), rw e at isWork)
+      let r : after.result ≡ ws ++ drop (length ws) before.result = rw e at is_result in
+      (rw r (take_at ws (drop (length ws) before.result) (length ws) refl), rw r (drop_at ws (drop (length ws) before.result) (length ws) refl), rw e at is_work)
 
   work_kept : (q : Outcome) → o ≡ q → length after.work ≡ length before.work
   unfolding work_after
-  work_kept (refused n p) e = ap length (rw e at isWork)
+  work_kept (refused n p) e = ap length (rw e at is_work)
   work_kept (ended s a k ws) e =
-      let w : after.work ≡ replicate (length before.work) 0 = rw e at isWork in
+      let w : after.work ≡ replicate (length before.work) 0 = rw e at is_work in
       ap length w ∙ length-replicate {A = ℕ} (length before.work) 0
 
   result_kept : (work : ℕ) (x : Inputs) (q : Outcome) → o ≡ q → Sure (length before.result) work x q → length after.result ≡ length before.result
   unfolding result_after
-  result_kept work x (refused n p) e h = ap length (rw e at isResult)
+  result_kept work x (refused n p) e h = ap length (rw e at is_result)
   result_kept work x (ended s a k ws) e h =
-      let r : after.result ≡ ws ++ drop (length ws) before.result = rw e at isResult in
+      let r : after.result ≡ ws ++ drop (length ws) before.result = rw e at is_result in
       ap length r ∙ over_length ws before.result h.fits
 
   word_after_lem : (q : Outcome) → o ≡ q → (more : List Outcome) (i : ℕ) → word_after (q ∷ more) i (get_or before.result i 0) ≡ word_after more i (get_or after.result i 0)
   unfolding word_after result_after
   word_after_lem (refused n p) e more i =
-      let r : after.result ≡ before.result = rw e at isResult in
+      let r : after.result ≡ before.result = rw e at is_result in
       rw r
   word_after_lem (ended s a k ws) e more i =
-      let r : after.result ≡ ws ++ drop (length ws) before.result = rw e at isResult in
+      let r : after.result ≡ ws ++ drop (length ws) before.result = rw e at is_result in
       rw (r, over_word ws before.result i)
 
   posts : (work : ℕ) (x : Inputs) (slip : Words) (q : Outcome) → o ≡ q → Sure (length before.result) work x q → output (is_done q) (length (filled_by q)) after.result slip ≡ pick (is_done q) (filled_by q) slip

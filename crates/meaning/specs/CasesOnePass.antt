@@ -2,7 +2,7 @@
 use Rattle.std.specs.Prelude.{ℕ, ◌≡◌, refl, List, [], ◌∷◌, Bool, true, false}
 use Rattle.std.proofs.Math.Option.{some}
 use Rattle.words.specs.Reader.{Words}
-use Rattle.rules.specs.Rules.{add, join, rule, operation, editing, nothing, new, Applied, Application, Piece, write, copy, chain, onePass, Rule}
+use Rattle.rules.specs.Rules.{add, join, rule, operation, editing, nothing, new, Applied, Application, Piece, write, copy, chain, one_pass, Rule}
 use Rattle.meaning.specs.OnePass.{PassesAlone}
 use Rattle.meaning.specs.OnePass as OnePass
 
@@ -30,7 +30,7 @@ calling =
 
 -- "rules that add a prefix": such a one has no parts and applies no rules
 prefixing : Rule
-prefixing = record { target = 2; strategy = onePass; parameters = []; pattern = new 2 ∷ []; parts = []; replacement = some (write 2 1 ∷ write 3 9 ∷ copy 0 ∷ []) }
+prefixing = record { target = 2; strategy = one_pass; parameters = []; pattern = new 2 ∷ []; parts = []; replacement = some (write 2 1 ∷ write 3 9 ∷ copy 0 ∷ []) }
 
 right : (counted ≡ 1 ∷ 3 ∷ 3 ∷ 3 ∷ 0 ∷ 1 ∷ 0 ∷ 0 ∷ []) × (calling ≡ false ∷ false ∷ false ∷ true ∷ true ∷ []) × PassesAlone prefixing
 unfolding OnePass.nodes_of OnePass.is_rule OnePass.calls_rule OnePass.applies_rules counted group calling prefixing

@@ -5,7 +5,7 @@ use Rattle.std.specs.Prelude.{ℕ, ◌≡◌, refl, List, [], ◌∷◌, true, f
 use Rattle.std.proofs.Math.Option.{Option, none, some}
 use Rattle.words.specs.Reader.{Words}
 use Rattle.grammar.specs.Grammar.{Grammar, repeat, token, sequence, forms}
-use Rattle.rules.specs.Rules.{add, round, equal, rule, operation, nothing, new, same, Application, Piece, write, copy, chain, Part, deconstruct, construct, condition, root_only, firstMatch, Rule, Rules}
+use Rattle.rules.specs.Rules.{add, round, equal, rule, operation, nothing, new, same, Application, Piece, write, copy, chain, Part, deconstruct, construct, condition, root_only, first_match, Rule, Rules}
 use Rattle.meaning.specs.Meaning.{Ending, done, stopped, cannot_go_on, run}
 use Rattle.words.specs.Views as Views
 use Rattle.grammar.specs.Kinds as Kinds
@@ -27,7 +27,7 @@ tree = 0 ∷ 0 ∷ 1 ∷ 0 ∷ 2 ∷ 200 ∷ 1 ∷ 1 ∷ []
 
 -- a main rule on the first number, which is its variable 0
 main : List Part → List Piece → Rule
-main ps to = record { target = 2; strategy = firstMatch; parameters = []; pattern = new 2 ∷ []; parts = ps; replacement = some to }
+main ps to = record { target = 2; strategy = first_match; parameters = []; pattern = new 2 ∷ []; parts = ps; replacement = some to }
 
 -- a root-only rule on numbers or on sequences, with parameters
 other : ℕ → List ℕ → Option (List Piece) → Rule

@@ -9,7 +9,7 @@ use Rattle.grammar.specs.Grammar.{Grammar}
 use Rattle.tree.specs.Tree.{size, are_trees, is_tree, after, first_tree, type_of, put}
 use Rattle.tree.specs.Blanks.{holds_blank}
 use Rattle.rules.specs.Limits.{most_variables}
-use Rattle.rules.specs.Rules.{Applied, rule, operation, editing, nothing, Shape, node, new, same, Application, Piece, write, copy, chain, Part, deconstruct, search, construct, condition, Strategy, root_only, firstMatch, exhaustive, onePass, searches, Rule, Rules}
+use Rattle.rules.specs.Rules.{Applied, rule, operation, editing, nothing, Shape, node, new, same, Application, Piece, write, copy, chain, Part, deconstruct, search, construct, condition, Strategy, root_only, first_match, exhaustive, one_pass, searches, Rule, Rules}
 use Rattle.meaning.specs.Limits.{most_calls}
 use Rattle.meaning.specs.declared.State.{State}
 use Rattle.meaning.specs.Computation.{initial, Result, ok, stop, stuck, Comp, ◌>>=◌, ◌>>◌, return, never, spend, surely, check, present, choose, whether, provided, nodes_within, nesting_within, live_within}
@@ -160,8 +160,8 @@ unfoldable pub after_round : Words → ℕ → Strategy → (Words → ℕ → S
 after_round scope k s rest (ok none left) = called scope k done left
 after_round scope k exhaustive rest (ok (some t) left) = rest t.scope 0 left
 -- T-06: "a matched tree is replaced and not entered"
-after_round scope k onePass rest (ok (some t) left) = rest t.scope t.behind left
-after_round scope k firstMatch rest (ok (some t) left) = called t.scope (suc k) done left
+after_round scope k one_pass rest (ok (some t) left) = rest t.scope t.behind left
+after_round scope k first_match rest (ok (some t) left) = called t.scope (suc k) done left
 after_round scope k root_only rest (ok (some t) left) = called t.scope (suc k) done left
 after_round scope k s rest (stop n left) = called scope k (stopped n) left
 after_round scope k s rest stuck = called scope k cannot_go_on (initial 0)

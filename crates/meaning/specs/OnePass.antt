@@ -3,7 +3,7 @@ use Rattle.std.specs.Prelude.{ℕ, ◌+◌, ◌≤◌, ◌≡◌, List, [], ◌�
 use Rattle.std.proofs.Math.Option.{some}
 use Rattle.std.proofs.Math.ListN.{get_elem?}
 use Rattle.words.specs.Reader.{Words, pick, or, value}
-use Rattle.rules.specs.Rules.{Applied, rule, operation, editing, nothing, Application, Piece, write, copy, chain, onePass, Rule}
+use Rattle.rules.specs.Rules.{Applied, rule, operation, editing, nothing, Application, Piece, write, copy, chain, one_pass, Rule}
 use Rattle.meaning.specs.Meaning.{Ending, stopped}
 use Rattle.meaning.specs.Outcome.{Inputs, Decoded, decode, ended, outcome}
 
@@ -34,7 +34,7 @@ applies_rules (chain x apps ∷ ps) = or (calls_rule apps) (applies_rules ps)
 
 -- "a main rule of reach 3 that has no parts and applies no rules"
 pub record PassesAlone (r : Rule) : Type 0 where
-  pub strategy : r.strategy ≡ onePass
+  pub strategy : r.strategy ≡ one_pass
   pub parts : r.parts ≡ []
   pub alone : (ps : List Piece) → r.replacement ≡ some ps → applies_rules ps ≡ false
 

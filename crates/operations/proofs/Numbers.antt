@@ -91,15 +91,15 @@ module _ (op a b x y : ℕ) (ex : x ≡ a) (ey : y ≡ b) where
   truncates h r e equal left k ns = absurd (omega (arith, operation_number op equal k))
   truncates h r e greater left k ns = absurd (omega (arith, operation_number op greater k))
 
-  module _ (not-add : op ≡ 1000 → ⊥) (not-subtract : op ≡ 1001 → ⊥) (not_round : op ≡ 1004 → ⊥) (not-truncate : op ≡ 1005 → ⊥) where
+  module _ (not_add : op ≡ 1000 → ⊥) (not_subtract : op ≡ 1001 → ⊥) (not_round : op ≡ 1004 → ⊥) (not_truncate : op ≡ 1005 → ⊥) where
     pub by_zero : y ≡ 0 → Operated op a b OutOfRange
     unfolding compute with_one number_of then_of stop_unless divisor
-    by_zero h add left k ns = absurd (not-add (operation_number op add k))
-    by_zero h subtract left k ns = absurd (not-subtract (operation_number op subtract k))
+    by_zero h add left k ns = absurd (not_add (operation_number op add k))
+    by_zero h subtract left k ns = absurd (not_subtract (operation_number op subtract k))
     by_zero h quotient left k ns = rw (eq-eqb b 0 (omega arith))
     by_zero h remainder left k ns = rw (eq-eqb b 0 (omega arith))
     by_zero h round left k ns = absurd (not_round (operation_number op round k))
-    by_zero h truncate left k ns = absurd (not-truncate (operation_number op truncate k))
+    by_zero h truncate left k ns = absurd (not_truncate (operation_number op truncate k))
     by_zero h equal left k ns = absurd (ns refl)
     by_zero h greater left k ns = absurd (ns refl)
 
@@ -109,23 +109,23 @@ module _ (op a b x y : ℕ) (ex : x ≡ a) (ey : y ≡ b) where
 
       pub divides : op ≡ 1002 → (r : Number) → r ≡ in_range_as (x / y * 100) → Operated op a b r
       unfolding compute with_one number_of then_of stop_unless divisor
-      divides h r e add left k ns = absurd (not-add (operation_number op add k))
-      divides h r e subtract left k ns = absurd (not-subtract (operation_number op subtract k))
+      divides h r e add left k ns = absurd (not_add (operation_number op add k))
+      divides h r e subtract left k ns = absurd (not_subtract (operation_number op subtract k))
       divides h r e quotient left k ns = rw (ne_eqb b 0 nonzero) (range_means (a / b * 100) left r (e ∙ rw (ex, ey)))
       divides h r e remainder left k ns = absurd (omega (arith, operation_number op remainder k))
       divides h r e round left k ns = absurd (not_round (operation_number op round k))
-      divides h r e truncate left k ns = absurd (not-truncate (operation_number op truncate k))
+      divides h r e truncate left k ns = absurd (not_truncate (operation_number op truncate k))
       divides h r e equal left k ns = absurd (ns refl)
       divides h r e greater left k ns = absurd (ns refl)
 
       pub remains : (op ≡ 1002 → ⊥) → (r : Number) → r ≡ in_range_as (x - y * (x / y)) → Operated op a b r
       unfolding compute with_one number_of then_of stop_unless divisor
-      remains h r e add left k ns = absurd (not-add (operation_number op add k))
-      remains h r e subtract left k ns = absurd (not-subtract (operation_number op subtract k))
+      remains h r e add left k ns = absurd (not_add (operation_number op add k))
+      remains h r e subtract left k ns = absurd (not_subtract (operation_number op subtract k))
       remains h r e quotient left k ns = absurd (h (operation_number op quotient k))
       remains h r e remainder left k ns = rw (ne_eqb b 0 nonzero) (range_means (a - b * (a / b)) left r (e ∙ rw (ex, ey)))
       remains h r e round left k ns = absurd (not_round (operation_number op round k))
-      remains h r e truncate left k ns = absurd (not-truncate (operation_number op truncate k))
+      remains h r e truncate left k ns = absurd (not_truncate (operation_number op truncate k))
       remains h r e equal left k ns = absurd (ns refl)
       remains h r e greater left k ns = absurd (ns refl)
 

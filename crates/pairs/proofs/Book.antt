@@ -13,7 +13,7 @@ use Rattle.words.proofs.Laws.{then_value, in_value, many_suc, many_length}
 use Rattle.grammar.specs.Grammar.{Grammar}
 use Rattle.tree.specs.Reading.{tree}
 use Rattle.rules.specs.Limits.{most_parameters}
-use Rattle.rules.specs.Rules.{Rule, Rules, root_only, firstMatch, exhaustive, onePass, searches}
+use Rattle.rules.specs.Rules.{Rule, Rules, root_only, first_match, exhaustive, one_pass, searches}
 use Rattle.rules.specs.Rules as Rules
 use Rattle.rules.specs.Layout.{Head, bit, only_if, strategy_of, field, reach, type_field, parameters, head_fields, head}
 use Rattle.rules.specs.Views.{head_read, strategy_as}
@@ -22,7 +22,7 @@ use Rattle.rules.specs.declared.Head.{Head as HeadFound}
 use Rattle.rules.specs.declared.HeadRead.{HeadRead}
 use Rattle.rules.specs.declared.HeadRead.TheVariants.{Header, NoHead}
 use Rattle.judgement.specs.Wanted.{exactly}
-use Rattle.judgement.specs.Typing.{Place, in_pattern, inReplacement, inCondition, a_tree, a_chain, application_count, application, argument, Context, meets, applies_rule, applies_operation, fits_scope, operates_on, usable, wanted_by_operation, wanted_by, no_rule}
+use Rattle.judgement.specs.Typing.{Place, in_pattern, in_replacement, in_condition, a_tree, a_chain, application_count, application, argument, Context, meets, applies_rule, applies_operation, fits_scope, operates_on, usable, wanted_by_operation, wanted_by, no_rule}
 use Rattle.dues.specs.declared.Met.{Met}
 use Rattle.dues.specs.declared.Met.TheVariants.{Bad, Top}
 use Rattle.dues.specs.Views.{wanted_of, due_of, Pushed, Meets, words_at, parameters_due, searches_as, applies_map, arguments_counted}
@@ -134,14 +134,14 @@ module _ (types : ℕ) (ws : Words) (at : ℕ) (r : HeadRead) (e : r ≡ head_re
       applies_is : (here : Place) → applies_rule here rule ≡ applies_map here f.map
       unfolding applies_rule
       applies_is in_pattern = refl
-      applies_is inReplacement = H.replaces ∙ rw (headed_is b)
-      applies_is inCondition = refl
+      applies_is in_replacement = H.replaces ∙ rw (headed_is b)
+      applies_is in_condition = refl
 
       searches_is : (s : Rules.Strategy) → searches_as (strategy_as s) ≡ searches s
       searches_is root_only = refl
-      searches_is firstMatch = refl
+      searches_is first_match = refl
       searches_is exhaustive = refl
-      searches_is onePass = refl
+      searches_is one_pass = refl
 
       pub fits_is : (s : ℕ) {q : Bool} → q ≡ or (searches_as f.strategy) (eqb f.target s) → q ≡ fits_scope rule s
       unfolding fits_scope

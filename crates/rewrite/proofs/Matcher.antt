@@ -547,7 +547,7 @@ module _ (heads pairs arena part : Words) (at : ℕ) (vars : Vars) (held₀ : �
           go_on (node more e f h k z) = absurd (omega arith)
 
       pub pair_bound : t ≡ 64 → 2 ≤ r → (env.n < 16) × Going heads pairs arena part at vars held₀ (bound env (at + p)) (held + r / 2) (i + 2) (p + r)
-      pair_bound is two-words = go_on told
+      pair_bound is two_words = go_on told
         where
           new_on : p + 2 ≤ length part → NewTold (get_or part p 0) v env.n held r → (env.n < 16) × Going heads pairs arena part at vars held₀ (bound env (at + p)) (held + r / 2) (i + 2) (p + r)
           new_on more (other h z) = absurd (omega arith)
@@ -567,7 +567,7 @@ module _ (heads pairs arena part : Words) (at : ℕ) (vars : Vars) (held₀ : �
           go_on (node more e f h k z) = absurd (e is)
 
       pub pair_on : (t ≡ 64 → ⊥) → 2 ≤ r → Going heads pairs arena part at vars held₀ env held (i + 2) (p + r)
-      pair_on not_new two-words = go_on told
+      pair_on not_new two_words = go_on told
         where
           go_on : PairTold heads arena part t v start p env.n held r → Going heads pairs arena part at vars held₀ env held (i + 2) (p + r)
           go_on (short h z) = absurd (omega arith)

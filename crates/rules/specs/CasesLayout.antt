@@ -5,7 +5,7 @@ use Rattle.words.specs.Reader.{Words, value, word, word_in, many, end}
 use Rattle.words.specs.Views.{answer}
 use Rattle.words.specs.declared.Check.{Check}
 use Rattle.words.specs.declared.Check.TheVariants.{Passed, Refused}
-use Rattle.rules.specs.Rules.{node, new, same, add, greater, operation, nothing, write, copy, chain, deconstruct, search, construct, condition, root_only, firstMatch, exhaustive, onePass, Rules, operations, applied, shapes, arguments, applications, pairs_in, arguments_written, applications_written, chain_written, unreadable, chain_of, condition_of, pieces_after, pieces}
+use Rattle.rules.specs.Rules.{node, new, same, add, greater, operation, nothing, write, copy, chain, deconstruct, search, construct, condition, root_only, first_match, exhaustive, one_pass, Rules, operations, applied, shapes, arguments, applications, pairs_in, arguments_written, applications_written, chain_written, unreadable, chain_of, condition_of, pieces_after, pieces}
 use Rattle.rules.specs.Layout.{strategy_of, stretch, field, pairs, variable_at, deconstruct_fields, condition_fields, part_of, reach, replacement, main_fits, main_bits, type_field, search_fields, construct_fields, part_at, part, parameters, head_fields, head, parts, rule as readRule, layout, read_layout}
 
 -- the number of types, a book's words, and the layout's answer
@@ -95,7 +95,7 @@ decoded : Rules
 decoded =
     record {
       target = 2;
-      strategy = firstMatch;
+      strategy = first_match;
       parameters = [];
       pattern = new 2 ∷ [];
       parts = construct 2 (write 2 100 ∷ []) ∷ condition false 0 (record { applied = operation greater; arguments = 1 ∷ [] } ∷ []) ∷ [];
@@ -117,7 +117,7 @@ decoded =
       parts = condition true 0 (record { applied = nothing; arguments = [] } ∷ []) ∷ [];
       replacement = some (chain 0 (record { applied = nothing; arguments = [] } ∷ []) ∷ []);
     }
-    ∷ record { target = 2; strategy = onePass; parameters = []; pattern = new 2 ∷ []; parts = []; replacement = some (copy 0 ∷ []) }
+    ∷ record { target = 2; strategy = one_pass; parameters = []; pattern = new 2 ∷ []; parts = []; replacement = some (copy 0 ∷ []) }
     ∷ []
 
 book : Words

@@ -4,7 +4,7 @@ use Rattle.std.specs.Prelude.{ℕ, ◌+◌, ◌-◌, ◌*◌, ◌%◌, ◌/◌, 
 use Rattle.std.proofs.Math.Option.{Option, none, some}
 use Rattle.words.specs.Reader.{Words, pick, and, or, Read, value, refused, Reader, and_then, ◌>>=◌, ◌>>◌, return, require, word, word_in, many, end}
 use Rattle.rules.specs.Limits.{most_rule_words, most_rules, most_parameters, most_parts, most_pairs}
-use Rattle.rules.specs.Rules.{Piece, Part, deconstruct, search, construct, condition, Strategy, root_only, firstMatch, exhaustive, onePass, Rule, Rules, shapes, condition_of, pieces}
+use Rattle.rules.specs.Rules.{Piece, Part, deconstruct, search, construct, condition, Strategy, root_only, first_match, exhaustive, one_pass, Rule, Rules, shapes, condition_of, pieces}
 
 -- a rule's fields before its pattern
 pub record Head : Type 0 where
@@ -33,7 +33,7 @@ only_if false a r = return a
 
 -- "reach: 1 first match anywhere, 2 until none is left. Without it only the scope's root is tried", here 0; T-06: "Add reach 3"
 unfoldable pub strategy_of : ℕ → Strategy
-strategy_of r = pick (eqb r 0) root_only (pick (eqb r 1) firstMatch (pick (eqb r 2) exhaustive onePass))
+strategy_of r = pick (eqb r 0) root_only (pick (eqb r 1) first_match (pick (eqb r 2) exhaustive one_pass))
 
 module _ (ws : Words) where
   -- the words of the pairs whose count stands at p

@@ -51,14 +51,14 @@ pub data Part : Type 0 where
 -- which nodes a rule tries, the paper's reach: "Without it only the scope's root is tried", "1 first match anywhere, 2 until none is left"; T-06: "reach 3, the one-pass
 -- rule"
 pub data Strategy : Type 0 where
-  root_only firstMatch exhaustive onePass : Strategy
+  root_only first_match exhaustive one_pass : Strategy
 
 -- has the rule a reach?
 abbrev pub searches : Strategy → Bool
 searches root_only = false
-searches firstMatch = true
+searches first_match = true
 searches exhaustive = true
-searches onePass = true
+searches one_pass = true
 
 -- "A rule without one [a replacement] is a condition"
 pub record Rule : Type 0 where

@@ -6,7 +6,7 @@ use Rattle.words.specs.declared.Got.{Got}
 use Rattle.words.specs.declared.Got.TheVariants.{Word, Bad}
 use Rattle.rules.specs.Rules as Rules
 use Rattle.rules.specs.Limits.{most_parameters, most_parts, most_applications}
-use Rattle.rules.specs.Rules.{root_only, firstMatch, exhaustive, onePass, Piece, Rule, shapes, pieces}
+use Rattle.rules.specs.Rules.{root_only, first_match, exhaustive, one_pass, Piece, Rule, shapes, pieces}
 use Rattle.rules.specs.Layout as Layout
 use Rattle.rules.specs.Layout.{PartAt, deconstruct_at, construct_at, condition_at, bit, only_if, field}
 use Rattle.rules.specs.declared.Strategy.{Strategy}
@@ -22,9 +22,9 @@ use Rattle.rules.specs.declared.PartRead.TheVariants.{Found, NoPart}
 -- the strategy, as the code has it
 abbrev pub strategy_as : Rules.Strategy → Strategy
 strategy_as root_only = RootOnly
-strategy_as firstMatch = FirstMatch
+strategy_as first_match = FirstMatch
 strategy_as exhaustive = Exhaustive
-strategy_as onePass = OnePass
+strategy_as one_pass = OnePass
 
 -- how many types were read
 abbrev pub counted : Read (List ℕ) → Got

@@ -151,7 +151,7 @@ module _ (w₀ w : Words) (e t base k start m most nodes i : ℕ) (x : Collectin
           let size_is : n ≡ size (first_tree g vs) = en ∙ ap size_in ev ∙ ch.counted in
           let low = first_size g vs 1 in
           let half : length vs ≡ 2 * size vs = trees_even r in
-          let first-long : 2 * n ≡ length (first_tree g vs) = omega (arith, trees_even tree) in
+          let first_long : 2 * n ≡ length (first_tree g vs) = omega (arith, trees_even tree) in
           let within : 2 * n ≤ 2 * m - 2 * i = omega arith in
           record {
             nodes_here = size_is;
@@ -159,7 +159,7 @@ module _ (w₀ w : Words) (e t base k start m most nodes i : ℕ) (x : Collectin
             some = omega (arith, tree_some (first_tree g vs) tree);
             more = (ts, ch.more);
             fits = omega arith;
-            words = sym (take-take (2 * n) (2 * m - 2 * i) (drop (start + 2 * i) w) within) ∙ ap (take (2 * n)) (words_at_lem w₀ w base start m i u vs b x.below place inside) ∙ marked_first vs (2 * n) r first-long;
+            words = sym (take-take (2 * n) (2 * m - 2 * i) (drop (start + 2 * i) w) within) ∙ ap (take (2 * n)) (words_at_lem w₀ w base start m i u vs b x.below place inside) ∙ marked_first vs (2 * n) r first_long;
           }
 
       -- what is taken, it first

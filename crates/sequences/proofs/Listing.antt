@@ -128,8 +128,8 @@ module _ {g : Grammar} {w : Words} {p n t : ℕ} where
     unfolding marked
     listed_value =
         let here = listed_word x 1 (omega (arith, listed_nodes x)) in
-        let zero-there : get_or (marked g (sequence_of t (e ∷ es))) 1 0 ≡ 0 = ap (λ l. get_or (marked g l) 1 0) (sequence_more t e es) in
-        here ∙ zero-there
+        let zero_there : get_or (marked g (sequence_of t (e ∷ es))) 1 0 ≡ 0 = ap (λ l. get_or (marked g l) 1 0) (sequence_more t e es) in
+        here ∙ zero_there
 
     some_nodes : n ≡ 2 + size e + before es
     some_nodes = omega (arith, listed_nodes x, before_more e es)

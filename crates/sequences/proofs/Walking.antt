@@ -75,7 +75,7 @@ module _ (w : Words) (base n most node passed : ℕ) (x : Walking w base n most 
       go g t es [] r a b = (omega (arith, take_before (most - passed)), omega arith)
       go g t es (f ∷ fs) r a b = absurd (h (e ∙ listed_value f fs r))
 
-  module _ (m next : ℕ) (em : m ≡ size_in (get_or w (p + 2) 0)) (en : next ≡ node + 1 + m) (v : ℕ) (ev : v ≡ get_or w (p + 1) 0) (zero-there : v ≡ 0) (to-pass : passed < most) where
+  module _ (m next : ℕ) (em : m ≡ size_in (get_or w (p + 2) 0)) (en : next ≡ node + 1 + m) (v : ℕ) (ev : v ≡ get_or w (p + 1) 0) (zero_there : v ≡ 0) (to_pass : passed < most) where
     -- an element that does not end there is none
     pub walking_past : n < next → Walks w base n most here
     walking_past h = record {
@@ -85,7 +85,7 @@ module _ (w : Words) (base n most node passed : ℕ) (x : Walking w base n most 
     }
       where
         go : (g : Grammar) (t : ℕ) (es fs : List Words) → Listed g w p (n - node) t fs → (node ≡ before (take most es)) × (passed ≡ min most (length es))
-        go g t es [] r = let z : ◌≡◌ {A = ℕ} 0 1 = sym zero-there ∙ ev ∙ listed_last r in absurd (omega arith)
+        go g t es [] r = let z : ◌≡◌ {A = ℕ} 0 1 = sym zero_there ∙ ev ∙ listed_last r in absurd (omega arith)
         go g t es (f ∷ fs) r = absurd (omega (arith, listed_room f fs r, listed_size f fs r))
 
     -- an element is passed
@@ -99,7 +99,7 @@ module _ (w : Words) (base n most node passed : ℕ) (x : Walking w base n most 
       where
         go : (g : Grammar) (t : ℕ) (es fs : List Words) → Listed g w p (n - node) t fs → node + before (take (most - passed) fs) ≡ before (take most es) → passed + min (most - passed) (length fs) ≡ min most (length es)
             → Left g w base n most next (passed + 1) t es
-        go g t es [] r a b = let z : ◌≡◌ {A = ℕ} 0 1 = sym zero-there ∙ ev ∙ listed_last r in absurd (omega arith)
+        go g t es [] r a b = let z : ◌≡◌ {A = ℕ} 0 1 = sym zero_there ∙ ev ∙ listed_last r in absurd (omega arith)
         go g t es (f ∷ fs) r a b =
             let s : m ≡ size f = em ∙ listed_size f fs r in
             let q : most - passed ≡ suc (most - (passed + 1)) = omega arith in

@@ -14,18 +14,18 @@ use Rattle.tamarind.specs.Exports.{posts_result, posting, Posts, PostsOutput}
 
 -- THE TEST
 
-module _ (was_done : Bool) (filled resultLength : ℕ) where
-  pub test_done : was_done ≡ true → leb filled resultLength ≡ posts_result was_done filled resultLength
+module _ (was_done : Bool) (filled result_length : ℕ) where
+  pub test_done : was_done ≡ true → leb filled result_length ≡ posts_result was_done filled result_length
   unfolding posts_result
   test_done t = rw t
 
-  pub test_not_done : was_done ≡ false → false ≡ posts_result was_done filled resultLength
+  pub test_not_done : was_done ≡ false → false ≡ posts_result was_done filled result_length
   unfolding posts_result
   test_not_done f = rw f
 
-  pub result_there : {b : Bool} → b ≡ posts_result was_done filled resultLength → b ≡ true → filled ≤ resultLength
+  pub result_there : {b : Bool} → b ≡ posts_result was_done filled result_length → b ≡ true → filled ≤ result_length
   unfolding posts_result
-  result_there is t = leb-true filled resultLength (and_both was_done (leb filled resultLength) (sym is ∙ t)).1
+  result_there is t = leb-true filled result_length (and_both was_done (leb filled result_length) (sym is ∙ t)).1
 
 -- THE WORDS, by the test
 
@@ -40,12 +40,12 @@ module _ (was_done : Bool) (filled : ℕ) (result : Words) {b : Bool} (is : b �
 
 -- WHERE THEY STAND, by the test
 
-module _ (ending filled resultLength slipLength : ℕ) {b : Bool} (is : b ≡ posts_result (eqb ending 0) filled resultLength) where
-  pub names_result : b ≡ true → record { source = 1; words = filled } ≡ posting ending filled resultLength slipLength
+module _ (ending filled result_length slip_length : ℕ) {b : Bool} (is : b ≡ posts_result (eqb ending 0) filled result_length) where
+  pub names_result : b ≡ true → record { source = 1; words = filled } ≡ posting ending filled result_length slip_length
   unfolding posting
   names_result t = rw (sym is ∙ t)
 
-  pub names_slip : b ≡ false → record { source = 0; words = slipLength } ≡ posting ending filled resultLength slipLength
+  pub names_slip : b ≡ false → record { source = 0; words = slip_length } ≡ posting ending filled result_length slip_length
   unfolding posting
   names_slip f = rw (sym is ∙ f)
 

@@ -79,13 +79,13 @@ pub record ConversionExported (edition : Bool) (olds news ts ss before after : W
 
 -- is it the result's words? If the run was done and the filled count does not lie past the result's end
 unfoldable pub posts_result : Bool → ℕ → ℕ → Bool
-posts_result was_done filled resultLength = and was_done (leb filled resultLength)
+posts_result was_done filled result_length = and was_done (leb filled result_length)
 
 -- "The words to post are the filled part of the result if the run was done, else the slip itself; a filled count past the result's end also gives the slip", from
 -- the ending, the filled count and the lengths of the result and the slip: the source is 1 for the result and 0 for the slip, and so many of its words from word 0
 unfoldable pub posting : ℕ → ℕ → ℕ → ℕ → Posting
-posting ending filled resultLength slipLength =
-    pick (posts_result (eqb ending 0) filled resultLength) (record { source = 1; words = filled }) (record { source = 0; words = slipLength })
+posting ending filled result_length slip_length =
+    pick (posts_result (eqb ending 0) filled result_length) (record { source = 1; words = filled }) (record { source = 0; words = slip_length })
 
 -- the memory that a posting's source names
 abbrev pub source_of : Posting → Words → Words → Words

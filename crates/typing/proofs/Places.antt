@@ -19,7 +19,7 @@ use Rattle.rules.specs.Limits.{most_parts}
 use Rattle.rules.specs.Rules.{Rule, Rules, Part, Piece, shapes, pieces}
 use Rattle.rules.specs.Layout as Layout
 use Rattle.rules.specs.Layout.{Head, PartAt, deconstruct_at, construct_at, condition_at, bit, only_if, stretch, field, pairs, variable_at, deconstruct_fields, condition_fields, part_of, replacement, type_field, search_fields, construct_fields, part_at, part, parts, rule}
-use Rattle.judgement.specs.Typing.{Place, in_pattern, inReplacement, inCondition, Due, a_tree, a_chain, Context, meets, typed, variable_there, part_typed, parts_typed, rule_typed}
+use Rattle.judgement.specs.Typing.{Place, in_pattern, in_replacement, in_condition, Due, a_tree, a_chain, Context, meets, typed, variable_there, part_typed, parts_typed, rule_typed}
 use Rattle.typing.specs.Views.{parts_for, replacement_for}
 use Rattle.judgement.proofs.Accept.{meets_steady}
 use Rattle.pairs.proofs.Stretch.{Stretch, pairs_shape, stretch_length}
@@ -76,8 +76,8 @@ condition_pairs ws b at a n e =
 pub part_pairs : (types : ℕ) (ws : Words) (at : ℕ) (a : PartAt) (n : ℕ) → part_at types ws at ≡ value a n → Stretch ws (pairs_at a) n
 unfolding part_at search_fields
 part_pairs types ws at a n e =
-    let none-fits : ℕ → Reader PartAt = λ m next. refused 21 at in
-    let u = then_value (word 20 ws at) (λ m. pick (eqb m 1) (deconstruct_fields ws none) (pick (eqb m 3) (search_fields types ws) (pick (eqb m 4) (construct_fields types ws) (pick (eqb m 8) (condition_fields ws false) (pick (eqb m 24) (condition_fields ws true) (none-fits m)))))) e in
+    let none_fits : ℕ → Reader PartAt = λ m next. refused 21 at in
+    let u = then_value (word 20 ws at) (λ m. pick (eqb m 1) (deconstruct_fields ws none) (pick (eqb m 3) (search_fields types ws) (pick (eqb m 4) (construct_fields types ws) (pick (eqb m 8) (condition_fields ws false) (pick (eqb m 24) (condition_fields ws true) (none_fits m)))))) e in
     go (eqb u.0 1) (eqb u.0 3) (eqb u.0 4) (eqb u.0 8) (eqb u.0 24) u.1 u.3
   where
     go : (b₁ b₃ b₄ b₈ b₂₄ : Bool) (p : ℕ)
@@ -99,11 +99,11 @@ module _ (g : Grammar) (rules : Rules) (ws : Words) where
       let u = then_value (variable_there g rules ws Γ x) (λ v next. typed g rules ws in_pattern (a_tree (tree 1 t)) Γ p) e in
       typed_next g rules ws in_pattern (a_tree (tree 1 t)) Γ Δ p n next s u.3
   part_next (construct_at t p) Γ Δ at n next s e =
-      let u = then_value (require (ltb (length Γ) 16) 24 0 at) (λ u next. and_then (typed g rules ws inReplacement (a_tree (tree 1 t)) Γ p) (λ Δ. return (Γ ++ t ∷ []))) e in
-      let v = then_value (typed g rules ws inReplacement (a_tree (tree 1 t)) Γ p) (λ Δ. return (Γ ++ t ∷ [])) u.3 in
+      let u = then_value (require (ltb (length Γ) 16) 24 0 at) (λ u next. and_then (typed g rules ws in_replacement (a_tree (tree 1 t)) Γ p) (λ Δ. return (Γ ++ t ∷ []))) e in
+      let v = then_value (typed g rules ws in_replacement (a_tree (tree 1 t)) Γ p) (λ Δ. return (Γ ++ t ∷ [])) u.3 in
       let z : v.1 ≡ next = cc v.3 in
-      sym z ∙ typed_next g rules ws inReplacement (a_tree (tree 1 t)) Γ v.0 p n v.1 s v.2
-  part_next (condition_at b p) Γ Δ at n next s e = typed_next g rules ws inCondition a_chain Γ Δ p n next s e
+      sym z ∙ typed_next g rules ws in_replacement (a_tree (tree 1 t)) Γ v.0 p n v.1 s v.2
+  part_next (condition_at b p) Γ Δ at n next s e = typed_next g rules ws in_condition a_chain Γ Δ p n next s e
 
   pub parts_next : (types : ℕ) → length g ≡ types → (k : ℕ) (Γ Δ : Context) (at next : ℕ) → parts_typed g rules ws k Γ at ≡ value Δ next → (ps : List Part) × (many k (part types ws) at ≡ value ps next)
   unfolding parts_typed many part
@@ -134,14 +134,14 @@ module _ (g : Grammar) (rules : Rules) (ws : Words) where
   replacement_next m t Γ at n next o = go (bit 3 m)
     where
       go : (b : Bool) → only_if b none (◌>>=◌ (pairs ws) (λ q. return (some (pieces (stretch ws q))))) at ≡ value o n
-          → and_then (only_if b Γ (typed g rules ws inReplacement (a_tree (tree 1 t)) Γ) at) (λ Θ. return (tt {0})) ≡ value (tt {0}) next → next ≡ n
+          → and_then (only_if b Γ (typed g rules ws in_replacement (a_tree (tree 1 t)) Γ) at) (λ Θ. return (tt {0})) ≡ value (tt {0}) next → next ≡ n
       go true f e =
           let u = then_value (pairs ws at) (λ q. return (some (pieces (stretch ws q)))) f in
           let s = (pairs_shape ws at u.0 u.1 u.2).1 in
-          let v = then_value (typed g rules ws inReplacement (a_tree (tree 1 t)) Γ at) (λ Θ. return (tt {0})) e in
+          let v = then_value (typed g rules ws in_replacement (a_tree (tree 1 t)) Γ at) (λ Θ. return (tt {0})) e in
           let y : u.1 ≡ n = cc u.3 in
           let z : v.1 ≡ next = cc v.3 in
-          sym z ∙ typed_next g rules ws inReplacement (a_tree (tree 1 t)) Γ v.0 at u.1 v.1 s v.2 ∙ y
+          sym z ∙ typed_next g rules ws in_replacement (a_tree (tree 1 t)) Γ v.0 at u.1 v.1 s v.2 ∙ y
       go false f e = let y : at ≡ n = cc in let z : at ≡ next = cc in omega arith
 
 -- A RULE

@@ -31,7 +31,7 @@ use Rattle.rules.specs.declared.Part.TheVariants.{Deconstruct, Construct, Condit
 use Rattle.rules.specs.declared.FoundPart.{FoundPart}
 use Rattle.rules.specs.declared.PartRead.{PartRead}
 use Rattle.rules.specs.declared.PartRead.TheVariants.{Found, NoPart}
-use Rattle.judgement.specs.Typing.{in_pattern, inReplacement, inCondition, a_tree, Context, typed, variable_there, part_typed, parts_typed, rule_typed}
+use Rattle.judgement.specs.Typing.{in_pattern, in_replacement, in_condition, a_tree, Context, typed, variable_there, part_typed, parts_typed, rule_typed}
 use Rattle.dues.specs.declared.Ctx.{Ctx}
 use Rattle.pairs.specs.declared.Typed.{Typed}
 use Rattle.dues.specs.Views.{context_of, due_of, words_at}
@@ -50,21 +50,21 @@ module _ (g : Grammar) (rules : Rules) (ws : Words) (s p at : ℕ) (ctx : Ctx) (
   unfolding part_typed
   construct_full h = rw (context_length ctx.types ctx.n (len, few), le-ltb ctx.n 16 h, add-zero at) (record { check = refl; left = tt })
 
-  module _ (room : ctx.n < 16) (r : Typed) (t : TypedAs r (typed g rules ws inReplacement (due_of 1 s) (context_of ctx) p)) where
-    replaced : TypedAs r (typed g rules ws inReplacement (a_tree (tree 1 s)) (context_of ctx) p)
+  module _ (room : ctx.n < 16) (r : Typed) (t : TypedAs r (typed g rules ws in_replacement (due_of 1 s) (context_of ctx) p)) where
+    replaced : TypedAs r (typed g rules ws in_replacement (a_tree (tree 1 s)) (context_of ctx) p)
     replaced = rw (tree_due 1 s (omega arith)) at t
 
     pub construct_refused : {n q : ℕ} → r.check ≡ Refused n q → TypedAs (record { check = Refused n q; ctx = ctx }) (part_typed g rules ws (construct_at s p) (context_of ctx) at)
     unfolding part_typed
     construct_refused f =
-        let e = answer_refused (typed g rules ws inReplacement (a_tree (tree 1 s)) (context_of ctx) p) r.check replaced.check f in
+        let e = answer_refused (typed g rules ws in_replacement (a_tree (tree 1 s)) (context_of ctx) p) r.check replaced.check f in
         rw (context_length ctx.types ctx.n (len, few), lt-ltb ctx.n 16 room, e) (record { check = refl; left = tt })
 
     pub construct_there : {next : ℕ} {ctx' : Ctx} → r.check ≡ Passed next → (context_of ctx' ≡ context_of ctx ++ s ∷ []) × (ctx'.n ≤ 16)
         → TypedAs (record { check = Passed next; ctx = ctx' }) (part_typed g rules ws (construct_at s p) (context_of ctx) at)
     unfolding part_typed
     construct_there f k =
-        let e = answer_passed (typed g rules ws inReplacement (a_tree (tree 1 s)) (context_of ctx) p) r.check replaced.check f in
+        let e = answer_passed (typed g rules ws in_replacement (a_tree (tree 1 s)) (context_of ctx) p) r.check replaced.check f in
         rw (context_length ctx.types ctx.n (len, few), lt-ltb ctx.n 16 room, e.1) (record { check = refl; left = record { known = k.0; few = k.1 } })
 
 module _ (g : Grammar) (rules : Rules) (ws : Words) (at : ℕ) (ctx : Ctx) where
@@ -143,7 +143,7 @@ module _ (g : Grammar) (rules : Rules) (types : ℕ) (ws : Words) (Γ : Context)
   pub part_there : (a : PartAt) {r : Typed} {n : ℕ} → part_at types ws at ≡ value a n → TypedAs r (part_typed g rules ws a Γ at) → TypedAs r (and_then (part_at types ws at) (λ p next. part_typed g rules ws p Γ at))
   part_there a e t = rw e t
 
-  pub part_condition : {r : Typed} {b : Bool} {p n : ℕ} → part_at types ws at ≡ value (condition_at b p) n → TypedAs r (typed g rules ws inCondition (due_of 100 0) Γ p) → TypedAs r (and_then (part_at types ws at) (λ p next. part_typed g rules ws p Γ at))
+  pub part_condition : {r : Typed} {b : Bool} {p n : ℕ} → part_at types ws at ≡ value (condition_at b p) n → TypedAs r (typed g rules ws in_condition (due_of 100 0) Γ p) → TypedAs r (and_then (part_at types ws at) (λ p next. part_typed g rules ws p Γ at))
   unfolding part_typed
   part_condition e t = rw e (rw (chain_due 0) at t)
 
@@ -221,10 +221,10 @@ module _ (g : Grammar) (rules : Rules) (ws : Words) (m t : ℕ) (Γ : Context) (
   pub replacement_none : (m / 8 % 2 ≡ 1 → ⊥) → Passed at ≡ answer (replacement_for g rules ws m t Γ at)
   replacement_none h = rw (ne_eqb (m / 8 % 2) 1 h)
 
-  pub replacement_there : {r : Typed} → m / 8 % 2 ≡ 1 → TypedAs r (typed g rules ws inReplacement (due_of 1 t) Γ at) → r.check ≡ answer (replacement_for g rules ws m t Γ at)
+  pub replacement_there : {r : Typed} → m / 8 % 2 ≡ 1 → TypedAs r (typed g rules ws in_replacement (due_of 1 t) Γ at) → r.check ≡ answer (replacement_for g rules ws m t Γ at)
   replacement_there {r} h k =
-      let s : r.check ≡ answer (typed g rules ws inReplacement (a_tree (tree 1 t)) Γ at) = rw (tree_due 1 t (omega arith)) at k.check in
-      s ∙ answer_then (typed g rules ws inReplacement (a_tree (tree 1 t)) Γ at) (tt {0}) ∙ rw (eq-eqb (m / 8 % 2) 1 h)
+      let s : r.check ≡ answer (typed g rules ws in_replacement (a_tree (tree 1 t)) Γ at) = rw (tree_due 1 t (omega arith)) at k.check in
+      s ∙ answer_then (typed g rules ws in_replacement (a_tree (tree 1 t)) Γ at) (tt {0}) ∙ rw (eq-eqb (m / 8 % 2) 1 h)
 
 -- A RULE
 

@@ -10,7 +10,7 @@ use Rattle.rules.specs.Layout as Layout
 use Rattle.rules.specs.Layout.{PartAt, deconstruct_at, bit, only_if, field}
 use Rattle.rules.specs.Views.{searched_type}
 use Rattle.rules.specs.declared.Deconstruct.{Deconstruct}
-use Rattle.judgement.specs.Typing.{a_tree, Context, inReplacement, typed, parts_typed}
+use Rattle.judgement.specs.Typing.{a_tree, Context, in_replacement, typed, parts_typed}
 
 -- the tables are those of a grammar of so many types
 abbrev pub AreTablesOf : ℕ → Words → Words → Type 0
@@ -29,7 +29,7 @@ module _ (g : Grammar) (rules : Rules) (ws : Words) where
 
   -- the replacement, where the map announces it
   abbrev pub replacement_for : ℕ → ℕ → Context → Reader (Unit {0})
-  replacement_for m t Γ = ◌>>=◌ (only_if (bit 3 m) Γ (typed g rules ws inReplacement (a_tree (tree 1 t)) Γ)) (λ Θ. return tt)
+  replacement_for m t Γ = ◌>>=◌ (only_if (bit 3 m) Γ (typed g rules ws in_replacement (a_tree (tree 1 t)) Γ)) (λ Θ. return tt)
 
 -- where the n rules stand, the first of them at the position
 unfoldable pub positions : ℕ → Words → ℕ → ℕ → Words
