@@ -44,8 +44,7 @@ fn export(c: Check) -> Answer
 }
 
 // The single check of a grammar.
-#[unsafe(no_mangle)]
-pub extern "C" fn tamarind_check_grammar(grammar: &[u32]) -> Answer
+pub fn tamarind_check_grammar(grammar: &[u32]) -> Answer
     ensures { result ≡ exported (check_grammar grammar.now) }
 {
     let c = grammar::check_grammar(grammar);
@@ -53,8 +52,7 @@ pub extern "C" fn tamarind_check_grammar(grammar: &[u32]) -> Answer
 }
 
 // The single check of a slip, given its grammar.
-#[unsafe(no_mangle)]
-pub extern "C" fn tamarind_check_slip(grammar: &[u32], slip: &[u32]) -> Answer
+pub fn tamarind_check_slip(grammar: &[u32], slip: &[u32]) -> Answer
     ensures { result ≡ exported (check_slip grammar.now slip.now) }
 {
     let c = slips::check_slip(grammar, slip);
@@ -62,8 +60,7 @@ pub extern "C" fn tamarind_check_slip(grammar: &[u32], slip: &[u32]) -> Answer
 }
 
 // The single check of a rule book, given its grammar.
-#[unsafe(no_mangle)]
-pub extern "C" fn tamarind_check_rules(grammar: &[u32], rules: &[u32]) -> Answer
+pub fn tamarind_check_rules(grammar: &[u32], rules: &[u32]) -> Answer
     ensures { result ≡ exported (check_rules grammar.now rules.now) }
 {
     let c = typing::check_rules(grammar, rules);
@@ -308,8 +305,7 @@ pub struct Posting {
 }
 
 // The words to post, for a caller that cannot be handed a part of a slice: given how the run ended and what it filled, where they stand and how many they are.
-#[unsafe(no_mangle)]
-pub extern "C" fn tamarind_words_to_post(
+pub fn tamarind_words_to_post(
     ending: u32,
     filled: usize,
     result_len: usize,
@@ -388,8 +384,7 @@ fn export_run(outcome: Outcome) -> RunAnswer
 }
 
 // A run.
-#[unsafe(no_mangle)]
-pub extern "C" fn tamarind_run(
+pub fn tamarind_run(
     grammar: &[u32],
     rules: &[u32],
     slip: &[u32],
@@ -435,8 +430,7 @@ fn export_conversion(c: Converted) -> ConversionAnswer
 }
 
 // The conversion of a slip, in the three-word edition if it is counted, else in the two-word one, from the old grammar to the new by the table.
-#[unsafe(no_mangle)]
-pub extern "C" fn tamarind_convert(
+pub fn tamarind_convert(
     old_grammar: &[u32],
     new_grammar: &[u32],
     table: &[u32],
@@ -454,8 +448,7 @@ pub extern "C" fn tamarind_convert(
 const EDITION: u32 = 8;
 
 // The edition of these functions: a caller asks whether it was written for this one.
-#[unsafe(no_mangle)]
-pub extern "C" fn tamarind_edition() -> u32
+pub fn tamarind_edition() -> u32
     ensures { result ≡ edition }
 {
     EDITION
