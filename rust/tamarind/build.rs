@@ -3,7 +3,7 @@
 //! It is looked for in the folder that the variable `TAMARIND_LIB_DIR` names, a
 //! release's folder for one; a relative one starts from this crate's. Without
 //! the variable it is the repository's `target/staticlib`, where
-//! `rt staticlib tamarind` writes it.
+//! `tools/build archive` writes it.
 //!
 //! The build ends with a message where the archive is missing or cannot be
 //! linked into what is built.
@@ -62,7 +62,7 @@ fn link() -> Result<(), String> {
     if !archive.is_file() {
         let archive = archive.display();
         return Err(format!(
-            "there is no {archive}: make it by `rt staticlib tamarind` in the repository, or set {FOLDER} to the folder that has it"
+            "there is no {archive}: make it by `tools/build archive` in the repository, or set {FOLDER} to the folder that has it"
         ));
     }
     println!("cargo:rerun-if-changed={}", archive.display());

@@ -223,7 +223,7 @@ fn constructed(frame: Frame, bound: usize, n: usize) -> Frame
 // THE CYCLE
 
 // A part that builds a tree.
-#[cycle(any_succeeds_apply_call_chain_condition_construct_fill_fill_chain_finish_matches_replace_seek_step_succeeds)]
+#[cycle(engine)]
 fn construct(
     heads: &[u32; HEADS],
     rows: &[u8; ROWS],
@@ -254,7 +254,7 @@ fn construct(
 }
 
 // A part that tests.
-#[cycle(any_succeeds_apply_call_chain_condition_construct_fill_fill_chain_finish_matches_replace_seek_step_succeeds)]
+#[cycle(engine)]
 fn condition(
     heads: &[u32; HEADS],
     rows: &[u8; ROWS],
@@ -287,7 +287,7 @@ fn condition(
 }
 
 // The part whose map stands at a position.
-#[cycle(any_succeeds_apply_call_chain_condition_construct_fill_fill_chain_finish_matches_replace_seek_step_succeeds)]
+#[cycle(engine)]
 fn step(
     heads: &[u32; HEADS],
     rows: &[u8; ROWS],
@@ -333,7 +333,7 @@ fn step(
 
 // The first node of the scope, n nodes from base on, at which an attempt matches, sought from the node `from` on. Document 01's nested loops over nodes and
 // parts: left by a label at the first match, yielding its position by `break`.
-#[cycle(any_succeeds_apply_call_chain_condition_construct_fill_fill_chain_finish_matches_replace_seek_step_succeeds)]
+#[cycle(engine)]
 fn seek(
     heads: &[u32; HEADS],
     rows: &[u8; ROWS],
@@ -443,7 +443,7 @@ fn seek(
 }
 
 // Is there a match in the tree of n nodes at `start`? The open call's variables are the arguments.
-#[cycle(any_succeeds_apply_call_chain_condition_construct_fill_fill_chain_finish_matches_replace_seek_step_succeeds)]
+#[cycle(engine)]
 fn matches(
     heads: &[u32; HEADS],
     rows: &[u8; ROWS],
@@ -497,7 +497,7 @@ fn matches(
 }
 
 // Does the application whose first word is at `at` succeed on the tree of n nodes at `start`?
-#[cycle(any_succeeds_apply_call_chain_condition_construct_fill_fill_chain_finish_matches_replace_seek_step_succeeds)]
+#[cycle(engine)]
 fn succeeds(
     heads: &[u32; HEADS],
     rows: &[u8; ROWS],
@@ -564,7 +564,7 @@ fn succeeds(
 }
 
 // Does one of the chain's applications succeed? They are tried in order up to the first that does.
-#[cycle(any_succeeds_apply_call_chain_condition_construct_fill_fill_chain_finish_matches_replace_seek_step_succeeds)]
+#[cycle(engine)]
 fn any_succeeds(
     heads: &[u32; HEADS],
     rows: &[u8; ROWS],
@@ -635,7 +635,7 @@ fn edit_at(
 }
 
 // Applies the application whose first word is at `at` to the tree of n nodes at base, which is on top.
-#[cycle(any_succeeds_apply_call_chain_condition_construct_fill_fill_chain_finish_matches_replace_seek_step_succeeds)]
+#[cycle(engine)]
 fn apply(
     heads: &[u32; HEADS],
     rows: &[u8; ROWS],
@@ -697,7 +697,7 @@ fn apply(
 }
 
 // Applies a chain, its count at `from`, to the tree of n nodes at base, one application after the other.
-#[cycle(any_succeeds_apply_call_chain_condition_construct_fill_fill_chain_finish_matches_replace_seek_step_succeeds)]
+#[cycle(engine)]
 fn chain(
     heads: &[u32; HEADS],
     rows: &[u8; ROWS],
@@ -741,7 +741,7 @@ fn chain(
 }
 
 // A chain of applications in a replacement, at the pair i, in a tree under way of n nodes.
-#[cycle(any_succeeds_apply_call_chain_condition_construct_fill_fill_chain_finish_matches_replace_seek_step_succeeds)]
+#[cycle(engine)]
 fn fill_chain(
     heads: &[u32; HEADS],
     rows: &[u8; ROWS],
@@ -801,7 +801,7 @@ fn fill_chain(
 }
 
 // Fills a replacement, the pairs whose count stands at `at`, on top: its nodes are not marked yet.
-#[cycle(any_succeeds_apply_call_chain_condition_construct_fill_fill_chain_finish_matches_replace_seek_step_succeeds)]
+#[cycle(engine)]
 fn fill(
     heads: &[u32; HEADS],
     rows: &[u8; ROWS],
@@ -863,7 +863,7 @@ fn fill(
 }
 
 // Fills a replacement and finishes it: its nodes are marked, and its nesting is tested.
-#[cycle(any_succeeds_apply_call_chain_condition_construct_fill_fill_chain_finish_matches_replace_seek_step_succeeds)]
+#[cycle(engine)]
 fn finish(
     heads: &[u32; HEADS],
     rows: &[u8; ROWS],
@@ -891,7 +891,7 @@ fn finish(
 }
 
 // Finishes the replacement of a match and puts it in place of node i.
-#[cycle(any_succeeds_apply_call_chain_condition_construct_fill_fill_chain_finish_matches_replace_seek_step_succeeds)]
+#[cycle(engine)]
 fn replace(
     heads: &[u32; HEADS],
     rows: &[u8; ROWS],
@@ -923,7 +923,7 @@ fn replace(
 
 // Rewrites the scope, n nodes from base on, which is on top: the rounds of search and replacement. The variables are the arguments; so many nodes are live besides
 // the scope.
-#[cycle(any_succeeds_apply_call_chain_condition_construct_fill_fill_chain_finish_matches_replace_seek_step_succeeds)]
+#[cycle(engine)]
 pub fn call(
     heads: &[u32; HEADS],
     rows: &[u8; ROWS],

@@ -1,6 +1,6 @@
-//! The proved bench program, `target/bin/bench`, byte for byte: the paper's
+//! The proved bench program, `crates/bench/out/bench`, byte for byte: the paper's
 //! cases, damaged texts, the longest inputs, and the reference's bench on
-//! generated inputs. `rt check bench` makes the program.
+//! generated inputs. `tools/build bench` makes the program.
 
 use std::io::{stdout, Write};
 use std::process::{Command, Stdio};
@@ -9,7 +9,7 @@ use std::thread;
 use generate::{any_run_input, to_bench, Input, Random};
 use reference::bench::answer;
 
-const BENCH: &str = concat!(env!("CARGO_MANIFEST_DIR"), "/../../target/bin/bench");
+const BENCH: &str = concat!(env!("CARGO_MANIFEST_DIR"), "/../../crates/bench/out/bench");
 
 /// How many generated inputs are answered, and how many damaged texts.
 const INPUTS: u64 = 4_000;
@@ -43,7 +43,7 @@ fn bench(text: &[u8]) -> String {
         .stdin(Stdio::piped())
         .stdout(Stdio::piped())
         .spawn()
-        .expect("target/bin/bench is there: rt check bench");
+        .expect("crates/bench/out/bench is there: tools/build bench");
     let mut input = child.stdin.take().expect("piped");
     let text = text.to_vec();
     // The bench stops reading where a text becomes unread, so the write may fail.

@@ -1,5 +1,5 @@
 //! `./bench` as a person meets it: what it prints where, and its exit status
-//! (docs/bench.md). The bench must be proved before: `rt check bench`.
+//! (docs/bench.md). The bench must be proved before: `tools/build bench`.
 //! One test after the other, since each run asks `rt` what is proved.
 
 use std::env;
@@ -9,7 +9,7 @@ use std::path::{Path, PathBuf};
 use std::process::{Command, Stdio};
 
 const BENCH: &str = concat!(env!("CARGO_MANIFEST_DIR"), "/../../bench");
-const PROGRAM: &str = concat!(env!("CARGO_MANIFEST_DIR"), "/../../target/bin/bench");
+const PROGRAM: &str = concat!(env!("CARGO_MANIFEST_DIR"), "/../../crates/bench/out/bench");
 
 const EXAMPLE: &str = "3 9 3 8 1 1 1 4 2 1 2 10 1 9 2 2 1 2 200 1 2 4200 \
     18 0 0 6 1 0 5 2 200 1 1 0 3 2 500 1 1 1 1";
@@ -102,7 +102,7 @@ fn with_rt(here: &Path, says: &str, status: i32) -> (i32, String, String) {
     let rt = here.join("rt");
     fs::write(
         &rt,
-        format!("#!/bin/sh\ncat <<'E'\n{says}E\nexit {status}\n"),
+        format!("#!/bin/sh\ncat >&2 <<'E'\n{says}E\nexit {status}\n"),
     )
     .expect("written");
     fs::set_permissions(&rt, fs::Permissions::from_mode(0o755)).expect("set");
@@ -111,20 +111,22 @@ fn with_rt(here: &Path, says: &str, status: i32) -> (i32, String, String) {
 }
 
 fn what_rt_says_is_passed_on(here: &Path) {
-    let unchanged = "rt: words proved (unchanged since it was last proved)\n";
-    let (status, answer, said) = with_rt(
-        here,
-        &format!("{unchanged}fn tree::a: proved\nrt: tree proved (3 s)\nrt: ok, 2 crates proved\n"),
-        0,
-    );
+    let unchanged = "rt: nothing has changed since the last proved build\n";
+    let (status, answer, said) = with_rt(here, &format!("{unchanged}rt: running out/bench\n"), 0);
+    assert_eq!((status, answer.as_str(), said.as_str()), (0, DONE, ""));
+
+    let begun = "rt: chose --jobs 2 for tree\n";
+    let proved = "fn tree::a: proved\nlogic=proved functions=1\n";
+    let (status, answer, said) =
+        with_rt(here, &format!("{begun}{proved}rt: running out/bench\n"), 0);
     assert_eq!((status, answer.as_str()), (0, DONE));
     let lines: Vec<&str> = said.lines().collect();
     assert!(lines[0].starts_with("The bench is proved first"), "{said}");
-    assert_eq!(lines[1..], ["rt: tree proved (3 s)"]);
+    assert_eq!(lines[1..], ["bench: tree is proved"]);
 
-    let fault = "an error\nrt: tree NOT PROVED (exit 1, 3 s)\nrt: FAILED: tree\n";
-    let (status, answer, said) = with_rt(here, &format!("{unchanged}{fault}"), 1);
+    let fault = "an error\nlogic=not-proved\nrt: the library tree did not build\n";
+    let (status, answer, said) = with_rt(here, &format!("{begun}{fault}"), 1);
     assert_eq!((status, answer.as_str()), (6, ""));
     let message = "bench: it is not proved, so it is not run\n";
-    assert_eq!(said, format!("{fault}{message}"));
+    assert!(said.ends_with(&format!("\n{fault}{message}")), "{said}");
 }

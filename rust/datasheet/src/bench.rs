@@ -21,7 +21,7 @@ const TIMES: usize = 12;
 
 /// The program, if it has been built.
 pub fn program() -> Option<PathBuf> {
-    let program = top().join("target/bin/bench");
+    let program = top().join("crates/bench/out/bench");
     program.exists().then_some(program)
 }
 

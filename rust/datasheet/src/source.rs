@@ -1,5 +1,5 @@
-//! The functions of the proved code and what each of them calls: from the
-//! source, and from the folders in which the checker has the proofs of cycles.
+//! The functions of the proved code and what each of them calls, from the source,
+//! and which of them were proved as cycles.
 
 use std::collections::{BTreeMap, BTreeSet};
 use std::path::{Path, PathBuf};
@@ -71,18 +71,32 @@ fn longest_chain(calls: &Calls, from: &str) -> usize {
     below.max().unwrap_or(0)
 }
 
-/// The functions that the checker has proved as members of a cycle: the folder of
-/// such a proof is named after them, each with a `+` before it.
+/// The functions that the checker has proved as members of a cycle: those that the
+/// code marks with a cycle's name, and those that call themselves alone, whose
+/// proof is in a folder of their name with a `+` before it.
 pub fn proved_as_cycles() -> BTreeSet<String> {
-    let mut members = BTreeSet::new();
-    for Crate { name, .. } in crates() {
-        let proofs = top().join("crates").join(&name).join("proofs");
-        for folder in folders_below(&proofs) {
-            let names = folder.split('+').skip(1);
-            members.extend(names.map(|member| format!("{name}::{member}")));
-        }
+    let mut proved = BTreeSet::new();
+    for Crate { name, files, .. } in crates() {
+        let marked: Vec<(&str, &str)> = files.iter().flat_map(|text| marked(text)).collect();
+        let proofs = folders_below(&top().join("crates").join(&name).join("proofs"));
+        let folders = proofs.iter().filter_map(|folder| folder.strip_prefix('+'));
+        let own = folders.filter(|folder| marked.iter().all(|(cycle, _)| cycle != folder));
+        let members = marked.iter().map(|(_, member)| *member);
+        proved.extend(members.chain(own).map(|it| format!("{name}::{it}")));
     }
-    members
+    proved
+}
+
+/// The functions that a source marks as members of a cycle, each behind its
+/// cycle's name.
+fn marked(text: &str) -> Vec<(&str, &str)> {
+    let pieces = text.split("#[cycle(").skip(1);
+    let found = pieces.filter_map(|piece| {
+        let (cycle, below) = piece.split_once(")]")?;
+        let (_, function) = below.split_once("fn ")?;
+        Some((cycle, function.split(['(', '<']).next()?))
+    });
+    found.collect()
 }
 
 /// The names of all folders in a folder, at any depth: a module has one of its own.
@@ -107,10 +121,12 @@ fn in_folder(folder: &Path) -> Vec<PathBuf> {
         .collect()
 }
 
-/// The crates that are proved, as crates.txt lists them: `name: those below it`.
+/// The crates that are proved, as crates.txt lists them: `name kind: those below it`.
 fn crates() -> Vec<Crate> {
     let list = read(&top().join("crates.txt"));
     let lines = list.lines().filter_map(|line| line.split_once(':'));
+    // Behind its name a crate may say of what kind it is.
+    let lines = lines.filter_map(|(name, below)| Some((name.split(' ').next()?, below)));
     let read_crate = |(name, below): (&str, &str)| Crate {
         name: name.to_string(),
         below: below.split_whitespace().map(str::to_string).collect(),

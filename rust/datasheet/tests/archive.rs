@@ -32,7 +32,7 @@ const SSE2: &str = "
     andps andnps orps xorps andpd andnpd orpd xorpd pand pandn por pxor pcmpeqb
     pcmpeqw pcmpeqd pcmpgtb pcmpgtw pcmpgtd paddb paddw paddd paddq psubb psubw
     psubd psubq pmuludq pmullw pmulhw pmaxub pminub pmaxsw pminsw pslldq psrldq
-    psllw pslld psllq psrlw psrld psrlq psraw psrad pextrw pinsrw";
+    psllw pslld psllq psrlw psrld psrlq psraw psrad pextrw pinsrw movsd";
 
 /// Other instructions of the plain x86-64 set, without the letter of a size.
 /// `tzcnt` is carried out as `bsf` by a processor that does not have it, with the

@@ -88,7 +88,7 @@ const CHANCE: usize = 16;
 
 #[test]
 fn the_bench_needs_the_stack_that_the_sheet_says() {
-    let program = bench::program().expect("target/bin/bench is there: rt check bench");
+    let program = bench::program().expect("crates/bench/out/bench is there: tools/build bench");
     let text = sheet::read();
     let rows = rows(&text, "bench");
     let needs = bench::needs(&program);

@@ -54,7 +54,7 @@ fn the_archive_is_taken_from_the_folder_that_is_named() {
 
     let said = refusal(&mut named);
     let missing = format!("there is no {}/libtamarind.a", archives.display());
-    let to_do = "`rt staticlib tamarind` in the repository, or set TAMARIND_LIB_DIR";
+    let to_do = "`tools/build archive` in the repository, or set TAMARIND_LIB_DIR";
     assert!(said.contains(&missing) && said.contains(to_do), "{said}");
 
     fs::copy(ARCHIVE, archives.join("libtamarind.a")).expect("copied");

@@ -51,6 +51,12 @@ impl Repository {
         fs::copy(from, self.path(file)).expect("copied");
     }
 
+    /// A program of the repository, in place of one that takes minutes.
+    fn program(&self, file: &str, text: &str) {
+        self.copy("/bin/true", file);
+        self.write(file, &format!("#!/bin/sh\n{text}\n"));
+    }
+
     fn write(&self, file: &str, text: &str) {
         fs::write(self.path(file), text).expect("written");
     }
@@ -138,7 +144,7 @@ fn gate(repository: &Repository, tests: &str) -> (bool, String, String) {
         fs::write(&path, format!("#!/bin/sh\n{text}\n")).expect("written");
         fs::set_permissions(&path, fs::Permissions::from_mode(0o755)).expect("set");
     };
-    let cases = format!("ci) echo 3 passed, 0 failed;; staticlib) echo {PROOF};; *) echo a kit;;");
+    let cases = "ci) echo 3 passed, 0 failed;; *) echo a kit;;";
     write(programs.join("rt"), format!("case $1 in {cases} esac"));
     write(
         programs.join("cargo"),
@@ -159,6 +165,7 @@ fn a_release_is_made_after_a_gate_that_passed_and_not_after_one_that_failed() {
     repository.copy(&format!("{ROOT}/.ci/run"), ".ci/run");
     repository.copy("/bin/true", "tools/check-map");
     repository.copy("/bin/true", "tools/unfold-lists");
+    repository.program("tools/build", &format!("echo {PROOF}"));
     repository.copy(&format!("{ROOT}/rust/Cargo.toml"), "rust/Cargo.toml");
     repository.commit();
 

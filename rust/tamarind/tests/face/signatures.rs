@@ -37,18 +37,30 @@ fn between<'a>(text: &'a str, start: &str, end: &str) -> Option<&'a str> {
 fn pairs(list: &str) -> Vec<(String, String)> {
     let pair = |item: &str| {
         let (name, kind) = item.split_once(": ").expect("a name and a type");
-        (name.trim().to_string(), kind.trim().to_string())
+        // In a contract `result` is what is returned, so the code cannot call a memory so.
+        let name = if name.trim() == "res" {
+            "result"
+        } else {
+            name.trim()
+        };
+        (name.to_string(), kind.trim().to_string())
     };
     let items = list.split(',').filter(|item| !item.trim().is_empty());
     items.map(pair).collect()
 }
 
+/// What the archive is made of.
+fn exporting_code() -> String {
+    read(format!("{ROOT}/crates/tamarind_c/src/lib.rt"))
+}
+
+/// What that calls; the structs are declared there.
 fn proved_code() -> String {
     read(format!("{ROOT}/crates/tamarind/src/lib.rt"))
 }
 
 fn exports() -> Vec<Export> {
-    let code = proved_code();
+    let code = exporting_code();
     let export = |text: &str| Export {
         name: between(text, "extern \"C\" fn ", "(")
             .expect("a name")
@@ -56,7 +68,10 @@ fn exports() -> Vec<Export> {
         arguments: pairs(between(text, "(", ")").expect("arguments")),
         answer: between(text, "-> ", "\n").expect("an answer").into(),
     };
-    code.split("#[no_mangle]").skip(1).map(export).collect()
+    code.split("#[unsafe(no_mangle)]")
+        .skip(1)
+        .map(export)
+        .collect()
 }
 
 /// A type of the proved code in C, and in Rust: a slice is a pointer and then a
@@ -157,7 +172,8 @@ fn the_structs_have_the_same_fields() {
     let (code, foreign, header) = (proved_code(), crate_code(), one_line(&header()));
     for (name, c_name) in STRUCTS {
         let start = format!("#[repr(C)]\npub struct {name} {{");
-        let proved = between(&code, &start, "}").expect("a struct of the proved code");
+        let copied = start.replace('\n', "\n#[derive(Clone, Copy)]\n");
+        let proved = between(&code, &copied, "}").expect("a struct of the proved code");
         let fields = pairs(&proved.replace("pub ", ""));
         let ours = between(&foreign, &start, "}").expect("a struct of the crate");
         assert_eq!(pairs(ours), fields, "{name}");

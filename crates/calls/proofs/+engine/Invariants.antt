@@ -23,7 +23,7 @@ use Rattle.calls.proofs.Searching.{Searching, Parting}
 use Prim.Native.Nat.{◌+◌, ◌*◌, ◌-◌}
 use mathlib.Core.Path.{◌≡◌}
 use Prim.Native.Nat.{◌+◌}
-use Rattle.calls.proofs.+any_succeeds_apply_call_chain_condition_construct_fill_fill_chain_finish_matches_replace_seek_step_succeeds.Given as goal
+use Rattle.calls.proofs.+engine.Given as goal
 
 abbrev pub decreases-any_succeeds : goal.decreases-any_succeeds
 decreases-any_succeeds l = l.deep * 16 + 8

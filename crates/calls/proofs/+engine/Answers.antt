@@ -50,7 +50,7 @@ use Rattle.calls.proofs.Parting.{step_deconstruct, step_construct, step_conditio
 use Rattle.calls.proofs.Testing.{test_verdict, succeeds_deep, succeeds_called, succeeds_holds}
 use Prim.Native.Nat.{◌+◌}
 use mathlib.Core.Path.{refl, ap}
-use Rattle.calls.proofs.+any_succeeds_apply_call_chain_condition_construct_fill_fill_chain_finish_matches_replace_seek_step_succeeds.Goals as goal
+use Rattle.calls.proofs.+engine.Goals as goal
 
 pub any_succeeds-loop-k-init : goal.any_succeeds-loop-k-init
 any_succeeds-loop-k-init t c = let a = c.args in
