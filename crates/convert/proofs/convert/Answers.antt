@@ -1,4 +1,5 @@
 -- `convert::convert` meets its contract. Assumes nothing.
+use native.Mathlib.Omega.{arith}
 use Rattle.convert.proofs.Outcome.{whole_small, whole_old_long, whole_new_long, whole_old, whole_new, whole_both, whole_between}
 use Rattle.convert.proofs.convert.Goals as goal
 
@@ -9,7 +10,7 @@ pub returns-then-old-gt-MOST_WORDS : goal.returns-then-old-gt-MOST_WORDS
 returns-then-old-gt-MOST_WORDS c = whole_old_long c.args.counted c.args.old.now c.args.new.now c.args.table.now c.args.slip.now c.args.res.now c.if-res-lt-MOST_SLIP_WORDS.false c.if-old-gt-MOST_WORDS.true
 
 pub returns-then-new-gt-MOST_WORDS : goal.returns-then-new-gt-MOST_WORDS
-returns-then-new-gt-MOST_WORDS c = whole_new_long c.args.counted c.args.old.now c.args.new.now c.args.table.now c.args.slip.now c.args.res.now c.if-res-lt-MOST_SLIP_WORDS.false c.if-old-gt-MOST_WORDS.false c.if-new-gt-MOST_WORDS.true
+returns-then-new-gt-MOST_WORDS c = whole_new_long c.args.counted c.args.old.now c.args.new.now c.args.table.now c.args.slip.now c.args.res.now c.if-res-lt-MOST_SLIP_WORDS.false (omega arith) c.if-new-gt-MOST_WORDS.true
 
 pub convert_between-requires : goal.convert_between-requires
 convert_between-requires c = let both = whole_both c.args.counted c.args.old.now c.args.new.now c.args.table.now c.args.slip.now c.args.res.now c.if-res-lt-MOST_SLIP_WORDS.false c.if-old-gt-MOST_WORDS.false c.if-new-gt-MOST_WORDS.false _ c.read_grammar-a.ensures c.in-Passed.is _ c.read_grammar-b.ensures c.in-Passed-b.is in (both.0, both.1, c.if-res-lt-MOST_SLIP_WORDS.false)
