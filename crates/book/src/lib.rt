@@ -1,6 +1,6 @@
 // The layout of the whole rule book (20, 21, each with its position): it is read from its first word to its last by one reader.
 //
-// Functions over the reader are proved by hand, so they are straight lines but for one loop: a refusal is not returned early, it goes on in the answer.
+// Functions over the reader are straight lines but for one loop: a refusal is not returned early, it goes on in the answer.
 #![tactic(auto)]
 
 ghost use Rattle.std.specs.Prelude.{◌≡◌, ◌≤◌};
