@@ -6,7 +6,7 @@
 ghost use Rattle.std.specs.Prelude.{◌≡◌, ◌+◌, ◌≤◌, length};
 ghost use Rattle.std.proofs.Math.Option.{some};
 ghost use Rattle.tamarind.specs.Run.{said, filled_of, memories};
-ghost use Rattle.decimal.specs.Numbers.{said as readAs};
+ghost use Rattle.decimal.specs.Numbers.{said as read_as};
 ghost use Rattle.decimal.specs.Input.{input, input_of, parts_at};
 ghost use Rattle.decimal.specs.Printed.{printed, Put};
 ghost use Rattle.bench.specs.Bench.{Answers, AnswersWhole, ReadsOnce, ReadsOn, AnswersInput};
@@ -100,7 +100,7 @@ fn answer(
     work: &mut [u32],
     out: &mut [u8],
 ) -> usize
-    ensures { Answers (input_of (readAs read numbers.now)) (memories res.old work.old) out.old result (memories res.new work.new) out.new }
+    ensures { Answers (input_of (read_as read numbers.now)) (memories res.old work.old) out.old result (memories res.new work.new) out.new }
 {
     let place = read.place;
     let count = decimal::numbers::least(read.count, numbers.len());
@@ -119,7 +119,7 @@ fn answer_whole(
     work: &mut [u32; WORK],
     out: &mut [u8; OUT],
 ) -> usize
-    ensures { AnswersWhole (readAs read numbers.now) (length numbers.now) result out.new }
+    ensures { AnswersWhole (read_as read numbers.now) (length numbers.now) result out.new }
 {
     answer(read, numbers, res, work, out)
 }

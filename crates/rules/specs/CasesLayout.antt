@@ -6,7 +6,7 @@ use Rattle.words.specs.Views.{answer}
 use Rattle.words.specs.declared.Check.{Check}
 use Rattle.words.specs.declared.Check.TheVariants.{Passed, Refused}
 use Rattle.rules.specs.Rules.{node, new, same, add, greater, operation, nothing, write, copy, chain, deconstruct, search, construct, condition, root_only, first_match, exhaustive, one_pass, Rules, operations, applied, shapes, arguments, applications, pairs_in, arguments_written, applications_written, chain_written, unreadable, chain_of, condition_of, pieces_after, pieces}
-use Rattle.rules.specs.Layout.{strategy_of, stretch, field, pairs, variable_at, deconstruct_fields, condition_fields, part_of, reach, replacement, main_fits, main_bits, type_field, search_fields, construct_fields, part_at, part, parameters, head_fields, head, parts, rule as readRule, layout, read_layout}
+use Rattle.rules.specs.Layout.{strategy_of, stretch, field, pairs, variable_at, deconstruct_fields, condition_fields, part_of, reach, replacement, main_fits, main_bits, type_field, search_fields, construct_fields, part_at, part, parameters, head_fields, head, parts, rule as read_rule, layout, read_layout}
 
 -- the number of types, a book's words, and the layout's answer
 data Case : Type 0 where
@@ -124,5 +124,5 @@ book : Words
 book = 4 ∷ 13 ∷ 2 ∷ 1 ∷ 1 ∷ 64 ∷ 2 ∷ 2 ∷ 4 ∷ 2 ∷ 1 ∷ 2 ∷ 100 ∷ 8 ∷ 4 ∷ 66 ∷ 0 ∷ 1 ∷ 0 ∷ 1009 ∷ 1 ∷ 65 ∷ 1 ∷ 4 ∷ 66 ∷ 0 ∷ 1 ∷ 0 ∷ 1000 ∷ 1 ∷ 65 ∷ 1 ∷ 6 ∷ 0 ∷ 1 ∷ 2 ∷ 2 ∷ 0 ∷ 0 ∷ 65 ∷ 0 ∷ 2 ∷ 1 ∷ 0 ∷ 1 ∷ 2 ∷ 200 ∷ 3 ∷ 2 ∷ 0 ∷ 1 ∷ 64 ∷ 2 ∷ 13 ∷ 1 ∷ 2 ∷ 1 ∷ 64 ∷ 1 ∷ 1 ∷ 24 ∷ 4 ∷ 66 ∷ 0 ∷ 1 ∷ 0 ∷ 1 ∷ 0 ∷ 65 ∷ 0 ∷ 2 ∷ 66 ∷ 0 ∷ 0 ∷ 0 ∷ 9 ∷ 2 ∷ 3 ∷ 1 ∷ 64 ∷ 2 ∷ 1 ∷ 65 ∷ 0 ∷ []
 
 right : (found table ≡ given table) × (read_layout 3 book ≡ value decoded 84)
-unfolding word word_in many end operations applied shapes arguments applications pairs_in arguments_written applications_written chain_written unreadable chain_of condition_of pieces_after pieces strategy_of stretch field pairs variable_at deconstruct_fields condition_fields part_of reach replacement main_fits main_bits type_field search_fields construct_fields part_at part parameters head_fields head parts readRule layout read_layout table given found decoded book
+unfolding word word_in many end operations applied shapes arguments applications pairs_in arguments_written applications_written chain_written unreadable chain_of condition_of pieces_after pieces strategy_of stretch field pairs variable_at deconstruct_fields condition_fields part_of reach replacement main_fits main_bits type_field search_fields construct_fields part_at part parameters head_fields head parts read_rule layout read_layout table given found decoded book
 right = (refl, refl)
