@@ -128,5 +128,7 @@ fn what_rt_says_is_passed_on(here: &Path) {
     let (status, answer, said) = with_rt(here, &format!("{begun}{fault}"), 1);
     assert_eq!((status, answer.as_str()), (6, ""));
     let message = "bench: it is not proved, so it is not run\n";
-    assert!(said.ends_with(&format!("\n{fault}{message}")), "{said}");
+    let (first, rest) = said.split_once('\n').expect("several lines");
+    assert!(first.starts_with("The bench is proved first"), "{said}");
+    assert_eq!(rest, format!("{fault}{message}"));
 }

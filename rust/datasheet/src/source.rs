@@ -72,16 +72,19 @@ fn longest_chain(calls: &Calls, from: &str) -> usize {
 }
 
 /// The functions that the checker has proved as members of a cycle: those that the
-/// code marks with a cycle's name, and those that call themselves alone, whose
-/// proof is in a folder of their name with a `+` before it.
+/// code marks with the name of a cycle, and those that call themselves alone. The
+/// proof is in a folder of that name, or of their own, with a `+` before it.
 pub fn proved_as_cycles() -> BTreeSet<String> {
     let mut proved = BTreeSet::new();
     for Crate { name, files, .. } in crates() {
         let marked: Vec<(&str, &str)> = files.iter().flat_map(|text| marked(text)).collect();
         let proofs = folders_below(&top().join("crates").join(&name).join("proofs"));
         let folders = proofs.iter().filter_map(|folder| folder.strip_prefix('+'));
-        let own = folders.filter(|folder| marked.iter().all(|(cycle, _)| cycle != folder));
-        let members = marked.iter().map(|(_, member)| *member);
+        let folders: BTreeSet<&str> = folders.collect();
+        let own = folders.iter().copied();
+        let own = own.filter(|folder| marked.iter().all(|(cycle, _)| cycle != folder));
+        let members = marked.iter().filter(|(cycle, _)| folders.contains(cycle));
+        let members = members.map(|(_, member)| *member);
         proved.extend(members.chain(own).map(|it| format!("{name}::{it}")));
     }
     proved

@@ -136,15 +136,16 @@ fn names(folder: &Path) -> Vec<String> {
 }
 
 /// A gate of this repository in which other programs stand for those that take
-/// minutes: the Rust tests say this.
-fn gate(repository: &Repository, tests: &str) -> (bool, String, String) {
+/// minutes: of the edits and of the Rust tests they say this.
+fn gate(repository: &Repository, edits: &str, tests: &str) -> (bool, String, String) {
     let programs = repository.path("target/programs");
     fs::create_dir_all(&programs).expect("made");
     let write = |path: PathBuf, text: String| {
         fs::write(&path, format!("#!/bin/sh\n{text}\n")).expect("written");
         fs::set_permissions(&path, fs::Permissions::from_mode(0o755)).expect("set");
     };
-    let cases = "ci) echo 3 passed, 0 failed;; *) echo a kit;;";
+    let ok = format!("rt: ok; handles allowed: none; must-fail edits: {edits}; all done");
+    let cases = format!("ci) echo '{ok}'; echo 3 passed, 0 failed;; *) echo a kit;;");
     write(programs.join("rt"), format!("case $1 in {cases} esac"));
     write(
         programs.join("cargo"),
@@ -169,11 +170,26 @@ fn a_release_is_made_after_a_gate_that_passed_and_not_after_one_that_failed() {
     repository.copy(&format!("{ROOT}/rust/Cargo.toml"), "rust/Cargo.toml");
     repository.commit();
 
-    let (success, printed, _) = gate(&repository, "FAILED. 3 passed; 1 failed");
+    let (refused, passed) = ("2 refused", "ok. 4 passed; 0 failed");
+    let (success, printed, _) = gate(&repository, refused, "FAILED. 3 passed; 1 failed");
     assert!(!success && printed.ends_with("\n8 passed, 1 failed\n"));
     assert!(repository.refusal().contains("8 passed, 1 failed"));
 
-    let (success, printed, _) = gate(&repository, "ok. 4 passed; 0 failed");
+    // An edit that is bad, and an archive or a bench that is not built.
+    let (success, printed, _) = gate(&repository, "2 refused, 1 bad", passed);
+    assert!(
+        !success && printed.ends_with("\n9 passed, 1 failed\n"),
+        "{printed}"
+    );
+    repository.program("tools/build", "exit 1");
+    let (success, printed, _) = gate(&repository, refused, passed);
+    assert!(
+        !success && printed.ends_with("\n9 passed, 2 failed\n"),
+        "{printed}"
+    );
+    repository.program("tools/build", &format!("echo {PROOF}"));
+
+    let (success, printed, _) = gate(&repository, refused, passed);
     assert!(success && printed.ends_with("\n9 passed, 0 failed\n"));
     let (success, _, said) = repository.release();
     assert!(success, "{said}");

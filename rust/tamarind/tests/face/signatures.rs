@@ -37,13 +37,7 @@ fn between<'a>(text: &'a str, start: &str, end: &str) -> Option<&'a str> {
 fn pairs(list: &str) -> Vec<(String, String)> {
     let pair = |item: &str| {
         let (name, kind) = item.split_once(": ").expect("a name and a type");
-        // In a contract `result` is what is returned, so the code cannot call a memory so.
-        let name = if name.trim() == "res" {
-            "result"
-        } else {
-            name.trim()
-        };
-        (name.to_string(), kind.trim().to_string())
+        (name.trim().to_string(), kind.trim().to_string())
     };
     let items = list.split(',').filter(|item| !item.trim().is_empty());
     items.map(pair).collect()
@@ -59,13 +53,22 @@ fn proved_code() -> String {
     read(format!("{ROOT}/crates/tamarind/src/lib.rt"))
 }
 
+/// In a contract `result` is what is returned, so the code cannot call a memory so.
+fn named((name, kind): (String, String)) -> (String, String) {
+    let name = if name == "res" { "result".into() } else { name };
+    (name, kind)
+}
+
 fn exports() -> Vec<Export> {
     let code = exporting_code();
     let export = |text: &str| Export {
         name: between(text, "extern \"C\" fn ", "(")
             .expect("a name")
             .into(),
-        arguments: pairs(between(text, "(", ")").expect("arguments")),
+        arguments: pairs(between(text, "(", ")").expect("arguments"))
+            .into_iter()
+            .map(named)
+            .collect(),
         answer: between(text, "-> ", "\n").expect("an answer").into(),
     };
     code.split("#[unsafe(no_mangle)]")
