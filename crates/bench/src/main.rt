@@ -13,7 +13,7 @@ ghost use Rattle.bench.specs.Bench.{Answers, AnswersWhole, ReadsOnce, ReadsOn, A
 
 use decimal::input::{Lengths, Parts};
 use decimal::numbers::{Piece, Place, Reading};
-use std::io::{self, Read, Stdin, Write};
+use std::io::{Read, Stdin, Write};
 use tamarind::Outcome;
 
 // A budget, three lengths, and one word past each limit.
@@ -124,20 +124,16 @@ fn answer_whole(
     answer(read, numbers, res, work, out)
 }
 
-// What `read` delivered, as a count: negative where it failed.
-fn count_of(read: io::Result<usize>) -> isize {
-    match read {
-        Ok(n) => isize::try_from(n).unwrap_or(-1),
-        Err(_) => -1,
-    }
-}
-
 // Reads once, on from what was read before.
 fn read_once(mut stdin: Stdin, before: Reading, numbers: &mut [u32]) -> Piece
     ensures { ReadsOnce before numbers.old result numbers.new }
 {
     let mut buffer = [0u8; BUFFER];
-    let got = count_of(stdin.read(&mut buffer));
+    // A read that failed is a negative count.
+    let got = match stdin.read(&mut buffer) {
+        Ok(n) => n as isize,
+        Err(_) => -1,
+    };
     decimal::numbers::read_piece(before, got, &buffer, numbers)
 }
 

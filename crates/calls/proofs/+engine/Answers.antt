@@ -1,55 +1,26 @@
-use Rattle.calls.specs.Engine.{given_of, open_of}
-use Rattle.calls.proofs.Testing.{Ended, trying_start, trying_stop, trying_more, trying_end}
-use mathlib.Core.Path.{sym, ◌∙◌, subst}
+-- The cycle of calls: the goals of each member, with its name before them. Assumes nothing.
+use Rattle.calls.specs.Engine.{given_of, open_of, taking_in}
+use Rattle.calls.proofs.Testing.{Ended, trying_start, trying_stop, trying_more, trying_end, condition_over, condition_tested, found_verdict, matches_over, matches_found, test_verdict, succeeds_deep, succeeds_called, succeeds_holds}
+use mathlib.Core.Path.{sym, ◌∙◌, subst, refl, ◌≡◌, ap}
 use native.Mathlib.Omega.{arith}
 use borrow.Author.Rules.{rules}
-use Rattle.rewrite.specs.Vars.{vars_of}
-use Prim.Native.Nat.{◌+◌}
-use mathlib.Core.Path.{refl}
-use lib.ListN.{get_or}
-use Rattle.calls.specs.Engine.{given_of}
-use Rattle.calls.proofs.Applying.{apply_deep, apply_called, apply_computed, apply_edited}
-use Rattle.calls.proofs.Frames.{still_after}
-use Rattle.rewrite.proofs.Matcher.{kept_same}
-use Rattle.calls.proofs.Searching.{seeks_still}
-use mathlib.Core.Path.{◌≡◌, refl, ap, ◌∙◌}
+use Rattle.rewrite.specs.Vars.{vars_of, start_at}
+use Prim.Native.Nat.{◌+◌, ◌*◌, ◌<◌, ◌-◌, ◌≤◌}
+use lib.ListN.{get_or, length-take, length-drop, take, drop}
+use Rattle.calls.proofs.Applying.{apply_deep, apply_called, apply_computed, apply_edited, chaining_start, chaining_stop, chaining_more, chaining_end}
+use Rattle.calls.proofs.Frames.{still_after, grown_still}
+use Rattle.rewrite.proofs.Matcher.{kept_same, answers_kept, kept_more}
+use Rattle.calls.proofs.Searching.{seeks_still, tried_few, tried_inside, spent, searching_start, searching_next, searching_none, searching_spent, searching_differs, searching_stops, Parting, parting_start, parting_on, trying_grown, trying_run, trying_done, trying_differs, trying_stops}
 use Rattle.rules.specs.Views.{onward_of}
-use Prim.Native.Nat.{◌+◌, ◌*◌, ◌<◌}
-use Rattle.calls.specs.Engine.{given_of}
 use Rattle.calls.proofs.Rounds.{calling_start, calls_over, searched, placed}
-use Rattle.calls.proofs.Applying.{chaining_start, chaining_stop, chaining_more, chaining_end}
-use mathlib.Core.Path.{◌∙◌}
-use Prim.Native.Nat.{◌<◌, ◌+◌, ◌*◌}
-use mathlib.Core.Path.{ap}
-use Rattle.calls.specs.Engine.{given_of, open_of, taking_in}
-use Rattle.calls.proofs.Testing.{condition_over, condition_tested}
-use Rattle.calls.proofs.Finishing.{constructs_stopped, constructs_bound}
-use Prim.Native.Nat.{◌+◌, ◌-◌}
-use mathlib.Core.Path.{sym, ◌∙◌}
-use Rattle.calls.proofs.Filling.{over_fits, filling_start, filling_end, filling_write_stops, filling_write, filling_copy_stops, filling_copy, filling_chain_stops, filling_chain}
-use mathlib.Core.Path.{ap, ◌∙◌}
-use Rattle.calls.proofs.Filling.{fills_over, fills_stopped, fills_added}
-use Rattle.rewrite.specs.Vars.{start_at, vars_of}
-use Rattle.calls.proofs.Finishing.{finishes_stopped, finishes_closed}
-use Rattle.calls.proofs.Testing.{found_verdict, matches_over, matches_found}
-use Rattle.calls.specs.Engine.{given_of, open_of}
-use mathlib.Core.Path.{◌≡◌, ap}
+use Rattle.calls.proofs.Finishing.{constructs_stopped, constructs_bound, finishes_stopped, finishes_closed}
+use Rattle.calls.proofs.Filling.{over_fits, filling_start, filling_end, filling_write_stops, filling_write, filling_copy_stops, filling_copy, filling_chain_stops, filling_chain, fills_over, fills_stopped, fills_added}
 use Rattle.calls.proofs.Replacing.{replaces_stopped, replaces_put}
 use Rattle.rewrite.specs.Matching.{match_in}
 use Rattle.rewrite.proofs.Standing.{stretch_below}
-use Rattle.calls.proofs.Frames.{still_after, grown_still}
 use Rattle.rewrite.proofs.Clashing.{next_in}
-use Rattle.rewrite.proofs.Matcher.{answers_kept, kept_same, kept_more}
-use Rattle.calls.proofs.Searching.{tried_few, tried_inside, spent, searching_start, searching_next, searching_none, searching_spent, searching_differs, searching_stops, Parting, parting_start, parting_on, trying_grown, trying_run, trying_done, trying_differs, trying_stops}
-use lib.ListN.{length-take, length-drop}
 use mathlib.Core.Bool.{true, not}
-use Prim.Native.Nat.{◌+◌, ◌*◌, ◌-◌, ◌≤◌, ◌<◌}
-use mathlib.Core.Path.{◌≡◌, refl, ap, subst}
-use lib.ListN.{take, drop}
 use Rattle.calls.proofs.Parting.{step_deconstruct, step_construct, step_condition}
-use Rattle.calls.proofs.Testing.{test_verdict, succeeds_deep, succeeds_called, succeeds_holds}
-use Prim.Native.Nat.{◌+◌}
-use mathlib.Core.Path.{refl, ap}
 use Rattle.calls.proofs.+engine.Goals as goal
 
 pub any_succeeds-loop-k-init : goal.any_succeeds-loop-k-init

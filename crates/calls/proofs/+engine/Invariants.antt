@@ -1,28 +1,15 @@
--- The proof of the cycle of calls: each member's needs are answered in a file below.
+-- The cycle of calls: the measures, the depth of calls left spread by the members' order, and what each loop keeps. Assumes nothing.
 use Rattle.calls.specs.Engine.{given_of, open_of}
 use Rattle.calls.proofs.Testing.{Trying}
 use Rattle.rewrite.specs.Vars.{vars_of}
-use Prim.Native.Nat.{◌+◌}
-use Rattle.calls.specs.Engine.{given_of}
+use Prim.Native.Nat.{◌+◌, ◌*◌, ◌-◌}
 use Rattle.calls.proofs.Frames.{Still}
 use mathlib.Core.Path.{◌≡◌}
-use Prim.Native.Nat.{◌+◌, ◌*◌}
-use Rattle.calls.specs.Engine.{given_of}
 use Rattle.calls.proofs.Rounds.{Calling}
 use Rattle.calls.proofs.Applying.{Chaining}
-use Prim.Native.Nat.{◌+◌, ◌*◌}
-use Rattle.calls.specs.Engine.{given_of, open_of}
-use Prim.Native.Nat.{◌+◌, ◌-◌}
 use lib.ListN.{length}
 use Rattle.calls.proofs.Filling.{Filling}
-use Rattle.rewrite.specs.Vars.{vars_of}
-use Rattle.calls.specs.Engine.{given_of, open_of}
-use mathlib.Core.Path.{◌≡◌}
-use Rattle.calls.proofs.Frames.{Still}
 use Rattle.calls.proofs.Searching.{Searching, Parting}
-use Prim.Native.Nat.{◌+◌, ◌*◌, ◌-◌}
-use mathlib.Core.Path.{◌≡◌}
-use Prim.Native.Nat.{◌+◌}
 use Rattle.calls.proofs.+engine.Given as goal
 
 abbrev pub decreases-any_succeeds : goal.decreases-any_succeeds

@@ -1,5 +1,5 @@
-use borrow.Author.Rules.{rules}
 -- `dues::extended` meets its contract. Assumes nothing.
+use borrow.Author.Rules.{rules}
 use lib.ListN.{length}
 use mathlib.Core.Path.{◌≡◌}
 use Rattle.dues.proofs.Stack.{context_more}

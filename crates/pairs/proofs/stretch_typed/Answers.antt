@@ -1,8 +1,7 @@
 -- `pairs::stretch_typed` meets its contract. Assumes nothing.
 use mathlib.Core.Path.{◌∙◌}
 use native.Mathlib.Omega.{arith}
-use Rattle.pairs.proofs.Stretch.{stretch_inside}
-use Rattle.pairs.proofs.Stretch.{stretch_few, stretch_typed}
+use Rattle.pairs.proofs.Stretch.{stretch_inside, stretch_few, stretch_typed}
 use Rattle.dues.specs.Views.{place_as, context_of, due_of}
 use Rattle.pairs.proofs.stretch_typed.Goals as goal
 
