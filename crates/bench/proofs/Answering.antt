@@ -1,26 +1,25 @@
 -- Laws of answering an input, over plain variables. Assumes nothing.
-use Prim.Native.Nat.{ℕ, ◌+◌, ◌-◌, ◌*◌, ◌≤◌, min}
+use Prim.Native.Nat.{ℕ, ◌+◌, ◌*◌, ◌≤◌, min}
 use mathlib.Core.Path.{◌≡◌, refl, sym, ap, ◌∙◌, subst}
+use mathlib.Core.Logic.{◌⊎◌, inl, inr}
 use mathlib.Core.Option.{Option, none, some}
 use native.Mathlib.Omega.{arith}
-use lib.ListN.{length, get_or, take, drop, length-take}
+use lib.ListN.{length, take, length-take}
 use lib.Seq.{length-take-le}
 use Rattle.words.specs.Reader.{Words}
 use Rattle.meaning.specs.Limits.{least_result, least_work}
 use Rattle.meaning.specs.Outcome.{Inputs, outcome, filled_by}
 use Rattle.meaning.specs.Runs.{Memories}
-use Rattle.tamarind.specs.Run.{said, filled_of, inputs_of, Runs}
+use Rattle.tamarind.specs.Run.{said, filled_of, Runs}
 use Rattle.tamarind.specs.declared.Outcome as Code
 use Rattle.tamarind.specs.declared.Outcome.TheVariants.{Refused, Done, Stopped}
 use Rattle.tamarind.specs.declared.Counts.{Counts}
 use Rattle.tamarind.specs.declared.Stop.{Stop}
 use Rattle.decimal.specs.Numbers.{Bytes, Numbers}
-use Rattle.decimal.specs.Input.{input, input_at, input_of, most_numbers, parts_at, Parted}
+use Rattle.decimal.specs.Input.{input, input_at, input_of, most_numbers}
 use Rattle.decimal.specs.Printed.{printed, printed_unread, Put}
-use Rattle.decimal.specs.declared.input.Parts.{Parts}
-use Rattle.decimal.specs.declared.input.Lengths.{Lengths}
 use Rattle.decimal.specs.declared.numbers.Place.{Place}
-use Rattle.decimal.specs.declared.numbers.Place.TheVariants.{Between, Within}
+use Rattle.decimal.specs.declared.numbers.Place.TheVariants.{Unread, Between, Within}
 use Rattle.decimal.proofs.Reading.{count_all}
 use Rattle.decimal.proofs.Whole.{printed_short, put_whole, enough_room}
 use Rattle.bench.specs.Bench.{answer_to, bench, left_by, Answers, Whole, AnswersWhole}
@@ -37,17 +36,17 @@ part_stopped o s c result e h = sym (length-take-le c.filled result (rw e at h))
 -- the words that an answer says are in the result
 pub filled_there : (o : Code.Outcome) (result : Words) → filled_of o ≡ length (filled_by (said o result)) → filled_of o ≤ length result
 unfolding filled_by
-filled_there (Refused n p) result e = omega arith
+filled_there (Refused x) result e = omega arith
 filled_there (Done c) result e = omega (arith, e, length-take c.filled result)
 filled_there (Stopped s c) result e = omega (arith, e, length-take c.filled result)
 
 filled_few : (o : Code.Outcome) (result : Words) → length (filled_by (said o result)) ≤ length result
 unfolding filled_by
-filled_few (Refused n p) result = omega arith
+filled_few (Refused x) result = omega arith
 filled_few (Done c) result = omega (arith, length-take c.filled result)
 filled_few (Stopped s c) result = omega (arith, length-take c.filled result)
 
-ran_answers : (x : Inputs) (before after : Memories) (o : Code.Outcome) (out out' : Bytes) (r : ℕ) → Runs x before o after → length after.result ≡ length before.result
+pub ran_answers : (x : Inputs) (before after : Memories) (o : Code.Outcome) (out out' : Bytes) (r : ℕ) → Runs x before o after → length after.result ≡ length before.result
     → Put out 0 (printed (said o after.result)) r out' → Answers (some x) before out r after out'
 unfolding answer_to
 ran_answers x before after o out out' r ran long put =
@@ -69,43 +68,16 @@ pub none_answers : (x : Option Inputs) (before : Memories) (out out' : Bytes) (r
 unfolding answer_to
 none_answers x before out out' r e put = rw e record { put = put; left = refl; whole = λ h. put_whole out printed_unread out' r put (omega (arith, h)) }
 
--- THE PARTS
-
--- the slices are the parts
-slices : (ns : Words) (g r t : ℕ) → 4 + g + r + t ≡ length ns
-    → inputs_of (get_or ns 0 0) (take (2 + g - 2) (drop 2 ns)) (take (2 + g + 1 + r - (2 + g + 1)) (drop (2 + g + 1) ns)) (take (length ns - (2 + g + 1 + r + 1)) (drop (2 + g + 1 + r + 1) ns)) ≡ parts_at ns g r t
-slices ns g r t e =
-    let i : 2 + g - 2 ≡ g = omega arith in
-    let j : 2 + g + 1 + r - (2 + g + 1) ≡ r = omega arith in
-    let k : 2 + g + 1 ≡ 3 + g = omega arith in
-    let m : length ns - (2 + g + 1 + r + 1) ≡ t = omega arith in
-    let n : 2 + g + 1 + r + 1 ≡ 4 + g + r = omega arith in
-    rw (i, j, m, n, k)
-
-pub parts_answer : (ns : Words) (g r t : ℕ) → 4 + g + r + t ≡ length ns → (before after : Memories) (o : Code.Outcome) (out out' : Bytes) (n : ℕ)
-    → Runs (inputs_of (get_or ns 0 0) (take (2 + g - 2) (drop 2 ns)) (take (2 + g + 1 + r - (2 + g + 1)) (drop (2 + g + 1) ns)) (take (length ns - (2 + g + 1 + r + 1)) (drop (2 + g + 1 + r + 1) ns))) before o after
-    → length after.result ≡ length before.result → Put out 0 (printed (said o after.result)) n out' → Answers (some (parts_at ns g r t)) before out n after out'
-parts_answer ns g r t e before after o out out' n ran long put =
-    subst (λ (x : Inputs). Answers (some x) before out n after out') (slices ns g r t e) (ran_answers _ before after o out out' n ran long put)
-
-pub parts_none : (ns : Words) (p : Parts) → Parted ns p → p ≡ Parts.Unread → input ns ≡ none
-parts_none ns p x e = sym (rw e at x.same)
-
-pub parts_some : (ns : Words) (p : Parts) (l : Lengths) → Parted ns p → p ≡ Parts.Read l → input ns ≡ some (parts_at ns l.grammar l.rules l.slip)
-parts_some ns p l x e = sym (rw e at x.same)
-
-pub parts_fit : (ns : Words) (p : Parts) (l : Lengths) → Parted ns p → p ≡ Parts.Read l → 4 + l.grammar + l.rules + l.slip ≡ length ns
-parts_fit ns p l x e = rw e at x.fit
-
 -- THE NUMBERS OF A TEXT
 
 pub between_input : (p : Place) (ns : Words) (n m : ℕ) → p ≡ Between → m ≡ min n (length ns) → input_at p (take n ns) ≡ input (take m ns)
 unfolding input_at
 between_input p ns n m e f = rw (e, f, count_all)
 
-pub within_input : (p : Place) (v : ℕ) (ns : Words) → p ≡ Within v → input_at p ns ≡ none
+pub no_input : (p : Place) (ns : Words) → (p ≡ Unread) ⊎ ((v : ℕ) × (p ≡ Within v)) → input_at p ns ≡ none
 unfolding input_at
-within_input p v ns e = rw e
+no_input p ns (inl e) = rw e
+no_input p ns (inr x) = rw x.1
 
 -- THE BYTES TO WRITE
 

@@ -4,7 +4,7 @@ use mathlib.Core.Path.{◌≡◌, refl, sym, ap, ◌∙◌}
 use mathlib.Core.List.{List, [], ◌∷◌, ◌++◌}
 use mathlib.Core.Bool.{Bool, true, false, not}
 use mathlib.Core.Option.{Option, some}
-use lib.IntN.{ℤ}
+use Rattle.std.specs.Prelude.{Option as Answer}
 use lib.ListN.{length, take}
 use lib.Seq.{append_snoc}
 use Rattle.words.specs.Reader.{Words}
@@ -18,7 +18,7 @@ use Rattle.decimal.proofs.Pieces.{over_more, over_last, over_failed, over_number
 use Rattle.bench.proofs.Answering.{whole_part}
 use Rattle.bench.specs.Bench.{AnswersWhole, ReadsOnce, ReadsOn, AnswersInput}
 
-pub once : (s : Reading) (w : Words) (got : ℤ) (buffer : Bytes) (p : Piece) (w' : Words) → Delivers got (delivered (length w) (said s w) got buffer) w p w' → ReadsOnce s w p w'
+pub once : (s : Reading) (w : Words) (got : Answer ℕ) (buffer : Bytes) (p : Piece) (w' : Words) → Delivers got (delivered (length w) (said s w) got buffer) w p w' → ReadsOnce s w p w'
 once s w got buffer p w' x = record { delivery = record { got = got; buffer = buffer }; reads = x }
 
 opposite : (a b : Bool) → not a ≡ b → a ≡ not b

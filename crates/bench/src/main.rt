@@ -7,11 +7,11 @@ ghost use Rattle.std.specs.Prelude.{◌≡◌, ◌+◌, ◌≤◌, length};
 ghost use Rattle.std.proofs.Math.Option.{some};
 ghost use Rattle.tamarind.specs.Run.{said, filled_of, memories};
 ghost use Rattle.decimal.specs.Numbers.{said as read_as};
-ghost use Rattle.decimal.specs.Input.{input, input_of, parts_at};
+ghost use Rattle.decimal.specs.Input.{input, input_of, inputs_of};
 ghost use Rattle.decimal.specs.Printed.{printed, Put};
 ghost use Rattle.bench.specs.Bench.{Answers, AnswersWhole, ReadsOnce, ReadsOn, AnswersInput};
 
-use decimal::input::{Lengths, Parts};
+use decimal::input::Parts;
 use decimal::numbers::{Piece, Place, Reading};
 use std::io::{Read, Stdin, Write};
 use tamarind::Outcome;
@@ -35,8 +35,8 @@ fn print_outcome(outcome: Outcome, res: &[u32], out: &mut [u8]) -> usize
     ensures { Put out.old 0 (printed (said outcome res.now)) result out.new }
 {
     match outcome {
-        Outcome::Refused(number, position) => {
-            decimal::printed::print_refused(number, position, out)
+        Outcome::Refused(refusal) => {
+            decimal::printed::print_refused(refusal.number(), refusal.position(), out)
         }
         Outcome::Done(counts) => {
             let filled = counts.filled;
@@ -45,7 +45,7 @@ fn print_outcome(outcome: Outcome, res: &[u32], out: &mut [u8]) -> usize
         Outcome::Stopped(cause, counts) => {
             let filled = counts.filled;
             decimal::printed::print_stopped(
-                tamarind::number_of(cause),
+                cause.number(),
                 counts.attempts,
                 counts.replacements,
                 &res[..filled],
@@ -56,25 +56,14 @@ fn print_outcome(outcome: Outcome, res: &[u32], out: &mut [u8]) -> usize
 }
 
 // Runs an input that is in parts, and prints the outcome.
-fn run_parts(
-    lengths: Lengths,
-    numbers: &[u32],
-    res: &mut [u32],
-    work: &mut [u32],
-    out: &mut [u8],
-) -> usize
-    requires { 4 + lengths.grammar + lengths.rules + lengths.slip ≡ length numbers.now }
-    ensures { Answers (some (parts_at numbers.now lengths.grammar lengths.rules lengths.slip)) (memories res.old work.old) out.old result (memories res.new work.new) out.new }
+fn run_parts(parts: Parts, res: &mut [u32], work: &mut [u32], out: &mut [u8]) -> usize
+    ensures { Answers (some (inputs_of parts.entry)) (memories res.old work.old) out.old result (memories res.new work.new) out.new }
 {
-    let grammar_end = 2 + lengths.grammar;
-    let rules_start = grammar_end + 1;
-    let rules_end = rules_start + lengths.rules;
-    let slip_start = rules_end + 1;
     let outcome = tamarind::run(
-        &numbers[2..grammar_end],
-        &numbers[rules_start..rules_end],
-        &numbers[slip_start..],
-        numbers[0],
+        parts.grammar,
+        parts.rules,
+        parts.slip,
+        parts.budget,
         res,
         work,
     );
@@ -85,10 +74,9 @@ fn run_parts(
 fn answer_numbers(numbers: &[u32], res: &mut [u32], work: &mut [u32], out: &mut [u8]) -> usize
     ensures { Answers (input numbers.now) (memories res.old work.old) out.old result (memories res.new work.new) out.new }
 {
-    let parts = decimal::input::find_parts(numbers);
-    match parts {
-        Parts::Unread => decimal::printed::print_unread(out),
-        Parts::Read(lengths) => run_parts(lengths, numbers, res, work, out),
+    match decimal::input::find_parts(numbers) {
+        Some(parts) => run_parts(parts, res, work, out),
+        None => decimal::printed::print_unread(out),
     }
 }
 
@@ -102,12 +90,12 @@ fn answer(
 ) -> usize
     ensures { Answers (input_of (read_as read numbers.now)) (memories res.old work.old) out.old result (memories res.new work.new) out.new }
 {
-    let place = read.place;
-    let count = decimal::numbers::least(read.count, numbers.len());
-    match place {
-        Place::Between => answer_numbers(&numbers[..count], res, work, out),
-        Place::Unread => decimal::printed::print_unread(out),
-        Place::Within(_) => decimal::printed::print_unread(out),
+    match read.place {
+        Place::Between => {
+            let count = read.count.min(numbers.len());
+            answer_numbers(&numbers[..count], res, work, out)
+        }
+        Place::Unread | Place::Within(_) => decimal::printed::print_unread(out),
     }
 }
 
@@ -129,29 +117,23 @@ fn read_once(mut stdin: Stdin, before: Reading, numbers: &mut [u32]) -> Piece
     ensures { ReadsOnce before numbers.old result numbers.new }
 {
     let mut buffer = [0u8; BUFFER];
-    // A read that failed is a negative count.
-    let got = match stdin.read(&mut buffer) {
-        Ok(n) => n as isize,
-        Err(_) => -1,
-    };
-    decimal::numbers::read_piece(before, got, &buffer, numbers)
+    let got = stdin.read(&mut buffer).ok();
+    before.read_piece(got, &buffer, numbers)
 }
 
 // Reads on to the end of standard input, or up to the first byte that makes it unread. A proved loop has to end, and nothing says that an input does: so the
-// loop counts its turns down, from a number that no run uses up.
+// loop takes no more turns than a number that no run uses up.
 fn read_on(stdin: Stdin, mut read: Reading, numbers: &mut [u32]) -> Reading
     ensures { ReadsOn read numbers.old result numbers.new }
 {
-    let mut turns: u64 = 18446744073709551615;
-    while turns > 0 {
+    for _ in 0..u64::MAX {
         let piece = read_once(stdin, read, numbers);
         read = piece.read;
         if !piece.more {
             return read;
         }
-        turns -= 1;
     }
-    decimal::numbers::unread()
+    Reading::unread()
 }
 
 // Reads standard input and answers it.
@@ -164,7 +146,7 @@ fn answer_input(
 ) -> usize
     ensures { AnswersInput result out.new }
 {
-    let read = read_on(stdin, decimal::numbers::first(), numbers);
+    let read = read_on(stdin, Reading::first(), numbers);
     answer_whole(read, numbers, res, work, out)
 }
 

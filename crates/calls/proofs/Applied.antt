@@ -18,7 +18,8 @@ use Rattle.rules.specs.Layout as Layout
 use Rattle.rules.proofs.Laid.{head_few, rule_value}
 use Rattle.rules.proofs.Numbers.{rule_number, an_operation_lem, an_edit_lem}
 use Rattle.meaning.specs.declared.State.{State}
-use Rattle.meaning.specs.Computation.{Result, ok, stop, stuck, Comp, then_of, stop_unless, check, present, live_within}
+use Rattle.meaning.specs.Computation as Computation
+use Rattle.meaning.specs.Computation.{ok, stop, stuck, Comp, then_of, stop_unless, check, present, live_within}
 use Rattle.meaning.specs.Operations.{rounded, truncated, in_range, divisor, with_one, with_none, compute, compare, values_of}
 use Rattle.meaning.specs.Meaning.{Env, live, start, fits, begin, variables}
 use Rattle.operations.specs.Operating.{arguments_of}
@@ -99,7 +100,7 @@ compare_arguments greater a bs l b h s = one_sure bs _ l b h s
 
 -- ITS RESULT IS IN RANGE
 
-abbrev Small : Result ℕ → Type 0
+abbrev Small : Computation.Result ℕ → Type 0
 Small (ok v l) = v ≤ greatest_number
 Small (stop n l) = Unit {0}
 Small stuck = Unit {0}
@@ -193,7 +194,7 @@ arguments_stand g arena ws (suc (suc (suc k))) vars env args l s e read few =
 
 -- `run` is what is done with what is applied and the arguments; x is the application's first word
 module _ {A : Type 0} (env : Env) (xs : List ℕ) (x : ℕ) (l : State) (run : Applied → Env → Comp A) where
-  abbrev whole : Result A
+  abbrev whole : Computation.Result A
   whole = then_of (variables env xs l) (run (applied x))
 
   -- the arguments of an application that is not stuck

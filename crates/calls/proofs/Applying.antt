@@ -1,4 +1,5 @@
 -- What `apply` and `chain` promise, from what their callees promise. Assumes nothing.
+use Rattle.sequences.proofs.Sealing.{ok_is, no_ok}
 use Prim.Native.Nat.{ℕ, zero, suc, ◌+◌, ◌-◌, ◌*◌, ◌<◌, ◌≤◌, ◌^◌}
 use mathlib.Core.Path.{◌≡◌, refl, sym, ap, ◌∙◌, subst}
 use mathlib.Core.List.{List}
@@ -18,7 +19,9 @@ use Rattle.rules.proofs.Numbers.{edit_from}
 use Rattle.rules.specs.Layout as Layout
 use Rattle.meaning.specs.Limits.{most_live}
 use Rattle.meaning.specs.declared.State.{State}
-use Rattle.meaning.specs.Computation.{Result, ok, stop, stuck, Comp, then_of, check, present, return}
+use Rattle.std.specs.Prelude.{Result, Ok, Err, Some, None}
+use Rattle.meaning.specs.Computation as Computation
+use Rattle.meaning.specs.Computation.{ok, stop, stuck, Comp, then_of, check, present, return}
 use Rattle.meaning.specs.Operations.{compute, value_of, values_of, with_value, is_number_token, are_number_tokens}
 use Rattle.meaning.specs.Edits.{edit}
 use Rattle.meaning.specs.Meaning as M
@@ -26,16 +29,17 @@ use Rattle.meaning.specs.Meaning.{Env, variables, done, cannot_go_on, result_as,
 use Rattle.operations.specs.Operating.{arguments_of}
 use Rattle.rewrite.specs.Vars.{Vars, EnvAt, starts_of, start_at, Sound}
 use Rattle.rewrite.specs.Arena.{Arguments, Standing, Gathered, ComputedAs, Computed, Says}
-use Rattle.rewrite.specs.declared.arena.Placed.{Placed}
+use Rattle.tables.specs.declared.types.Types.{Types}
+use Rattle.calls.specs.Places.{Halted}
 use Rattle.sequences.specs.Listed.{Edits}
 use Rattle.sequences.proofs.Editing.{edit_few}
 use Rattle.rules.specs.Views.{chain_count}
-use Rattle.calls.specs.Engine.{Sure, EndedAs, Tree, Given, Setting, EditsAt, apply_at, chain_at, Applies, Chains, Calls}
+use Rattle.calls.specs.Engine.{Sure, EndedAs, scope_by, scope_of, Tree, Given, Setting, EditsAt, apply_at, chain_at, Applies, Chains, Calls}
 use Rattle.calls.specs.declared.Built.{Built}
 use Rattle.calls.specs.declared.Called.{Called}
 use Rattle.rewrite.proofs.Standing.{standing_stands}
 use Rattle.calls.proofs.Frames.{env_kept}
-use Rattle.calls.proofs.Going.{then_ok, then_stop, sure_first, sure_as, says_ok, says_stop, stop_says, says_map, then_then}
+use Rattle.calls.proofs.Going.{and_nodes, and_is, then_ok, then_stop, sure_first, sure_as, says_ok, says_stop, stop_says, says_map, then_then}
 use Rattle.meaning.proofs.Numbers.{NumberToken, number_token}
 use Rattle.rewrite.proofs.Numbers.{value_there, value_written}
 use Rattle.calls.proofs.Applied.{RuleGiven, rule_given, operation_given, edit_given, arguments_stand, rule_few, begin_sure, compute_arguments, compute_range, operand_values}
@@ -54,10 +58,14 @@ call_begins g rules deeper r args scope besides l = with_replacement r.replaceme
     with_replacement none go e = absurd (go refl)
     with_replacement (some ps) go e = go (rw e)
 
-result_says : (n : ℕ) (left : State) (c : M.Called) (P : Words → Type 0) → EndedAs n c.ending → left ≡ c.left → P c.scope → Says P n left (result_of c)
+result_says : (s : Halted) (nodes : ℕ) (left : State) (c : M.Called) (P : ℕ → Words → Type 0) → EndedAs s c.ending → left ≡ c.left → P nodes c.scope → Says P (scope_by s nodes) left (result_of c)
 unfolding result_of result_as
-result_says zero left c P e l p = (c.scope, p, rw (e, l))
-result_says (suc k) left c P e l p = rw (e, l)
+result_says None nodes left c P e l p = (c.scope, p, rw (e, l))
+result_says (Some k) nodes left c P e l p = rw (e, l)
+
+scope_nodes : (s : Halted) (nodes : ℕ) {m : ℕ} → scope_by s nodes ≡ Ok m → m ≡ nodes
+scope_nodes None nodes e = cc
+scope_nodes (Some k) nodes e = absurd (no_ok e)
 
 result_sure : (c : M.Called) → Sure (result_of c) → c.ending ≡ cannot_go_on → ⊥
 unfolding result_of result_as
@@ -98,10 +106,10 @@ module _ (g : Grammar) (rules : Rules.Rules) (deeper : M.Calls) (scope : Words) 
   apply_operation o args l = refl
 
 -- the number is written, or nothing is changed
-computed_says : (g : Grammar) (w w' : Words) (base n t : ℕ) (scope : Words) → NumberToken g scope → Standing g w base n t scope → (o : Operation) (a : ℕ) (bs : List ℕ) (left : State) (j : ℕ)
+computed_says : (g : Grammar) (w w' : Words) (base n t : ℕ) (scope : Words) → NumberToken g scope → Standing g w base n t scope → (o : Operation) (a : ℕ) (bs : List ℕ) (left : State) (j : Result (Unit {0}) ℕ)
     → ComputedAs w w' base (compute o a bs left) left j
-    → (take base w' ≡ take base w) × Says (Tree g w' base n) j left (then_of (compute o a bs left) (λ v. return (with_value scope v)))
-computed_says g w w' base n t scope k x o a bs left zero z = (
+    → (take base w' ≡ take base w) × Says (Tree g w' base) (and_nodes j n) left (then_of (compute o a bs left) (λ v. return (with_value scope v)))
+computed_says g w w' base n t scope k x o a bs left (Ok u) z = (
   ap (take base) z.2 ∙ take-set-le base w (base + 1) z.0 (omega arith),
   (
     with_value scope z.0,
@@ -109,13 +117,13 @@ computed_says g w w' base n t scope k x o a bs left zero z = (
     then_ok (compute o a bs left) (λ v. return (with_value scope v)) z.0 left z.1,
   ),
 )
-computed_says g w w' base n t scope k x o a bs left (suc j) z = (ap (take base) z.1, then_stop (compute o a bs left) (λ v. return (with_value scope v)) (suc j) left z.0)
+computed_says g w w' base n t scope k x o a bs left (Err j) z = (ap (take base) z.1, then_stop (compute o a bs left) (λ v. return (with_value scope v)) j left z.0)
 
 module _ (given : Given) (w pairs : Words) (at base n : ℕ) (vars : Vars) (besides under deep : ℕ) (left : State) (few : n ≤ most_nodes) (fits : besides + n ≤ most_live) where
   abbrev Done : Words → Built → Type 0
   Done w' r = Applies given w w' pairs at base n vars besides under deep left r
 
-  abbrev Run : Grammar → Rules.Rules → Env → Words → Result Words
+  abbrev Run : Grammar → Rules.Rules → Env → Words → Computation.Result Words
   Run g rules env scope = apply_at deep pairs at g rules env scope besides under left
 
   abbrev names : List ℕ
@@ -130,23 +138,23 @@ module _ (given : Given) (w pairs : Words) (at base n : ℕ) (vars : Vars) (besi
           rule_given env names (get_or pairs at 0) left _ rules _ (omega arith) (λ args. apply_rule g rules (calls true g rules deep) scope besides under (get_or pairs at 0) args left) s
 
       -- no call may nest deeper
-      pub apply_deep : deep ≡ 0 → (r : Built) → r ≡ record { stop = 41; nodes = n; left = left } → Done w r
-      apply_deep d r e = rw e (record {
-        few = few;
-        fits = fits;
+      pub apply_deep : deep ≡ 0 → {k : ℕ} → k ≡ 41 → Done w (record { nodes = Err k; left = left })
+      apply_deep d ek = record {
+        few = λ e. absurd (no_ok e);
+        fits = λ e. absurd (no_ok e);
         less = le_refl left.attempts;
         long = refl;
         meant = λ g rules env scope st env_at tree s.
             let q = ruled g rules env scope s in
-            (refl, q.same ∙ rewrites_none g rules q.rule q.args scope besides left deep d);
-      })
+            (refl, q.same ∙ rewrites_none g rules q.rule q.args scope besides left deep d ∙ ap (λ j. stop j left) (sym ek));
+      }
 
       pub apply_called : (deep ≡ 0 → ⊥) → (args : Arguments) → Gathered w pairs (at + 2) k vars args → (start : ℕ) → (a < 64 → start ≡ get_or given.starts a 0) → (w' : Words) (c : Called)
           → Calls given w w' start base n args.vars (besides + args.total) (deep - 1) left c
-          → (r : Built) → r ≡ record { stop = c.stop; nodes = c.nodes; left = c.left } → Done w' r
+          → (r : Result ℕ ℕ) → r ≡ scope_of c → Done w' (record { nodes = r; left = c.left })
       apply_called d args ga start es w' c cs r e = rw e (record {
-        few = cs.few;
-        fits = cs.fits besides (omega arith) fits;
+        few = λ z. omega (arith, scope_nodes c.stop c.nodes z, cs.few);
+        fits = λ z. omega (arith, scope_nodes c.stop c.nodes z, cs.fits besides (omega arith) fits);
         less = cs.less;
         long = cs.long;
         meant = λ g rules env scope st env_at tree s.
@@ -156,23 +164,23 @@ module _ (given : Given) (w pairs : Words) (at base n : ℕ) (vars : Vars) (besi
             let run : Run g rules env scope ≡ result_of m = q.same ∙ rewrites_call g rules q.rule q.args scope besides left deep d in
             let goes = result_sure m (sure_as run s) in
             let b = begin_sure g q.rule q.args scope besides left (call_begins g rules (calls true g rules (deep - 1)) q.rule q.args scope besides left goes) in
-            let f = rule_few given.types given.book (get_or given.starts (get_or pairs at 0) 0) q.rule p.1.0 p.1.1 in
-            let held = ga.stands g base env q.args left st.tables.heads_of.types env_at (omega (arith, f, b.0, q.many, arguments_length (get_or pairs (at + 1) 0) (drop (at + 2) pairs)))
+            let f = rule_few given.types.count given.book (get_or given.starts (get_or pairs at 0) 0) q.rule p.1.0 p.1.1 in
+            let held = ga.stands g base env q.args left st.types_of.heads_of.types env_at (omega (arith, f, b.0, q.many, arguments_length (get_or pairs (at + 1) 0) (drop (at + 2) pairs)))
             (subst (λ j. variables env (arguments j (drop (at + 2) pairs)) left ≡ ok q.args left) (sym ek) q.read) in
             let place : start ≡ get_or given.starts (get_or pairs at 0) 0 = es (omega (arith, p.0)) ∙ ap (λ j. get_or given.starts j 0) ea in
-            let z = cs.meant g rules q.rule p.1.0 q.args scope besides st (ap (Layout.rule given.types given.book) place ∙ p.1.1) held.0 (omega (arith, held.1)) tree goes in (
+            let z = cs.meant g rules q.rule p.1.0 q.args scope besides st (ap (Layout.rule given.types.count given.book) place ∙ p.1.1) held.0 (omega (arith, held.1)) tree goes in (
               z.0,
-              says_map (Tree g w' base c.nodes) (Tree g w' base c.nodes) (result_of m) (Run g rules env scope) c.left c.stop (λ ws x. x) run
-                  (result_says c.stop c.left m (Tree g w' base c.nodes) z.1.0 z.1.1 z.1.3),
+              says_map (Tree g w' base) (Tree g w' base) (result_of m) (Run g rules env scope) c.left (scope_of c) (λ n ws x. x) run
+                  (result_says c.stop c.nodes c.left m (Tree g w' base) z.1.0 z.1.1 z.1.3),
             );
       })
 
     module _ (h : 1000 ≤ a) (low : a < 1010) where
-      pub apply_computed : Sound vars → (b : ℕ) → b ≡ get_or w (start_at vars (get_or pairs (at + 3) 0) + 1) 0 → (w' : Words) (j : ℕ) → Computed w w' base a b j
-          → (r : Built) → r ≡ record { stop = j; nodes = n; left = left } → Done w' r
+      pub apply_computed : Sound vars → (b : ℕ) → b ≡ get_or w (start_at vars (get_or pairs (at + 3) 0) + 1) 0 → (w' : Words) (j : Result (Unit {0}) ℕ) → Computed w w' base a b j
+          → (r : Result ℕ ℕ) → r ≡ and_nodes j n → Done w' (record { nodes = r; left = left })
       apply_computed sound b eb w' j cp r e = rw e (record {
-        few = few;
-        fits = fits;
+        few = λ z. omega (arith, and_is j n z, few);
+        fits = λ z. omega (arith, and_is j n z, fits);
         less = le_refl left.attempts;
         long = cp.long;
         meant = λ g rules env scope st env_at tree s.
@@ -187,13 +195,12 @@ module _ (given : Given) (w pairs : Words) (at base n : ℕ) (vars : Vars) (besi
             let same : compute q.o (value_of scope) (values_of q.args) left ≡ compute q.o (get_or w (base + 1) 0) (arguments_of q.o b) left = rw (here, values) in
             let token = number_token g scope (and_both (is_number_token g scope) (are_number_tokens g q.args) q.checked).0 in
             let z = computed_says g w w' base n tree.0 scope token tree.1 q.o (get_or w (base + 1) 0) (arguments_of q.o b) left j (cp.computed q.o left (ap applied ea ∙ q.is) (sure_as same cs)) in
-            (z.0, says_map (Tree g w' base n) (Tree g w' base n) _ (Run g rules env scope) left j (λ ws x. x) (q.same ∙ ap (λ m. then_of m (λ v. return (with_value scope v))) same) z.1);
+            (z.0, says_map (Tree g w' base) (Tree g w' base) _ (Run g rules env scope) left (and_nodes j n) (λ n ws x. x) (q.same ∙ ap (λ m. then_of m (λ v. return (with_value scope v))) same) z.1);
       })
 
     module _ (h : 1010 ≤ a) where
-      pub apply_edited : Sound vars → (w' : Words) (p : Placed) → EditsAt given.heads given.rows w w' pairs at base n vars under besides p
-          → (r : Built) → r ≡ record { stop = p.stop; nodes = p.nodes; left = left } → Done w' r
-      apply_edited sound w' p ed r e = rw e (record {
+      pub apply_edited : Sound vars → (w' : Words) (p : Result ℕ ℕ) → EditsAt given.types w w' pairs at base n vars under besides p → Done w' (record { nodes = p; left = left })
+      apply_edited sound w' p ed = record {
         few = ed.few;
         fits = ed.fits;
         less = le_refl left.attempts;
@@ -209,14 +216,14 @@ module _ (given : Given) (w pairs : Words) (at base n : ℕ) (vars : Vars) (besi
             let z : at + 2 + 3 ≡ at + 5 = omega arith in
             let one : get_or (drop (at + 2) pairs) 1 0 ≡ get_or pairs (at + 3) 0 = get_or-drop (at + 2) pairs 1 0 ∙ ap (λ i. get_or pairs i 0) y in
             let two : get_or (drop (at + 2) pairs) 3 0 ≡ get_or pairs (at + 5) 0 = get_or-drop (at + 2) pairs 3 0 ∙ ap (λ i. get_or pairs i 0) z in
-            let m = ed.meant g q.o q.args scope tree.0 left st.tables q.is tree.1 (rw (one, two) at stand) sure in
-            (m.0, says_map (Standing g w' base p.nodes tree.0) (Tree g w' base p.nodes) _ (Run g rules env scope) left p.stop (λ ws x. (tree.0, x)) run m.1);
-      })
+            let m = ed.meant g q.o q.args scope tree.0 left st.types_of q.is tree.1 (rw (one, two) at stand) sure in
+            (m.0, says_map (λ nodes. Standing g w' base nodes tree.0) (Tree g w' base) _ (Run g rules env scope) left p (λ nodes ws x. (tree.0, x)) run m.1);
+      }
 
 -- the operation and its arguments as the pairs name them
-pub edits_at : (heads rows w w' pairs : Words) (at base n : ℕ) (vars : Vars) (under besides : ℕ) (r : Placed) (op x y first second : ℕ) → op ≡ get_or pairs at 0 → x ≡ get_or pairs (at + 3) 0 → y ≡ get_or pairs (at + 5) 0
-    → first ≡ start_at vars x → second ≡ start_at vars y → Edits heads rows w w' op base n first second under besides r → EditsAt heads rows w w' pairs at base n vars under besides r
-edits_at heads rows w w' pairs at base n vars under besides r op x y first second eo ex ey ef es e = rw (← eo, ← ex, ← ey, ← ef, ← es) e
+pub edits_at : (types : Types) (w w' pairs : Words) (at base n : ℕ) (vars : Vars) (under besides : ℕ) (r : Result ℕ ℕ) (op x y first second : ℕ) → op ≡ get_or pairs at 0 → x ≡ get_or pairs (at + 3) 0 → y ≡ get_or pairs (at + 5) 0
+    → first ≡ start_at vars x → second ≡ start_at vars y → Edits types w w' op base n first second under besides r → EditsAt types w w' pairs at base n vars under besides r
+edits_at types w w' pairs at base n vars under besides r op x y first second eo ex ey ef es e = rw (← eo, ← ex, ← ey, ← ef, ← es) e
 
 -- A CHAIN
 
@@ -233,7 +240,7 @@ unfolding M.apply_chain applications
 chain_end g rules deeper ws k env scope besides under l e = rw e
 
 module _ (given : Given) (w₀ pairs : Words) (from base n : ℕ) (vars : Vars) (besides under deep : ℕ) (left : State) where
-  abbrev Whole : Grammar → Rules.Rules → Env → Words → Result Words
+  abbrev Whole : Grammar → Rules.Rules → Env → Words → Computation.Result Words
   Whole g rules env scope = M.apply_chain true g rules (calls true g rules deep) (chain_at pairs from) env scope besides under left
 
   -- the tree as it is now; what is left of the chain is the rest of the whole
@@ -276,7 +283,7 @@ module _ (given : Given) (w₀ pairs : Words) (from base n : ℕ) (vars : Vars) 
     module _ (h : 0 < k) (w' : Words) (b : Built) (done : Applies given w w' pairs at base nodes vars besides under deep fuel b) where
       -- what the application gave
       one : (g : Grammar) (rules : Rules.Rules) (env : Env) (scope : Words) → Setting given g rules → EnvAt g (take base w₀) (starts_of vars) env → Tree g w₀ base n scope
-          → Sure (Whole g rules env scope) → (now : Words) × (take base w' ≡ take base w₀) × Says (Tree g w' base b.nodes) b.stop b.left (apply_at deep pairs at g rules env now besides under fuel)
+          → Sure (Whole g rules env scope) → (now : Words) × (take base w' ≡ take base w₀) × Says (Tree g w' base) b.nodes b.left (apply_at deep pairs at g rules env now besides under fuel)
           × (Whole g rules env scope ≡ then_of (apply_at deep pairs at g rules env now besides under fuel) (λ next. M.apply_chain true g rules (calls true g rules deep) (applications (k - 1) (drop (next_at pairs at) pairs)) env next besides under))
       one g rules env scope st env_at tree s =
           let q = i.gone g rules env scope st env_at tree s in
@@ -284,7 +291,7 @@ module _ (given : Given) (w₀ pairs : Words) (from base n : ℕ) (vars : Vars) 
           let m = done.meant g rules env q.now st (env_kept g w₀ w base q.kept (starts_of vars) env env_at) q.tree (sure_first _ _ (sure_as e s)) in
           (q.now, m.0 ∙ q.kept, m.1, e)
 
-      pub chaining_stop : (b.stop ≡ 0 → ⊥) → Chains given w₀ w' pairs from base n vars besides under deep left (record { built = b; next = at })
+      pub chaining_stop : {stopped : ℕ} → b.nodes ≡ Err stopped → Chains given w₀ w' pairs from base n vars besides under deep left (record { built = b; next = at })
       chaining_stop ne = record {
         builds = record {
           few = done.few;
@@ -293,19 +300,19 @@ module _ (given : Given) (w₀ pairs : Words) (from base n : ℕ) (vars : Vars) 
           long = done.long ∙ i.long;
           meant = λ g rules env scope st env_at tree s.
               let q = one g rules env scope st env_at tree s in
-              (q.1, stop_says (Tree g w' base b.nodes) (Whole g rules env scope) b.left b.stop ne (q.3 ∙ then_stop _ _ b.stop b.left (says_stop _ _ b.left b.stop ne q.2)));
+              (q.1, stop_says (Tree g w' base) (Whole g rules env scope) b.left ne (q.3 ∙ then_stop _ _ _ b.left (says_stop _ _ b.left ne q.2)));
         };
         later = i.later;
         near = omega (arith, i.near);
-        next_is = λ e. absurd (ne e);
+        next_is = λ e. absurd (no_ok (sym ne ∙ e));
       }
 
-      pub chaining_more : b.stop ≡ 0 → (x : ℕ) → x ≡ get_or pairs (at + 1) 0 → x < 2 ^ 32 → Chaining w' (k - 1) (at + 2 + 2 * x) b.left b.nodes
+      pub chaining_more : {now : ℕ} → b.nodes ≡ Ok now → (x : ℕ) → x ≡ get_or pairs (at + 1) 0 → x < 2 ^ 32 → Chaining w' (k - 1) (at + (2 + 2 * x)) b.left now
       chaining_more z x ex small =
-          let next : at + 2 + 2 * x ≡ next_at pairs at = ap (λ j. at + 2 + 2 * j) ex in
+          let next : at + (2 + 2 * x) ≡ at + 2 + 2 * get_or pairs (at + 1) 0 = omega (arith, ex) in
           record {
-            few = done.few;
-            fits = done.fits;
+            few = done.few z;
+            fits = done.fits z;
             less = omega (arith, done.less, i.less);
             long = done.long ∙ i.long;
             later = omega (arith, i.later);
@@ -313,7 +320,7 @@ module _ (given : Given) (w₀ pairs : Words) (from base n : ℕ) (vars : Vars) 
             ends = ap (λ j. j + 2 * pairs_in (applications (k - 1) (drop j pairs))) next ∙ sym (pairs_step pairs at k h) ∙ i.ends;
             gone = λ g rules env scope st env_at tree s.
                 let q = one g rules env scope st env_at tree s in
-                let v = says_ok _ _ b.left b.stop z q.2 in
+                let v = says_ok _ _ b.left z q.2 in
                 record {
                   kept = q.1;
                   now = v.0;
@@ -323,12 +330,12 @@ module _ (given : Given) (w₀ pairs : Words) (from base n : ℕ) (vars : Vars) 
                 };
           }
 
-    pub chaining_end : k ≡ 0 → (b : Built) → b ≡ record { stop = 0; nodes = nodes; left = fuel } → Chains given w₀ w pairs from base n vars besides under deep left (record { built = b; next = at })
+    pub chaining_end : k ≡ 0 → Chains given w₀ w pairs from base n vars besides under deep left (record { built = record { nodes = Ok nodes; left = fuel }; next = at })
     unfolding pairs_in applications
-    chaining_end z b e = rw e (record {
+    chaining_end z = record {
       builds = record {
-        few = i.few;
-        fits = i.fits;
+        few = λ e. omega (arith, ok_is e, i.few);
+        fits = λ e. omega (arith, ok_is e, i.fits);
         less = i.less;
         long = i.long;
         meant = λ g rules env scope st env_at tree s.
@@ -338,4 +345,4 @@ module _ (given : Given) (w₀ pairs : Words) (from base n : ℕ) (vars : Vars) 
       later = i.later;
       near = omega (arith, i.near);
       next_is = λ y. omega (arith, i.ends, ap (λ j. pairs_in (applications j (drop at pairs))) z);
-    })
+    }

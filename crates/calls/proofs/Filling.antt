@@ -1,5 +1,7 @@
 -- The loop that fills a replacement, and the chains in it: what was filled so far, and the definition at what is left. Assumes nothing.
-use Prim.Native.Nat.{ℕ, zero, suc, ◌+◌, ◌*◌, ◌<◌, ◌≤◌, ◌^◌}
+use Rattle.sequences.proofs.Sealing.{ok_is}
+use Rattle.rewrite.specs.Arena.{Within}
+use Prim.Native.Nat.{ℕ, ◌+◌, ◌*◌, ◌<◌, ◌≤◌, ◌^◌}
 use mathlib.Core.Path.{◌≡◌, refl, sym, ap, ap₂, ◌∙◌, subst}
 use mathlib.Core.List.{List, [], ◌∷◌, ◌++◌, append_assoc, append-nil}
 use mathlib.Core.Bool.{Bool, true, false}
@@ -21,12 +23,14 @@ use Rattle.rules.specs.Rules as Rules
 use Rattle.rules.specs.Rules.{Piece, write, copy, chain, Application, applications, pairs_in, chain_written, unreadable, chain_of, pieces_after, pieces}
 use Rattle.meaning.specs.Limits.{most_live}
 use Rattle.meaning.specs.declared.State.{State}
-use Rattle.meaning.specs.Computation.{Result, ok, stop, stuck, Comp, then_of, ◌>>=◌, ◌>>◌, return, stop_unless, present, nodes_within, live_within}
+use Rattle.std.specs.Prelude.{Result, Ok, Err}
+use Rattle.meaning.specs.Computation as Computation
+use Rattle.meaning.specs.Computation.{ok, stop, stuck, Comp, then_of, ◌>>=◌, ◌>>◌, return, stop_unless, present, nodes_within, live_within}
 use Rattle.meaning.specs.Meaning.{Env, Bindings, live, variable, variables, apply, apply_chain, fill, calls}
 use Rattle.marks.specs.Marked.{Stands, UnderWay, nothing, written}
 use Rattle.marks.proofs.Laying.{under_tree, under_append}
 use Rattle.rewrite.specs.Vars.{starts_of, start_at}
-use Rattle.rewrite.specs.Arena.{NodesAt, over_by, Standing, Says}
+use Rattle.rewrite.specs.Arena.{NodesAt, within_limits, Standing, Says}
 use Rattle.rules.specs.Views.{pairs_at}
 use Rattle.calls.specs.Engine.{Open, Room, Held, Given, Setting, Sure, Tree, chain_at, chain_piece, Chains, FillsChain, Fills}
 use Rattle.calls.specs.declared.Built.{Built}
@@ -34,7 +38,7 @@ use Rattle.calls.specs.declared.Chained.{Chained}
 use Rattle.rewrite.proofs.Standing.{take_less, stretch_kept, tree_length, stands_whole}
 use Rattle.calls.proofs.Frames.{env_up, env_kept, held_kept}
 use Rattle.rewrite.proofs.Leaves.{variable_stands}
-use Rattle.calls.proofs.Going.{then_ok, then_stop, sure_first, sure_as, variable_sure, live_fits, live_over, nodes_fit, says_ok, says_stop, stop_says, then_nested}
+use Rattle.calls.proofs.Going.{and_nodes, and_is, ok_err, err_ok, err_is, nodes_over, then_ok, then_stop, sure_first, sure_as, variable_sure, live_fits, live_over, nodes_fit, says_ok, says_stop, stop_says, then_nested}
 use Rattle.judgement.proofs.Replacements.{pieces_after_lem}
 
 -- WORDS PUSHED
@@ -67,42 +71,34 @@ module _ {g : Grammar} {t : Words} (w w' : Words) (a start m to : ℕ) (s : Stan
 
 -- THE LIMITS
 
-pub over_fits : (a c : ℕ) → over_by a c ≡ 0 → (a ≤ most_nodes) × (c ≤ most_live)
-over_fits a c h = go (leb a most_nodes) (leb c most_live) refl refl h
+pub limits_told : (a c : ℕ) {u : Unit {0}} → within_limits a c ≡ Ok u → (a ≤ most_nodes) × (c ≤ most_live)
+limits_told a c {u} h = go (leb a most_nodes) (leb c most_live) refl refl h
   where
-    go : (p q : Bool) → leb a most_nodes ≡ p → leb c most_live ≡ q → ◌≡◌ {A = ℕ} (pick p (pick q 0 44) 42) 0 → (a ≤ most_nodes) × (c ≤ most_live)
+    go : (p q : Bool) → leb a most_nodes ≡ p → leb c most_live ≡ q → ◌≡◌ {A = Result (Unit {0}) ℕ} (pick p (pick q (Ok tt) (Err 44)) (Err 42)) (Ok u) → (a ≤ most_nodes) × (c ≤ most_live)
     go true true p q h = (leb-true a most_nodes p, leb-true c most_live q)
-    go true false p q h = absurd (omega arith)
-    go false b p q h = absurd (omega arith)
+    go true false p q h = absurd (err_ok h)
+    go false b p q h = absurd (err_ok h)
+
+-- what is no stop passes
+pub passes : (s : Result (Unit {0}) ℕ) → ((k : ℕ) → s ≡ Err k → ⊥) → s ≡ Ok tt
+passes (Ok u) h = refl
+passes (Err k) h = absurd (h k refl)
 
 -- both, the nodes of the tree first
-module _ {B : Type 0} (a c : ℕ) (l : State) (s : ℕ) (k : Comp B) (e : s ≡ over_by a c) where
-  pub limits_fit : s ≡ 0 → then_of (nodes_within a l) (λ z. ◌>>◌ (live_within c) k) ≡ k l
+module _ {B : Type 0} (a c : ℕ) (l : State) (s : Result (Unit {0}) ℕ) (k : Comp B) (e : s ≡ within_limits a c) where
+  pub limits_fit : {u : Unit {0}} → s ≡ Ok u → then_of (nodes_within a l) (λ z. ◌>>◌ (live_within c) k) ≡ k l
   limits_fit h =
-      let f = over_fits a c (sym e ∙ h) in
+      let f = limits_told a c (sym e ∙ h) in
       nodes_fit a l (λ z. ◌>>◌ (live_within c) k) f.0 ∙ live_fits c l (λ z. k) f.1
 
-  pub limits_stop : (s ≡ 0 → ⊥) → then_of (nodes_within a l) (λ z. ◌>>◌ (live_within c) k) ≡ stop s l
+  pub limits_stop : {j : ℕ} → s ≡ Err j → then_of (nodes_within a l) (λ z. ◌>>◌ (live_within c) k) ≡ stop j l
   unfolding then_of nodes_within live_within stop_unless
-  limits_stop h = go (leb a most_nodes) (leb c most_live) e
+  limits_stop {j} h = go (leb a most_nodes) (leb c most_live) (sym e ∙ h)
     where
-      go : (p q : Bool) → s ≡ pick p (pick q 0 44) 42 → then_of (stop_unless 42 p l) (λ z. ◌>>◌ (stop_unless 44 q) k) ≡ stop s l
-      go true true e = absurd (h e)
-      go true false e = rw e
-      go false q e = rw e
-
--- the nodes alone
-module _ {B : Type 0} (a : ℕ) (l : State) (s : ℕ) (k : Unit {0} → Comp B) (e : s ≡ over_by a 0) where
-  pub nodes_pass : s ≡ 0 → then_of (nodes_within a l) k ≡ k tt l
-  nodes_pass h = nodes_fit a l k (over_fits a 0 (sym e ∙ h)).0
-
-  pub nodes_stop : (s ≡ 0 → ⊥) → then_of (nodes_within a l) k ≡ stop s l
-  unfolding then_of nodes_within stop_unless
-  nodes_stop h = go (leb a most_nodes) e
-    where
-      go : (p : Bool) → s ≡ pick p 0 42 → then_of (stop_unless 42 p l) k ≡ stop s l
-      go true e = absurd (h e)
-      go false e = rw e
+      go : (p q : Bool) → ◌≡◌ {A = Result (Unit {0}) ℕ} (pick p (pick q (Ok tt) (Err 44)) (Err 42)) (Err j) → then_of (stop_unless 42 p l) (λ z. ◌>>◌ (stop_unless 44 q) k) ≡ stop j l
+      go true true e = absurd (ok_err e)
+      go true false e = ap (λ x. stop x l) (err_is e)
+      go false q e = ap (λ x. stop x l) (err_is e)
 
 -- PIECES
 
@@ -170,18 +166,18 @@ chain_unwritten ws h = rw (h, chain_of)
 
 -- COMPUTATIONS ONE AFTER THE OTHER
 
-then_stuck : {A B : Type 0} (m : Result A) (k : A → Comp B) → m ≡ stuck → then_of m k ≡ stuck
+then_stuck : {A B : Type 0} (m : Computation.Result A) (k : A → Comp B) → m ≡ stuck → then_of m k ≡ stuck
 unfolding then_of
 then_stuck m k e = rw e
 
-then_all : (m : Result Words) → then_of m (λ ws. return ws) ≡ m
+then_all : (m : Computation.Result Words) → then_of m (λ ws. return ws) ≡ m
 unfolding then_of
 then_all (ok a l) = refl
 then_all (stop n l) = refl
 then_all stuck = refl
 
 -- words put before what a computation gives
-then_before : (m : Result Words) (a b : Words) → then_of (then_of m (λ ws. return (b ++ ws))) (λ ws. return (a ++ ws)) ≡ then_of m (λ ws. return (a ++ b ++ ws))
+then_before : (m : Computation.Result Words) (a b : Words) → then_of (then_of m (λ ws. return (b ++ ws))) (λ ws. return (a ++ ws)) ≡ then_of m (λ ws. return (a ++ b ++ ws))
 then_before m a b = then_nested m (λ ws. return (b ++ ws)) (λ ws. return (a ++ ws)) (λ ws. return (a ++ b ++ ws)) (λ ws l. then_ok (ok (b ++ ws) l) (λ us. return (a ++ us)) (b ++ ws) l refl ∙ ap (λ us. ok us l) (sym (append_assoc a b ws)))
 
 module _ {B : Type 0} (env : Env) (x : ℕ) (l : State) (k : Words → Comp B) where
@@ -192,11 +188,11 @@ module _ {B : Type 0} (env : Env) (x : ℕ) (l : State) (k : Words → Comp B) w
 -- ONE STEP OF A REPLACEMENT
 
 module _ (g : Grammar) (rules : Rules.Rules) (deep : ℕ) (env : Env) (besides : ℕ) where
-  abbrev pub filled : List Piece → ℕ → State → Result Words
+  abbrev pub filled : List Piece → ℕ → State → Computation.Result Words
   filled ps n l = fill true g rules (calls true g rules deep) ps env besides n l
 
   -- what is left goes on after some words
-  abbrev pub onward : Words → List Piece → ℕ → State → Result Words
+  abbrev pub onward : Words → List Piece → ℕ → State → Computation.Result Words
   onward ws ps n l = then_of (filled ps n l) (λ us. return (ws ++ us))
 
   pub fill_end : (n : ℕ) (l : State) → filled [] n l ≡ ok [] l
@@ -204,11 +200,11 @@ module _ (g : Grammar) (rules : Rules.Rules) (deep : ℕ) (env : Env) (besides :
   fill_end n l = refl
 
   module _ (ps : List Piece) (n : ℕ) (l : State) where
-    pub write_fits : (t v s : ℕ) → s ≡ over_by (n + 1) (besides + n + 1) → s ≡ 0 → filled (write t v ∷ ps) n l ≡ onward (t ∷ v ∷ []) ps (n + 1) l
+    pub write_fits : (t v : ℕ) (s : Result (Unit {0}) ℕ) {u : Unit {0}} → s ≡ within_limits (n + 1) (besides + n + 1) → s ≡ Ok u → filled (write t v ∷ ps) n l ≡ onward (t ∷ v ∷ []) ps (n + 1) l
     unfolding fill
     write_fits t v s e h = limits_fit (n + 1) (besides + n + 1) l s (λ l. onward (t ∷ v ∷ []) ps (n + 1) l) e h
 
-    pub write_stops : (t v s : ℕ) → s ≡ over_by (n + 1) (besides + n + 1) → (s ≡ 0 → ⊥) → filled (write t v ∷ ps) n l ≡ stop s l
+    pub write_stops : (t v : ℕ) (s : Result (Unit {0}) ℕ) {j : ℕ} → s ≡ within_limits (n + 1) (besides + n + 1) → s ≡ Err j → filled (write t v ∷ ps) n l ≡ stop j l
     unfolding fill
     write_stops t v s e h = limits_stop (n + 1) (besides + n + 1) l s (λ l. onward (t ∷ v ∷ []) ps (n + 1) l) e h
 
@@ -216,16 +212,16 @@ module _ (g : Grammar) (rules : Rules.Rules) (deep : ℕ) (env : Env) (besides :
     unfolding fill
     copy_there x s = let v = variable_sure env x l _ s in (v.0, v.1)
 
-    module _ (x : ℕ) (t : Words) (there : get_elem? env x ≡ some t) (s : ℕ) (e : s ≡ over_by (n + size t) (besides + n + size t)) where
-      pub copy_fits : s ≡ 0 → filled (copy x ∷ ps) n l ≡ onward t ps (n + size t) l
+    module _ (x : ℕ) (t : Words) (there : get_elem? env x ≡ some t) (s : Result (Unit {0}) ℕ) (e : s ≡ within_limits (n + size t) (besides + n + size t)) where
+      pub copy_fits : {u : Unit {0}} → s ≡ Ok u → filled (copy x ∷ ps) n l ≡ onward t ps (n + size t) l
       unfolding fill
       copy_fits h = variable_there_lem env x l _ t there ∙ limits_fit (n + size t) (besides + n + size t) l s (λ l. onward t ps (n + size t) l) e h
 
-      pub copy_stops : (s ≡ 0 → ⊥) → filled (copy x ∷ ps) n l ≡ stop s l
+      pub copy_stops : {j : ℕ} → s ≡ Err j → filled (copy x ∷ ps) n l ≡ stop j l
       unfolding fill
       copy_stops h = variable_there_lem env x l _ t there ∙ limits_stop (n + size t) (besides + n + size t) l s (λ l. onward t ps (n + size t) l) e h
 
-  abbrev chained : ℕ → List Application → ℕ → State → Result Words
+  abbrev chained : ℕ → List Application → ℕ → State → Computation.Result Words
   chained x apps n l = chain_piece deep x apps g rules env besides n l
 
   fill_chain : (x : ℕ) (apps : List Application) (ps : List Piece) (n : ℕ) (l : State) → then_of (chained x apps n l) (λ u. onward u ps (n + size u)) ≡ filled (chain x apps ∷ ps) n l
@@ -306,7 +302,7 @@ module _ (given : Given) (w pairs : Words) (i n : ℕ) (frame : Open) (deep : �
   abbrev base : ℕ
   base = frame.top + 2 * n
 
-  abbrev piece : Grammar → Rules.Rules → Env → Result Words
+  abbrev piece : Grammar → Rules.Rules → Env → Computation.Result Words
   piece g rules env = chain_piece deep x apps g rules env frame.live n left
 
   -- what the definition makes of the variable
@@ -320,27 +316,27 @@ module _ (given : Given) (w pairs : Words) (i n : ℕ) (frame : Open) (deep : �
   copied g rules b st h sure =
       let v = variable_sure b.env x left _ sure in
       let s = rw (← at) at (variable_stands g (take frame.top w) frame.vars b.env x v.0 room.sound h.stands v.1) in
-      record { t = v.0; stands = s; counted = nodes.stands g v.0 st.tables.heads_of.types s; same_run = v.2 }
+      record { t = v.0; stands = s; counted = nodes.stands g v.0 st.types_of.heads_of.types s; same_run = v.2 }
 
   -- by the count of what is live
-  by_live : (P : Result Words → Type 0) (g : Grammar) (rules : Rules.Rules) (b : Bindings) → Held g w frame b → (Sure (piece g rules b.env) → P (piece g rules b.env))
+  by_live : (P : Computation.Result Words → Type 0) (g : Grammar) (rules : Rules.Rules) (b : Bindings) → Held g w frame b → (Sure (piece g rules b.env) → P (piece g rules b.env))
       → Sure (chain_piece deep x apps g rules b.env (live b) n left) → P (chain_piece deep x apps g rules b.env (live b) n left)
   by_live P g rules b h f = subst (λ k. Sure (chain_piece deep x apps g rules b.env k n left) → P (chain_piece deep x apps g rules b.env k n left)) h.counted f
 
   -- too many nodes would be live
-  pub fills_over : most_live < frame.live + n + m → i ≤ 256 → (r : Built) → r ≡ record { stop = 44; nodes = n; left = left } → FillsChain given w w pairs i n frame deep left (record { built = r; next = i })
-  fills_over h k r e = rw e (record {
-    few = λ z. absurd (omega arith);
-    fits = λ z. absurd (omega arith);
+  pub fills_over : most_live < frame.live + n + m → i ≤ 256 → {number : ℕ} → number ≡ 44 → FillsChain given w w pairs i n frame deep left (record { built = record { nodes = Err number; left = left }; next = i })
+  fills_over h k {number} en = record {
+    few = λ z. absurd (err_ok z);
+    fits = λ z. absurd (err_ok z);
     less = omega arith;
     long = refl;
     near = omega arith;
-    next_is = λ z. absurd (omega arith);
-    meant = λ g rules b st hd sure. (refl, by_live (λ p. p ≡ stop 44 left) g rules b hd (stops g rules b st hd) sure);
-  })
+    next_is = λ z. absurd (err_ok z);
+    meant = λ g rules b st hd sure. (refl, by_live (λ p. p ≡ stop number left) g rules b hd (stops g rules b st hd) sure);
+  }
     where
-      stops : (g : Grammar) (rules : Rules.Rules) (b : Bindings) → Setting given g rules → Held g w frame b → Sure (piece g rules b.env) → piece g rules b.env ≡ stop 44 left
-      stops g rules b st hd sure = let c = copied g rules b st hd sure in c.same_run ∙ live_over (frame.live + n + size c.t) left _ (omega (arith, c.counted))
+      stops : (g : Grammar) (rules : Rules.Rules) (b : Bindings) → Setting given g rules → Held g w frame b → Sure (piece g rules b.env) → piece g rules b.env ≡ stop number left
+      stops g rules b st hd sure = let c = copied g rules b st hd sure in c.same_run ∙ live_over (frame.live + n + size c.t) left _ (omega (arith, c.counted)) ∙ ap (λ j. stop j left) (sym en)
 
   -- the copy stands on top
   module _ (fits : frame.live + n + m ≤ most_live) (w₁ w' : Words) (same : length w₁ ≡ length w) (pushed : w₁ ≡ take base w ++ (take (2 * m) (drop start w) ++ drop (base + 2 * m) w)) (c : Chained)
@@ -349,7 +345,7 @@ module _ (given : Given) (w pairs : Words) (i n : ℕ) (frame : Open) (deep : �
       t : Words
       same_run : piece g rules env ≡ chain_on deep apps g rules env frame.live n t left
       kept : take base w' ≡ take base w
-      says : Says (Tree g w' base c.built.nodes) c.built.stop c.built.left (apply_chain true g rules (calls true g rules deep) apps env t (frame.live + n) n left)
+      says : Says (Tree g w' base) c.built.nodes c.built.left (apply_chain true g rules (calls true g rules deep) apps env t (frame.live + n) n left)
 
     room_there : base + 2 * m ≤ length w
     room_there = omega (arith, room.low, room.few, room.long)
@@ -364,51 +360,56 @@ module _ (given : Given) (w pairs : Words) (i n : ℕ) (frame : Open) (deep : �
         (o.stands.type, tree_pushed w w₁ frame.top start m base o.stands o.counted room_there pushed) (sure_first _ _ (sure_as run sure)) in
         record { t = o.t; same_run = run; kept = q.0 ∙ kept; says = q.1 }
 
-    pub fills_stopped : (c.built.stop ≡ 0 → ⊥) → FillsChain given w w' pairs i n frame deep left c
+    -- what is said of the tree that the chain leaves
+    abbrev Adds : Grammar → ℕ → Words → Type 0
+    Adds g nodes u = (nodes ≡ n + size u) × Tree g w' base (size u) u
+
+    pub fills_stopped : {number : ℕ} → c.built.nodes ≡ Err number → FillsChain given w w' pairs i n frame deep left c
     fills_stopped h = record {
-      few = λ z. absurd (h z);
-      fits = λ z. absurd (h z);
+      few = λ z. absurd (err_ok (sym h ∙ z));
+      fits = λ z. absurd (err_ok (sym h ∙ z));
       less = chains.builds.less;
       long = chains.builds.long ∙ same;
       near = chains.near;
-      next_is = λ z. absurd (h z);
-      meant = λ g rules b st hd sure. by_live (λ p. (take base w' ≡ take base w) × Says (λ u. (c.built.nodes ≡ n + size u) × Tree g w' base (size u) u) c.built.stop c.built.left p) g rules b hd (stops g rules b st hd) sure;
+      next_is = λ z. absurd (err_ok (sym h ∙ z));
+      meant = λ g rules b st hd sure. by_live (λ p. (take base w' ≡ take base w) × Says (Adds g) c.built.nodes c.built.left p) g rules b hd (stops g rules b st hd) sure;
     }
       where
         stops : (g : Grammar) (rules : Rules.Rules) (b : Bindings) → Setting given g rules → Held g w frame b → Sure (piece g rules b.env)
-            → (take base w' ≡ take base w) × Says (λ u. (c.built.nodes ≡ n + size u) × Tree g w' base (size u) u) c.built.stop c.built.left (piece g rules b.env)
+            → (take base w' ≡ take base w) × Says (Adds g) c.built.nodes c.built.left (piece g rules b.env)
         stops g rules b st hd sure =
             let a = applied g rules b st hd sure in
-            (a.kept, stop_says _ _ c.built.left c.built.stop h (a.same_run ∙ then_stop _ _ c.built.stop c.built.left (says_stop _ _ c.built.left c.built.stop h a.says)))
+            (a.kept, stop_says _ _ c.built.left h (a.same_run ∙ then_stop _ _ _ c.built.left (says_stop _ _ c.built.left h a.says)))
 
-    pub fills_added : c.built.stop ≡ 0 → (s : ℕ) → s ≡ over_by (n + c.built.nodes) 0 → (r : Built) → r ≡ record { stop = s; nodes = n + c.built.nodes; left = c.built.left }
-        → FillsChain given w w' pairs i n frame deep left (record { built = r; next = c.next })
-    fills_added h s e r er = rw er (record {
-      few = λ z. (over_fits (n + c.built.nodes) 0 (sym e ∙ z)).0;
-      fits = λ z. omega (arith, chains.builds.fits);
+    added_few : (s : Result (Unit {0}) ℕ) (k : ℕ) {m : ℕ} → Within most_nodes 42 k s → and_nodes s k ≡ Ok m → (m ≡ k) × (m ≤ most_nodes)
+    added_few (Ok u) k h e = let z = and_is (Ok u) k e in (z, omega (arith, z))
+    added_few (Err j) k h e = absurd (err_ok e)
+
+    pub fills_added : {more : ℕ} → c.built.nodes ≡ Ok more → (s : Result (Unit {0}) ℕ) → Within most_nodes 42 (n + more) s → (r : Result ℕ ℕ) → r ≡ and_nodes s (n + more)
+        → FillsChain given w w' pairs i n frame deep left (record { built = record { nodes = r; left = c.built.left }; next = c.next })
+    fills_added {more} h s e r er = rw er (record {
+      few = λ z. (added_few s (n + more) e z).1;
+      fits = λ z. omega (arith, (added_few s (n + more) e z).0, chains.builds.fits h);
       less = chains.builds.less;
       long = chains.builds.long ∙ same;
       near = chains.near;
       next_is = λ z. let q = chains.next_is h in omega arith;
-      meant = λ g rules b st hd sure. by_live (λ p. (take base w' ≡ take base w) × Says (λ u. (n + c.built.nodes ≡ n + size u) × Tree g w' base (size u) u) s c.built.left p) g rules b hd (gives g rules b st hd) sure;
+      meant = λ g rules b st hd sure. by_live (λ p. (take base w' ≡ take base w) × Says (Adds g) (and_nodes s (n + more)) c.built.left p) g rules b hd (gives g rules b st hd) sure;
     })
       where
-        limit : (g : Grammar) (u : Words) → size u ≡ c.built.nodes → Tree g w' base (size u) u → (p : Result Words) → p ≡ then_of (nodes_within (n + size u) c.built.left) (λ z. return u)
-            → Says (λ u. (n + c.built.nodes ≡ n + size u) × Tree g w' base (size u) u) s c.built.left p
-        limit g u k t p run = go s (e ∙ ap (λ j. over_by (n + j) 0) (sym k))
-          where
-            go : (s : ℕ) → s ≡ over_by (n + size u) 0 → Says (λ u. (n + c.built.nodes ≡ n + size u) × Tree g w' base (size u) u) s c.built.left p
-            go zero e = (u, (omega arith, t), run ∙ nodes_pass (n + size u) c.built.left 0 (λ z. return u) e refl)
-            go (suc k) e = run ∙ nodes_stop (n + size u) c.built.left (suc k) (λ z. return u) e (λ z. omega arith)
+        limit : (g : Grammar) (u : Words) → size u ≡ more → Tree g w' base (size u) u → (p : Computation.Result Words) → p ≡ then_of (nodes_within (n + size u) c.built.left) (λ z. return u)
+            → (s : Result (Unit {0}) ℕ) → Within most_nodes 42 (n + more) s → Says (Adds g) (and_nodes s (n + more)) c.built.left p
+        limit g u k t p run (Ok v) e = (u, (omega arith, t), run ∙ nodes_fit (n + size u) c.built.left (λ z. return u) (omega (arith, k)))
+        limit g u k t p run (Err j) e = run ∙ nodes_over (n + size u) c.built.left (λ z. return u) (omega (arith, k, e.0)) ∙ ap (λ x. stop x c.built.left) (sym e.1)
 
         gives : (g : Grammar) (rules : Rules.Rules) (b : Bindings) → Setting given g rules → Held g w frame b → Sure (piece g rules b.env)
-            → (take base w' ≡ take base w) × Says (λ u. (n + c.built.nodes ≡ n + size u) × Tree g w' base (size u) u) s c.built.left (piece g rules b.env)
+            → (take base w' ≡ take base w) × Says (Adds g) (and_nodes s (n + more)) c.built.left (piece g rules b.env)
         gives g rules b st hd sure =
             let a = applied g rules b st hd sure in
-            let q = says_ok _ _ c.built.left c.built.stop h a.says in
-            let k : size q.0 ≡ c.built.nodes = q.1.1.nodes in
+            let q = says_ok _ _ c.built.left h a.says in
+            let k : size q.0 ≡ more = q.1.1.nodes in
             let run : piece g rules b.env ≡ then_of (nodes_within (n + size q.0) c.built.left) (λ z. return q.0) = a.same_run ∙ then_ok _ _ q.0 c.built.left q.2 in
-            (a.kept, limit g q.0 k (subst (λ j. Tree g w' base j q.0) (sym k) q.1) (piece g rules b.env) run)
+            (a.kept, limit g q.0 k (subst (λ j. Tree g w' base j q.0) (sym k) q.1) (piece g rules b.env) run s e)
 
 -- THE LOOP
 
@@ -450,7 +451,7 @@ filling_start given w pairs frame deep left h = record {
 
 module _ (given : Given) (w₀ pairs : Words) (frame : Open) (deep : ℕ) (left : State) (room : Room w₀ frame) (w : Words) (fuel : State) (n i : ℕ)
     (inv : Filling given w₀ pairs frame deep left w fuel n i) where
-  abbrev rest : Grammar → Rules.Rules → Bindings → Result Words
+  abbrev rest : Grammar → Rules.Rules → Bindings → Computation.Result Words
   rest g rules b = filled g rules deep b.env (live b) (pieces (drop i pairs)) n fuel
 
   -- one piece more
@@ -487,35 +488,39 @@ module _ (given : Given) (w₀ pairs : Words) (frame : Open) (deep : ℕ) (left 
         };
   }
 
+  -- what is said of the words that were filled
+  abbrev Filled : Words → Grammar → ℕ → Words → Type 0
+  Filled w' g nodes ws = (length ws ≡ 2 * nodes) × UnderWay g (take (2 * nodes) (drop frame.top w')) ws
+
   -- .. or a stop
-  ends : (at : ℕ) → pairs ≡ pairs_at given.book at → (w' : Words) (r : Built) → (r.stop ≡ 0 → ⊥) → r.left.attempts ≤ fuel.attempts → length w' ≡ length w
-      → ((g : Grammar) (rules : Rules.Rules) (b : Bindings) → Setting given g rules → Held g w frame b → Sure (rest g rules b) → (take frame.top w' ≡ take frame.top w) × (rest g rules b ≡ stop r.stop r.left))
+  ends : (at : ℕ) → pairs ≡ pairs_at given.book at → (w' : Words) (r : Built) {k : ℕ} → r.nodes ≡ Err k → r.left.attempts ≤ fuel.attempts → length w' ≡ length w
+      → ((g : Grammar) (rules : Rules.Rules) (b : Bindings) → Setting given g rules → Held g w frame b → Sure (rest g rules b) → (take frame.top w' ≡ take frame.top w) × (rest g rules b ≡ stop k r.left))
       → Fills given w₀ w' at frame deep left r
-  ends at ep w' r h less long f = record {
-    few = λ z. absurd (h z);
-    fits = λ z. absurd (h z);
+  ends at ep w' r {k} h less long f = record {
+    few = λ z. absurd (err_ok (sym h ∙ z));
+    fits = λ z. absurd (err_ok (sym h ∙ z));
     less = omega (arith, inv.less);
     long = long ∙ inv.long;
     meant = λ g rules b st hd. subst (λ ps. Sure (filled g rules deep b.env (live b) (pieces ps) 0 left) → (take frame.top w' ≡ take frame.top w₀)
-        × Says (λ ws. (length ws ≡ 2 * r.nodes) × UnderWay g (take (2 * r.nodes) (drop frame.top w')) ws) r.stop r.left (filled g rules deep b.env (live b) (pieces ps) 0 left)) ep (λ sure.
+        × Says (Filled w' g) r.nodes r.left (filled g rules deep b.env (live b) (pieces ps) 0 left)) ep (λ sure.
         let o = inv.run g rules b st hd sure in
         let a = f g rules b st (held_kept o.kept hd) (sure_first (rest g rules b) _ (sure_as o.same_run sure)) in
-        (a.0 ∙ o.kept, stop_says _ _ r.left r.stop h (o.same_run ∙ then_stop (rest g rules b) _ r.stop r.left a.1)));
+        (a.0 ∙ o.kept, stop_says _ _ r.left h (o.same_run ∙ then_stop (rest g rules b) _ k r.left a.1)));
   }
 
   -- the end
-  pub filling_end : (at : ℕ) → pairs ≡ pairs_at given.book at → length pairs < i + 2 → (r : Built) → r ≡ record { stop = 0; nodes = n; left = fuel } → Fills given w₀ w at frame deep left r
-  filling_end at ep h r e = rw e (record {
-    few = λ z. inv.few;
-    fits = λ z. inv.fits;
+  pub filling_end : (at : ℕ) → pairs ≡ pairs_at given.book at → length pairs < i + 2 → Fills given w₀ w at frame deep left (record { nodes = Ok n; left = fuel })
+  filling_end at ep h = record {
+    few = λ z. omega (arith, ok_is z, inv.few);
+    fits = λ z. omega (arith, ok_is z, inv.fits);
     less = inv.less;
     long = inv.long;
     meant = λ g rules b st hd. subst (λ ps. Sure (filled g rules deep b.env (live b) (pieces ps) 0 left) → (take frame.top w ≡ take frame.top w₀)
-        × Says (λ ws. (length ws ≡ 2 * n) × UnderWay g (take (2 * n) (drop frame.top w)) ws) 0 fuel (filled g rules deep b.env (live b) (pieces ps) 0 left)) ep (λ sure.
+        × Says (Filled w g) (Ok n) fuel (filled g rules deep b.env (live b) (pieces ps) 0 left)) ep (λ sure.
         let o = inv.run g rules b st hd sure in
         let last : rest g rules b ≡ ok [] fuel = ap (λ ps. filled g rules deep b.env (live b) ps n fuel) (pieces_end_lem pairs i h) ∙ fill_end g rules deep b.env (live b) n fuel in
         (o.kept, (o.done, (o.long, o.there), o.same_run ∙ then_ok (rest g rules b) _ [] fuel last ∙ ap (λ ws. ok ws fuel) (append-nil o.done))));
-  })
+  }
 
   module _ (h : i + 2 ≤ length pairs) (small : length pairs ≤ 256) where
     abbrev t : ℕ
@@ -525,21 +530,21 @@ module _ (given : Given) (w₀ pairs : Words) (frame : Open) (deep : ℕ) (left 
     v = get_or pairs (i + 1) 0
 
     -- a written node
-    module _ (no_chain : t ≡ mark_chain → ⊥) (no_variable : t ≡ mark_variable → ⊥) (s : ℕ) (es : s ≡ over_by (n + 1) (frame.live + n + 1)) where
+    module _ (no_chain : t ≡ mark_chain → ⊥) (no_variable : t ≡ mark_variable → ⊥) (s : Result (Unit {0}) ℕ) (es : s ≡ within_limits (n + 1) (frame.live + n + 1)) where
       writes : (g : Grammar) (rules : Rules.Rules) (b : Bindings) → rest g rules b ≡ filled g rules deep b.env (live b) (write t v ∷ pieces (drop (i + 2) pairs)) n fuel
       writes g rules b = ap (λ ps. filled g rules deep b.env (live b) ps n fuel) (pieces_write pairs i h no_chain no_variable)
 
-      limit : {g : Grammar} {b : Bindings} → Held g w frame b → s ≡ over_by (n + 1) (live b + n + 1)
-      limit hd = es ∙ ap (λ k. over_by (n + 1) (k + n + 1)) hd.counted
+      limit : {g : Grammar} {b : Bindings} → Held g w frame b → s ≡ within_limits (n + 1) (live b + n + 1)
+      limit hd = es ∙ ap (λ k. within_limits (n + 1) (k + n + 1)) hd.counted
 
-      pub filling_write_stops : (s ≡ 0 → ⊥) → (at : ℕ) → pairs ≡ pairs_at given.book at → (r : Built) → r ≡ record { stop = s; nodes = n; left = fuel } → Fills given w₀ w at frame deep left r
-      filling_write_stops z at ep r e = rw e (ends at ep w (record { stop = s; nodes = n; left = fuel }) z (omega arith) refl
-          (λ g rules b st hd sure. (refl, writes g rules b ∙ write_stops g rules deep b.env (live b) (pieces (drop (i + 2) pairs)) n fuel t v s (limit hd) z)))
+      pub filling_write_stops : {k : ℕ} → s ≡ Err k → (at : ℕ) → pairs ≡ pairs_at given.book at → Fills given w₀ w at frame deep left (record { nodes = Err k; left = fuel })
+      filling_write_stops {k} z at ep = ends at ep w (record { nodes = Err k; left = fuel }) refl (omega arith) refl
+          (λ g rules b st hd sure. (refl, writes g rules b ∙ write_stops g rules deep b.env (live b) (pieces (drop (i + 2) pairs)) n fuel t v s (limit hd) z))
 
-      pub filling_write : s ≡ 0 → (w' : Words) → length w' ≡ length w → w' ≡ take (frame.top + 2 * n) w ++ (t ∷ v ∷ drop (frame.top + 2 * n + 2) w)
+      pub filling_write : {u : Unit {0}} → s ≡ Ok u → (w' : Words) → length w' ≡ length w → w' ≡ take (frame.top + 2 * n) w ++ (t ∷ v ∷ drop (frame.top + 2 * n + 2) w)
           → Filling given w₀ pairs frame deep left w' fuel (n + 1) (i + 2)
       filling_write z w' long e =
-          let f = over_fits (n + 1) (frame.live + n + 1) (sym es ∙ z) in
+          let f = limits_told (n + 1) (frame.live + n + 1) (sym es ∙ z) in
           let fits : frame.top + 2 * n + 2 ≤ length w = omega (arith, room.low, room.few, room.long, f.0, inv.long) in
           grows w' fuel (n + 1) (i + 2) f.0 (omega (arith, f.1)) (omega arith) long (omega (arith, inv.near)) (λ g rules b st hd sure. record {
             add = t ∷ v ∷ [];
@@ -553,13 +558,13 @@ module _ (given : Given) (w₀ pairs : Words) (frame : Open) (deep : ℕ) (left 
 
     -- a copy
     module _ (no_chain : t ≡ mark_chain → ⊥) (is_variable : t ≡ mark_variable) (start m : ℕ) (es : start ≡ start_at frame.vars v) (nodes : NodesAt w start frame.top m)
-        (s : ℕ) (eo : s ≡ over_by (n + m) (frame.live + n + m)) where
+        (s : Result (Unit {0}) ℕ) (eo : s ≡ within_limits (n + m) (frame.live + n + m)) where
       record Taken (g : Grammar) (rules : Rules.Rules) (b : Bindings) : Type 0 where
         u : Words
         found : get_elem? b.env v ≡ some u
         stands : Stands g (take frame.top w) start u
         counted : m ≡ size u
-        limit : s ≡ over_by (n + size u) (live b + n + size u)
+        limit : s ≡ within_limits (n + size u) (live b + n + size u)
         step : rest g rules b ≡ filled g rules deep b.env (live b) (copy v ∷ pieces (drop (i + 2) pairs)) n fuel
 
       taken : (g : Grammar) (rules : Rules.Rules) (b : Bindings) → Setting given g rules → Held g w frame b → Sure (rest g rules b) → Taken g rules b
@@ -567,17 +572,17 @@ module _ (given : Given) (w₀ pairs : Words) (frame : Open) (deep : ℕ) (left 
           let e = ap (λ ps. filled g rules deep b.env (live b) ps n fuel) (pieces_copy pairs i h no_chain is_variable) in
           let q = copy_there g rules deep b.env (live b) (pieces (drop (i + 2) pairs)) n fuel v (sure_as e sure) in
           let x = rw (← es) at (variable_stands g (take frame.top w) frame.vars b.env v q.0 room.sound hd.stands q.1) in
-          let k = nodes.stands g q.0 st.tables.heads_of.types x in
-          record { u = q.0; found = q.1; stands = x; counted = k; limit = eo ∙ ap₂ (λ j l. over_by (n + j) (l + n + j)) k hd.counted; step = e }
+          let k = nodes.stands g q.0 st.types_of.heads_of.types x in
+          record { u = q.0; found = q.1; stands = x; counted = k; limit = eo ∙ ap₂ (λ j l. within_limits (n + j) (l + n + j)) k hd.counted; step = e }
 
-      pub filling_copy_stops : (s ≡ 0 → ⊥) → (at : ℕ) → pairs ≡ pairs_at given.book at → (r : Built) → r ≡ record { stop = s; nodes = n; left = fuel } → Fills given w₀ w at frame deep left r
-      filling_copy_stops z at ep r e = rw e (ends at ep w (record { stop = s; nodes = n; left = fuel }) z (omega arith) refl
-          (λ g rules b st hd sure. let o = taken g rules b st hd sure in (refl, o.step ∙ copy_stops g rules deep b.env (live b) (pieces (drop (i + 2) pairs)) n fuel v o.u o.found s o.limit z)))
+      pub filling_copy_stops : {k : ℕ} → s ≡ Err k → (at : ℕ) → pairs ≡ pairs_at given.book at → Fills given w₀ w at frame deep left (record { nodes = Err k; left = fuel })
+      filling_copy_stops {k} z at ep = ends at ep w (record { nodes = Err k; left = fuel }) refl (omega arith) refl
+          (λ g rules b st hd sure. let o = taken g rules b st hd sure in (refl, o.step ∙ copy_stops g rules deep b.env (live b) (pieces (drop (i + 2) pairs)) n fuel v o.u o.found s o.limit z))
 
-      pub filling_copy : s ≡ 0 → (w' : Words) → length w' ≡ length w → w' ≡ take (frame.top + 2 * n) w ++ (take (2 * m) (drop start w) ++ drop (frame.top + 2 * n + 2 * m) w)
+      pub filling_copy : {u : Unit {0}} → s ≡ Ok u → (w' : Words) → length w' ≡ length w → w' ≡ take (frame.top + 2 * n) w ++ (take (2 * m) (drop start w) ++ drop (frame.top + 2 * n + 2 * m) w)
           → Filling given w₀ pairs frame deep left w' fuel (n + m) (i + 2)
       filling_copy z w' long e =
-          let f = over_fits (n + m) (frame.live + n + m) (sym eo ∙ z) in
+          let f = limits_told (n + m) (frame.live + n + m) (sym eo ∙ z) in
           let fits : frame.top + 2 * n + 2 * m ≤ length w = omega (arith, room.low, room.few, room.long, f.0, inv.long) in
           grows w' fuel (n + m) (i + 2) f.0 (omega (arith, f.1)) (omega arith) long (omega (arith, inv.near)) (λ g rules b st hd sure.
           let o = taken g rules b st hd sure in
@@ -595,15 +600,15 @@ module _ (given : Given) (w₀ pairs : Words) (frame : Open) (deep : ℕ) (left 
 
     -- a chain
     module _ (is_chain : t ≡ mark_chain) (w' : Words) (c : Chained) (chains : FillsChain given w w' pairs i n frame deep fuel c) where
-      pub filling_chain_stops : (c.built.stop ≡ 0 → ⊥) → (at : ℕ) → pairs ≡ pairs_at given.book at → Fills given w₀ w' at frame deep left c.built
+      pub filling_chain_stops : {k : ℕ} → c.built.nodes ≡ Err k → (at : ℕ) → pairs ≡ pairs_at given.book at → Fills given w₀ w' at frame deep left c.built
       filling_chain_stops z at ep = ends at ep w' c.built z chains.less chains.long (λ g rules b st hd sure.
           let q = chains.meant g rules b st hd (chain_sure g rules deep b.env (live b) pairs i n fuel h is_chain sure) in
-          (take_less frame.top (frame.top + 2 * n) w w' (omega arith) q.0, chain_stops g rules deep b.env (live b) pairs i n fuel h is_chain sure c.built.stop c.built.left (says_stop _ _ c.built.left c.built.stop z q.1)))
+          (take_less frame.top (frame.top + 2 * n) w w' (omega arith) q.0, chain_stops g rules deep b.env (live b) pairs i n fuel h is_chain sure _ c.built.left (says_stop _ _ c.built.left z q.1)))
 
-      pub filling_chain : c.built.stop ≡ 0 → Filling given w₀ pairs frame deep left w' c.built.left c.built.nodes c.next
-      filling_chain z = grows w' c.built.left c.built.nodes c.next (chains.few z) (chains.fits z) chains.less chains.long chains.near (λ g rules b st hd sure.
+      pub filling_chain : {now : ℕ} → c.built.nodes ≡ Ok now → Filling given w₀ pairs frame deep left w' c.built.left now c.next
+      filling_chain {now} z = grows w' c.built.left now c.next (chains.few z) (chains.fits z) chains.less chains.long chains.near (λ g rules b st hd sure.
           let q = chains.meant g rules b st hd (chain_sure g rules deep b.env (live b) pairs i n fuel h is_chain sure) in
-          let o = says_ok _ _ c.built.left c.built.stop z q.1 in
+          let o = says_ok _ _ c.built.left z q.1 in
           let x = o.1.1.1 in
           record {
             add = o.0;

@@ -1,14 +1,16 @@
 -- A replacement that is finished, and one that becomes a variable. Assumes nothing.
+use borrow.Author.Tests.{le-leb, lt-leb}
+use Rattle.rewrite.specs.Arena.{Within}
 use Prim.Native.Nat.{ℕ, ◌+◌, ◌*◌, ◌<◌, ◌≤◌}
 use mathlib.Core.Path.{◌≡◌, refl, sym, ◌∙◌, subst, ap}
 use mathlib.Core.List.{[], ◌∷◌, ◌++◌}
-use mathlib.Core.Bool.{Bool, true, false}
+use mathlib.Core.Bool.{true}
 use mathlib.Core.Option.{Option, some}
 use native.Mathlib.Omega.{arith}
 use lib.ListN.{length, take, drop}
-use lib.Dec.{leb, ltb}
-use borrow.Author.Tests.{leb-true, ltb-true}
-use Rattle.words.specs.Reader.{Words, pick}
+use lib.Dec.{ltb}
+use borrow.Author.Tests.{ltb-true}
+use Rattle.words.specs.Reader.{Words}
 use Rattle.grammar.specs.Grammar.{Grammar}
 use Rattle.tree.specs.Limits.{most_nesting}
 use Rattle.tree.specs.Tree.{Trees, size, nesting, are_trees, is_tree}
@@ -18,7 +20,9 @@ use Rattle.rules.specs.Rules as Rules
 use Rattle.rules.specs.Rules.{construct, pieces}
 use Rattle.meaning.specs.Limits.{most_live}
 use Rattle.meaning.specs.declared.State.{State}
-use Rattle.meaning.specs.Computation.{Result, ok, stop, Comp, then_of, ◌>>=◌, ◌>>◌, return, stop_unless, check, nesting_within}
+use Rattle.std.specs.Prelude.{Result, Ok, Err}
+use Rattle.meaning.specs.Computation as Computation
+use Rattle.meaning.specs.Computation.{ok, stop, Comp, then_of, ◌>>=◌, ◌>>◌, return, stop_unless, check, nesting_within}
 use Rattle.meaning.specs.Meaning.{Bindings, live, bind, fill, finish, part, calls}
 use Rattle.marks.specs.Marked.{marked}
 use Rattle.rewrite.specs.Vars.{Vars, starts_of, bound, Sound}
@@ -27,29 +31,29 @@ use Rattle.rewrite.specs.declared.Verdict.TheVariants.{Matches, Stops}
 use Rattle.rewrite.proofs.Matcher.{env_length, env_more, starts_length, starts_more, sound_more, kept_same, kept_bound, total_more}
 use Rattle.rewrite.specs.Arena.{Closed, Standing, Says}
 use Rattle.rules.specs.Views.{pairs_at}
-use Rattle.calls.specs.Engine.{Open, Taking, Named, Room, Grown, Held, Given, Setting, Sure, TakenAs, Constructs, Fills, Finishes, part_on}
+use Rattle.calls.specs.Engine.{Open, Named, Room, Grown, Held, Given, Setting, Sure, TakenAs, Constructs, Fills, Finishes, part_on}
 use Rattle.calls.specs.declared.Built.{Built}
 use Rattle.rewrite.proofs.Standing.{standing_stands, standing_below}
 use Rattle.calls.proofs.Frames.{env_up, env_kept, grown_same}
-use Rattle.calls.proofs.Going.{then_ok, then_stop, sure_first, sure_as, check_sure, surely_sure, says_ok, says_stop, stop_says}
+use Rattle.calls.proofs.Going.{and_nodes, and_is, then_ok, then_stop, sure_first, sure_as, check_sure, surely_sure, says_ok, says_stop, stop_says}
 
 -- FINISHING
 
 -- the nesting of a finished tree
 module _ {B : Type 0} (g : Grammar) (ws : Words) (l : State) (k : Unit {0} → Comp B) where
-  nesting_fits : leb (nesting g ws) most_nesting ≡ true → then_of (nesting_within g ws l) k ≡ k tt l
+  nesting_fits : nesting g ws ≤ most_nesting → then_of (nesting_within g ws l) k ≡ k tt l
   unfolding then_of nesting_within stop_unless
-  nesting_fits h = rw h
+  nesting_fits h = rw (le-leb (nesting g ws) most_nesting h)
 
-  nesting_over : leb (nesting g ws) most_nesting ≡ false → then_of (nesting_within g ws l) k ≡ stop 43 l
+  nesting_over : most_nesting < nesting g ws → then_of (nesting_within g ws l) k ≡ stop 43 l
   unfolding then_of nesting_within stop_unless
-  nesting_over h = rw h
+  nesting_over h = rw (lt-leb (nesting g ws) most_nesting h)
 
 module _ (given : Given) (w w' : Words) (at : ℕ) (frame : Open) (deep : ℕ) (left : State) (r : Built) (fills : Fills given w w' at frame deep left r) where
-  abbrev filled_by : Grammar → Rules.Rules → Bindings → Result Words
+  abbrev filled_by : Grammar → Rules.Rules → Bindings → Computation.Result Words
   filled_by g rules b = fill true g rules (calls true g rules deep) (pieces (pairs_at given.book at)) b.env (live b) 0 left
 
-  abbrev finished_by : ℕ → Grammar → Rules.Rules → Bindings → Result Words
+  abbrev finished_by : ℕ → Grammar → Rules.Rules → Bindings → Computation.Result Words
   finished_by u g rules b = finish true g rules (calls true g rules deep) u (pieces (pairs_at given.book at)) b left
 
   -- what is left to do with the words
@@ -66,7 +70,7 @@ module _ (given : Given) (w w' : Words) (at : ℕ) (frame : Open) (deep : ℕ) (
   fill_sure : (u : ℕ) (g : Grammar) (rules : Rules.Rules) (b : Bindings) → Sure (finished_by u g rules b) → Sure (filled_by g rules b)
   fill_sure u g rules b s = sure_first (filled_by g rules b) (closing u g) (sure_as (finish_as u g rules b) s)
 
-  pub finishes_stopped : (r.stop ≡ 0 → ⊥) → Finishes given w w' at frame deep left r
+  pub finishes_stopped : {k : ℕ} → r.nodes ≡ Err k → Finishes given w w' at frame deep left r
   finishes_stopped h u = record {
     few = fills.few;
     fits = fills.fits;
@@ -74,38 +78,38 @@ module _ (given : Given) (w w' : Words) (at : ℕ) (frame : Open) (deep : ℕ) (
     long = fills.long;
     meant = λ g rules b st hd sure.
         let q = fills.meant g rules b st hd (fill_sure u g rules b sure) in
-        (q.0, stop_says _ _ r.left r.stop h (finish_as u g rules b ∙ then_stop _ (closing u g) r.stop r.left (says_stop _ _ r.left r.stop h q.1)));
+        (q.0, stop_says _ _ r.left h (finish_as u g rules b ∙ then_stop _ (closing u g) _ r.left (says_stop _ _ r.left h q.1)));
   }
 
-  module _ (h : r.stop ≡ 0) (w'' : Words) (s : ℕ) (closed : Closed given.heads given.rows w' w'' frame.top r.nodes s) where
-    ends : (u : ℕ) (g : Grammar) (ws : Words) → Trees g (u ∷ []) ws → size ws ≡ r.nodes → take (2 * r.nodes) (drop frame.top w'') ≡ marked g ws
-        → (b : Bool) → leb (nesting g ws) most_nesting ≡ b → s ≡ pick b 0 43 → (m : Result Words) → m ≡ then_of (nesting_within g ws r.left) (λ z. return ws)
-        → Says (λ ws. Standing g w'' frame.top r.nodes u ws) s r.left m
-    ends u g ws t n words true e q m run =
-        rw q (ws, record { tree = record { typed = t; nodes = omega (arith, fills.few h); nested = leb-true (nesting g ws) most_nesting e }; nodes = n; words = words }, run ∙ nesting_fits g ws r.left (λ z. return ws) e)
-    ends u g ws t n words false e q m run = rw q (run ∙ nesting_over g ws r.left (λ z. return ws) e)
+  module _ {n : ℕ} (h : r.nodes ≡ Ok n) (w'' : Words) (s : Result (Unit {0}) ℕ) (closed : Closed given.types w' w'' frame.top n s) where
+    ends : (u : ℕ) (g : Grammar) (ws : Words) → Trees g (u ∷ []) ws → size ws ≡ n → take (2 * n) (drop frame.top w'') ≡ marked g ws
+        → (s : Result (Unit {0}) ℕ) → Within most_nesting 43 (nesting g ws) s → (m : Computation.Result Words) → m ≡ then_of (nesting_within g ws r.left) (λ z. return ws)
+        → Says (λ nodes ws. Standing g w'' frame.top nodes u ws) (and_nodes s n) r.left m
+    ends u g ws t e words (Ok v) q m run =
+        (ws, record { tree = record { typed = t; nodes = omega (arith, fills.few h); nested = q }; nodes = e; words = words }, run ∙ nesting_fits g ws r.left (λ z. return ws) q)
+    ends u g ws t e words (Err k) q m run = run ∙ nesting_over g ws r.left (λ z. return ws) q.0 ∙ ap (λ j. stop j r.left) (sym q.1)
 
-    pub finishes_closed : (r' : Built) → r' ≡ record { stop = s; nodes = r.nodes; left = r.left } → Finishes given w w'' at frame deep left r'
+    pub finishes_closed : (r' : Result ℕ ℕ) → r' ≡ and_nodes s n → Finishes given w w'' at frame deep left (record { nodes = r'; left = r.left })
     finishes_closed r' e u = rw e (record {
-      few = λ z. fills.few h;
-      fits = λ z. fills.fits h;
+      few = λ z. omega (arith, and_is s n z, fills.few h);
+      fits = λ z. omega (arith, and_is s n z, fills.fits h);
       less = fills.less;
       long = closed.long ∙ fills.long;
       meant = meant;
     })
       where
         meant : (g : Grammar) (rules : Rules.Rules) (b : Bindings) → Setting given g rules → Held g w frame b → Sure (finished_by u g rules b)
-            → (take frame.top w'' ≡ take frame.top w) × Says (λ ws. Standing g w'' frame.top r.nodes u ws) s r.left (finished_by u g rules b)
+            → (take frame.top w'' ≡ take frame.top w) × Says (λ nodes ws. Standing g w'' frame.top nodes u ws) (and_nodes s n) r.left (finished_by u g rules b)
         meant g rules b st hd sure =
             let q = fills.meant g rules b st hd (fill_sure u g rules b sure) in
-            let f = says_ok _ _ r.left r.stop h q.1 in
+            let f = says_ok _ _ r.left h q.1 in
             let ws : Words = f.0 in
             let run = finish_as u g rules b ∙ then_ok _ (closing u g) ws r.left f.2 in
             let c = check_sure (are_trees g ws (u ∷ [])) r.left (λ z. ◌>>◌ (nesting_within g ws) (return ws)) (sure_as run sure) in
             let t : Trees g (u ∷ []) ws = pass_trees ws (u ∷ []) c.0 in
-            let n : size ws ≡ r.nodes = omega (arith, trees_even t, f.1.0) in
-            let k = closed.closed g u ws st.tables t n (fills.few h) f.1.1 in
-            (k.0 ∙ q.0, ends u g ws t n k.1 (leb (nesting g ws) most_nesting) refl k.2 (finished_by u g rules b) (run ∙ c.1))
+            let e : size ws ≡ n = omega (arith, trees_even t, f.1.0) in
+            let k = closed.closed g u ws st.types_of t e (fills.few h) f.1.1 in
+            (k.0 ∙ q.0, ends u g ws t e k.1 s k.2 (finished_by u g rules b) (run ∙ c.1))
 
 -- A NEW VARIABLE
 
@@ -135,10 +139,10 @@ held_more {g} {w} {w'} {frame} {b} {u} {n} {t} s h hd e x =
 
 module _ (given : Given) (w w' : Words) (at next : ℕ) (frame : Open) (deep : ℕ) (left : State) (room : Room w frame) (f : Built)
     (finishes : Finishes given w w' at frame deep left f) where
-  abbrev finished_as : ℕ → Grammar → Rules.Rules → Bindings → Result Words
+  abbrev finished_as : ℕ → Grammar → Rules.Rules → Bindings → Computation.Result Words
   finished_as u g rules b = finish true g rules (calls true g rules deep) u (pieces (pairs_at given.book at)) b left
 
-  abbrev built_by : ℕ → Grammar → Rules.Rules → Bindings → Result (Option Bindings)
+  abbrev built_by : ℕ → Grammar → Rules.Rules → Bindings → Computation.Result (Option Bindings)
   built_by u g rules b = part_on deep (construct u (pieces (pairs_at given.book at))) g rules b left
 
   -- what is left to do with the tree
@@ -162,8 +166,8 @@ module _ (given : Given) (w w' : Words) (at next : ℕ) (frame : Open) (deep : �
       let c = check_sure (is_tree g u t) l (λ z. return (bindings (b.env ++ t ∷ []) b.besides)) (sure_as a.1 (sure_first _ _ s)) in
       (ltb-true (length b.env) most_variables a.0, then_ok _ _ (bindings (b.env ++ t ∷ []) b.besides) l (a.1 ∙ c.1))
 
-  pub constructs_stopped : (f.stop ≡ 0 → ⊥) → (r : Taking) → r ≡ record { verdict = Stops f.stop; frame = frame; left = f.left; next = next } → Constructs given w w' at next frame deep left r
-  constructs_stopped h r e = rw e (record {
+  pub constructs_stopped : {k : ℕ} → f.nodes ≡ Err k → Constructs given w w' at next frame deep left (record { verdict = Stops k; frame = frame; left = f.left; next = next })
+  constructs_stopped h = record {
     next_is = refl;
     takes = λ u. record {
       grown = grown_same room;
@@ -171,21 +175,25 @@ module _ (given : Given) (w w' : Words) (at next : ℕ) (frame : Open) (deep : �
       long = (finishes u).long;
       meant = λ g rules b st hd sure.
           let q = (finishes u).meant g rules b st hd (finish_sure u g rules b sure) in
-          (q.0, part_as_lem u g rules b ∙ then_stop _ (binding u g b) f.stop f.left (says_stop _ _ f.left f.stop h q.1));
+          (q.0, part_as_lem u g rules b ∙ then_stop _ (binding u g b) _ f.left (says_stop _ _ f.left h q.1));
     };
-  })
+  }
 
-  module _ (h : f.stop ≡ 0) (vars : Vars) (v : Named frame.vars frame.top vars) (more : Open) (em : more ≡ record { vars = vars; live = frame.live + f.nodes; top = frame.top + 2 * f.nodes }) where
+  module _ {n : ℕ} (h : f.nodes ≡ Ok n) (vars : Vars) (v : Named frame.vars frame.top vars) where
+    -- what is open then
+    abbrev more : Open
+    more = record { vars = vars; live = frame.live + n; top = frame.top + 2 * n }
+
     matched : (u : ℕ) (g : Grammar) (rules : Rules.Rules) (b : Bindings) → Setting given g rules → Held g w frame b → Sure (built_by u g rules b)
         → (take frame.top w' ≡ take frame.top w) × TakenAs g w' b.besides Matches more f.left (built_by u g rules b)
     matched u g rules b st hd sure =
         let q = (finishes u).meant g rules b st hd (finish_sure u g rules b sure) in
-        let k = says_ok _ _ f.left f.stop h q.1 in
+        let k = says_ok _ _ f.left h q.1 in
         let t : Words = k.0 in
         let run = part_as_lem u g rules b ∙ then_ok _ (binding u g b) t f.left k.2 in
         let c = bind_sure u g b t f.left (sure_as run sure) in
         let low : frame.vars.n < 16 = omega (arith, c.0, env_length g (take frame.top w) (starts_of frame.vars) b.env hd.stands, starts_length frame.vars room.sound) in
-        (q.0, (b.env ++ t ∷ [], subst (λ x. Held g w' x (bindings (b.env ++ t ∷ []) b.besides)) (sym (em ∙ ap (λ x. record { vars = x; live = frame.live + f.nodes; top = frame.top + 2 * f.nodes }) (v.is low))) (held_more room.sound low hd q.0 k.1), run ∙ c.1))
+        (q.0, (b.env ++ t ∷ [], subst (λ x. Held g w' x (bindings (b.env ++ t ∷ []) b.besides)) (sym (ap (λ x. record { vars = x; live = frame.live + n; top = frame.top + 2 * n }) (v.is low))) (held_more room.sound low hd q.0 k.1), run ∙ c.1))
 
-    pub constructs_bound : (r : Taking) → r ≡ record { verdict = Matches; frame = more; left = f.left; next = next } → Constructs given w w' at next frame deep left r
-    constructs_bound r e = rw e (record { next_is = refl; takes = λ u. record { grown = rw em (more_open frame f.nodes ((finishes u).fits h) room.low vars v); less = (finishes u).less; long = (finishes u).long; meant = matched u } })
+    pub constructs_bound : Constructs given w w' at next frame deep left (record { verdict = Matches; frame = more; left = f.left; next = next })
+    constructs_bound = record { next_is = refl; takes = λ u. record { grown = more_open frame n ((finishes u).fits h) room.low vars v; less = (finishes u).less; long = (finishes u).long; meant = matched u } }

@@ -3,6 +3,7 @@ pub mod Frames
 pub mod Going
 pub mod Parting
 pub mod Searching
+pub mod Seeking
 pub mod Chains
 pub mod Applied
 pub mod Applying

@@ -1,14 +1,15 @@
 -- What a part's step does: a variable is taken apart or searched here; the other kinds are the cycle's own. Assumes nothing.
+use Rattle.calls.specs.Places.{Searched}
 use Prim.Native.Nat.{ℕ, zero, suc, ◌+◌, ◌*◌, ◌≤◌}
 use mathlib.Core.Path.{◌≡◌, refl, sym, ap, ◌∙◌}
 use mathlib.Core.List.{[], ◌∷◌}
-use mathlib.Core.Bool.{Bool, true, false}
+use mathlib.Core.Bool.{true}
 use mathlib.Core.Option.{Option, none, some}
 use native.Mathlib.Omega.{arith}
 use lib.ListN.{length, get_or, take, drop, get_elem?, length-take, length-drop}
 use Rattle.words.specs.Reader.{Words, Read, value, refused}
 use Rattle.grammar.specs.Grammar.{Grammar}
-use Rattle.tables.specs.Tables.{Heads}
+use Rattle.tables.specs.Types.{TypesOf}
 use Rattle.tree.proofs.Rest.{tree_rest}
 use Rattle.rules.specs.Rules as Rules
 use Rattle.rules.specs.Rules.{shapes, pieces, condition_of}
@@ -21,7 +22,9 @@ use Rattle.rules.specs.declared.Part.{Part}
 use Rattle.rules.specs.declared.FoundPart.{FoundPart}
 use Rattle.rules.proofs.Laid.{Told, part_tells}
 use Rattle.meaning.specs.declared.State.{State}
-use Rattle.meaning.specs.Computation.{Result, Comp}
+use Rattle.std.specs.Prelude.{Some, None}
+use Rattle.meaning.specs.Computation as Computation
+use Rattle.meaning.specs.Computation.{Comp}
 use Rattle.meaning.specs.Meaning as M
 use Rattle.meaning.specs.Meaning.{Bindings, variable, match, match_first}
 use Rattle.marks.specs.Marked.{marked, Stands}
@@ -38,7 +41,7 @@ use Rattle.rewrite.proofs.Leaves.{variable_stands}
 use Rattle.calls.proofs.Going.{sure_as, variable_sure}
 
 -- a verdict of the matcher, on what stands below the top
-pub means_taken : (g : Grammar) (w : Words) (top besides : ℕ) (v : Verdict) (vars : Vars) (live : ℕ) (left : State) (m : Result (Option Bindings)) → Means g (take top w) besides v vars live left m
+pub means_taken : (g : Grammar) (w : Words) (top besides : ℕ) (v : Verdict) (vars : Vars) (live : ℕ) (left : State) (m : Computation.Result (Option Bindings)) → Means g (take top w) besides v vars live left m
     → TakenAs g w besides v (record { vars = vars; live = live; top = top }) left m
 means_taken g w top besides Matches vars live left m x = (x.0, record { stands = x.1; counted = x.2 }, x.3)
 means_taken g w top besides Differs vars live left m x = x
@@ -56,48 +59,48 @@ pub part_within : (w : Words) (top start k : ℕ) → start ≤ top → start + 
 part_within w top start k h = omega (arith, length-take k (drop start (take top w)), length-drop start (take top w), length-take top w)
 
 -- the pattern set against the tree, or against each node of it
-abbrev pub against : Bool → ℕ → Words → Grammar → Words → Bindings → Comp (Option Bindings)
-against true s ps g ws b = match_first true g s (shapes ps) ws b
-against false s ps g ws b = match true g (shapes ps) ws b
+abbrev pub against : Searched → Words → Grammar → Words → Bindings → Comp (Option Bindings)
+against (Some s) ps g ws b = match_first true g s (shapes ps) ws b
+against None ps g ws b = match true g (shapes ps) ws b
 
 -- the variable is bound, and its tree is what the pattern is set against
-apart : (deep : ℕ) (book : Words) (searches : Bool) (s x p : ℕ) (g : Grammar) (rules : Rules.Rules) (b : Bindings) (left : State) → Sure (part_on deep (deconstruct_in book searches s x p) g rules b left)
-    → (t : Words) × (get_elem? b.env (get_or book x 0) ≡ some t) × (part_on deep (deconstruct_in book searches s x p) g rules b left ≡ against searches s (pairs_at book p) g t b left)
+apart : (deep : ℕ) (book : Words) (searched : Searched) (x p : ℕ) (g : Grammar) (rules : Rules.Rules) (b : Bindings) (left : State) → Sure (part_on deep (deconstruct_in book searched x p) g rules b left)
+    → (t : Words) × (get_elem? b.env (get_or book x 0) ≡ some t) × (part_on deep (deconstruct_in book searched x p) g rules b left ≡ against searched (pairs_at book p) g t b left)
 unfolding M.part
-apart deep book true s x p g rules b left sure = variable_sure b.env (get_or book x 0) left (λ t. match_first true g s (shapes (pairs_at book p)) t b) sure
-apart deep book false s x p g rules b left sure = variable_sure b.env (get_or book x 0) left (λ t. match true g (shapes (pairs_at book p)) t b) sure
+apart deep book (Some s) x p g rules b left sure = variable_sure b.env (get_or book x 0) left (λ t. match_first true g s (shapes (pairs_at book p)) t b) sure
+apart deep book None x p g rules b left sure = variable_sure b.env (get_or book x 0) left (λ t. match true g (shapes (pairs_at book p)) t b) sure
 
-module _ (heads book w : Words) (d : Deconstruct) (next : ℕ) (frame : Open) (left : State) (room : Room w frame) (start n : ℕ) (es : start ≡ start_at frame.vars (get_or book d.variable 0))
+module _ (given : Given) (w : Words) (d : Deconstruct) (next : ℕ) (frame : Open) (left : State) (room : Room w frame) (start n : ℕ) (es : start ≡ start_at frame.vars (get_or given.book d.variable 0))
     (nodes : NodesAt w start frame.top n) where
   -- the variable's tree, where it stands
-  there : (g : Grammar) (b : Bindings) → Held g w frame b → (t : Words) → get_elem? b.env (get_or book d.variable 0) ≡ some t → Stands g (take frame.top w) start t
-  there g b held t e = rw es (variable_stands g (take frame.top w) frame.vars b.env (get_or book d.variable 0) t room.sound held.stands e)
+  there : (g : Grammar) (b : Bindings) → Held g w frame b → (t : Words) → get_elem? b.env (get_or given.book d.variable 0) ≡ some t → Stands g (take frame.top w) start t
+  there g b held t e = rw es (variable_stands g (take frame.top w) frame.vars b.env (get_or given.book d.variable 0) t room.sound held.stands e)
 
-  pub deconstruct_none : n ≡ 0 → Deconstructs heads book w d next frame left (record { verdict = Differs; frame = frame; left = left; next = next })
+  pub deconstruct_none : n ≡ 0 → Deconstructs given w d next frame left (record { verdict = Differs; frame = frame; left = left; next = next })
   deconstruct_none zero_nodes = record {
     next_is = refl;
     takes = λ deep. record {
       grown = grown_same room;
       less = omega arith;
       long = refl;
-      meant = λ g rules b tables held sure.
-          let a = apart deep book d.searches d.searched d.variable d.pattern g rules b left sure in
+      meant = λ g rules b types_of held sure.
+          let a = apart deep given.book d.searched d.variable d.pattern g rules b left sure in
           let s = there g b held a.0 a.1 in
-          let k = nodes.stands g a.0 tables.types s in
+          let k = nodes.stands g a.0 types_of.heads_of.types s in
           let j = some_nodes a.0 s.tree in
           absurd (omega arith);
     };
   }
 
   module _ (arena part : Words) (ea : arena ≡ take frame.top w) (ep : part ≡ take (2 * n) (drop start arena)) where
-    stage : (g : Grammar) (b : Bindings) → Heads g heads → Held g w frame b → (t : Words) (s : Stands g (take frame.top w) start t) → Stage heads g arena part start frame.vars frame.live t (s.type ∷ []) b
-    stage g b tables held t s =
-        let k = nodes.stands g t tables.types s in
+    stage : (g : Grammar) (b : Bindings) → TypesOf g given.types → Held g w frame b → (t : Words) (s : Stands g (take frame.top w) start t) → Stage given.types g arena part start frame.vars frame.live t (s.type ∷ []) b
+    stage g b types_of held t s =
+        let k = nodes.stands g t types_of.heads_of.types s in
         let l : length t ≡ 2 * n = omega (arith, tree_length s.tree) in
         let m : part ≡ marked g t = ep ∙ ap (λ x. take (2 * n) (drop start x)) ea ∙ ap (λ k. take k (drop start (take frame.top w))) (sym l) ∙ s.words in
         let q : length part ≡ length t = ap length m ∙ marked_length g t in
         record {
-          tables = tables;
+          tables = types_of;
           place = ep ∙ ap (λ k. take k (drop start arena)) (sym l ∙ sym q);
           inside = omega (arith, q, s.inside, ap length ea);
           marks = m;
@@ -106,19 +109,19 @@ module _ (heads book w : Words) (d : Deconstruct) (next : ℕ) (frame : Open) (l
           counted = held.counted;
         }
 
-    pub deconstruct_matched : (ps : Words) → ps ≡ pairs_at book d.pattern → (b : Bool) → d.searches ≡ b → (m : Match) → Answers heads arena part start frame.vars frame.live (against b d.searched ps) m
-        → Deconstructs heads book w d next frame left (record { verdict = m.verdict; frame = record { vars = m.vars; live = m.live; top = frame.top }; left = left; next = next })
-    deconstruct_matched ps eps b eb m given = let answers = rw (eps, ← eb) at given in record {
+    pub deconstruct_matched : (ps : Words) → ps ≡ pairs_at given.book d.pattern → (m : Match) → Answers given.types arena part start frame.vars frame.live (against d.searched ps) m
+        → Deconstructs given w d next frame left (record { verdict = m.verdict; frame = record { vars = m.vars; live = m.live; top = frame.top }; left = left; next = next })
+    deconstruct_matched ps eps m told = let answers = rw eps at told in record {
       next_is = refl;
       takes = λ deep. record {
         grown = grown_matched w frame room m.vars m.live answers.sound answers.kept answers.fits answers.grows;
         less = omega arith;
         long = refl;
-        meant = λ g rules b tables held sure.
-            let a = apart deep book d.searches d.searched d.variable d.pattern g rules b left sure in
+        meant = λ g rules b types_of held sure.
+            let a = apart deep given.book d.searched d.variable d.pattern g rules b left sure in
             let s = there g b held a.0 a.1 in
-            let x = answers.meant g a.0 (s.type ∷ []) b left (stage g b tables held a.0 s) (sure_as a.2 sure) in
-            (refl, rw a.2 (means_taken g w frame.top b.besides m.verdict m.vars m.live left (against d.searches d.searched (pairs_at book d.pattern) g a.0 b left) (rw ea at x)));
+            let x = answers.meant g a.0 (s.type ∷ []) b left (stage g b types_of held a.0 s) (sure_as a.2 sure) in
+            (refl, rw a.2 (means_taken g w frame.top b.besides m.verdict m.vars m.live left (against d.searched (pairs_at given.book d.pattern) g a.0 b left) (rw ea at x)));
       };
     }
 
@@ -138,10 +141,10 @@ told_here ws (condition_at negated p) next t = t.here
 
 -- the part by the code's fields
 deconstruct_is : (book : Words) (q : PartAt) (d : Deconstruct) → pairs_at book (pairs_of q) ≡ stretch book (pairs_of q) → part_as q ≡ Part.Deconstruct d
-    → part_of book q ≡ deconstruct_in book d.searches d.searched d.variable d.pattern
+    → part_of book q ≡ deconstruct_in book d.searched d.variable d.pattern
 unfolding part_of
-deconstruct_is book (deconstruct_at none x p) d h e = let z : record { searches = false; searched = 0; variable = x; pattern = p } ≡ d = cc in rw (← z, h)
-deconstruct_is book (deconstruct_at (some s) x p) d h e = let z : record { searches = true; searched = s; variable = x; pattern = p } ≡ d = cc in rw (← z, h)
+deconstruct_is book (deconstruct_at none x p) d h e = let z : record { searched = None; variable = x; pattern = p } ≡ d = cc in rw (← z, h)
+deconstruct_is book (deconstruct_at (some s) x p) d h e = let z : record { searched = Some s; variable = x; pattern = p } ≡ d = cc in rw (← z, h)
 deconstruct_is book (construct_at s p) d h e = let k : ◌≡◌ {A = ℕ} 0 1 = cc in absurd (omega arith)
 deconstruct_is book (condition_at negated p) d h e = let k : ◌≡◌ {A = ℕ} 0 1 = cc in absurd (omega arith)
 
@@ -183,20 +186,20 @@ module _ (given : Given) (w : Words) (at : ℕ) (frame : Open) (deep : ℕ) (lef
     step_by_lem : (A : Grammar → Rules.Rules → Type 0) (p : Rules.Part) → r.next ≡ f.next → ((g : Grammar) (rules : Rules.Rules) → Setting given g rules → A g rules)
         → ((q : PartAt) → pairs_at given.book (pairs_of q) ≡ stretch given.book (pairs_of q) → part_as q ≡ f.part → part_of given.book q ≡ p) → Takes w w' frame left r A (part_on deep p)
         → Steps given w w' at frame deep left r
-    step_by_lem A p n give same t = record { next_is = λ q next z. n ∙ ap (λ x. x.next) (is given.types q next z); takes = go (part_at given.types given.book at) refl }
+    step_by_lem A p n give same t = record { next_is = λ q next z. n ∙ ap (λ x. x.next) (is given.types.count q next z); takes = go (part_at given.types.count given.book at) refl }
       where
-        go : (x : Read PartAt) → part_at given.types given.book at ≡ x → Takes w w' frame left r (λ g rules. Setting given g rules) (part_read deep given.book (part_at given.types given.book at))
+        go : (x : Read PartAt) → part_at given.types.count given.book at ≡ x → Takes w w' frame left r (λ g rules. Setting given g rules) (part_read deep given.book (part_at given.types.count given.book at))
         go (value q next) y =
-            takes_as w w' frame left r A (λ g rules. Setting given g rules) (part_on deep p) (part_read deep given.book (part_at given.types given.book at))
+            takes_as w w' frame left r A (λ g rules. Setting given g rules) (part_on deep p) (part_read deep given.book (part_at given.types.count given.book at))
             (λ g rules with.
-            let here = told_here given.book q next (part_tells given.types given.book with.few at q next y) in
-            (give g rules with, λ b. ap (λ x. part_read deep given.book x g rules b left) y ∙ ap (λ x. part_on deep x g rules b left) (same q here (sym (ap (λ x. x.part) (is given.types q next y)))))) t
+            let here = told_here given.book q next (part_tells given.types.count given.book (omega (arith, with.types_of.count_of, with.types_of.heads_of.types)) at q next y) in
+            (give g rules with, λ b. ap (λ x. part_read deep given.book x g rules b left) y ∙ ap (λ x. part_on deep x g rules b left) (same q here (sym (ap (λ x. x.part) (is given.types.count q next y)))))) t
         go (refused m o) y = record { grown = t.grown; less = t.less; long = t.long; meant = λ g rules b with held sure. absurd (sure (ap (λ x. part_read deep given.book x g rules b left) y)) }
 
-    pub step_deconstruct : (d : Deconstruct) → f.part ≡ Part.Deconstruct d → Deconstructs given.heads given.book w d f.next frame left r → w' ≡ w → Steps given w w' at frame deep left r
+    pub step_deconstruct : (d : Deconstruct) → f.part ≡ Part.Deconstruct d → Deconstructs given w d f.next frame left r → w' ≡ w → Steps given w w' at frame deep left r
     step_deconstruct d k x ew =
-        step_by_lem (λ g rules. Heads g given.heads) (deconstruct_in given.book d.searches d.searched d.variable d.pattern) x.next_is
-        (λ g rules with. with.tables.heads_of) (λ q h e. deconstruct_is given.book q d h (e ∙ k)) (rw ew (x.takes deep))
+        step_by_lem (λ g rules. TypesOf g given.types) (deconstruct_in given.book d.searched d.variable d.pattern) x.next_is
+        (λ g rules with. with.types_of) (λ q h e. deconstruct_is given.book q d h (e ∙ k)) (rw ew (x.takes deep))
 
     pub step_construct : (c : Construct) → f.part ≡ Part.Construct c → Constructs given w w' c.replacement f.next frame deep left r
         → Steps given w w' at frame deep left r

@@ -18,7 +18,9 @@ use Rattle.rules.specs.Rules.{Piece, Rule, root_only, first_match, exhaustive, o
 use Rattle.rules.specs.Layout as Layout
 use Rattle.meaning.specs.Limits.{most_live}
 use Rattle.meaning.specs.declared.State.{State}
-use Rattle.meaning.specs.Computation.{Result, ok, stop, then_of, stop_unless, whether, return, live_within}
+use Rattle.std.specs.Prelude.{Ok, Err, Some, None}
+use Rattle.meaning.specs.Computation as Computation
+use Rattle.meaning.specs.Computation.{ok, stop, then_of, stop_unless, whether, return, live_within}
 use Rattle.meaning.specs.Meaning as M
 use Rattle.meaning.specs.Meaning.{Env, total, live, Ending, done, stopped, cannot_go_on, called, opened, Turned, after_round, start, begin, fits, calls}
 use Rattle.rewrite.specs.Vars.{Vars, EnvAt, starts_of}
@@ -27,8 +29,7 @@ use Rattle.rewrite.specs.Arena.{Standing, Says}
 use Rattle.rules.specs.Views.{pairs_at, Planned, strategy_as, again_of, onward_of}
 use Rattle.calls.specs.Engine.{Open, Seeking, Room, Held, Given, Setting, Sure, SoughtAs, Begins, seek_from, EndedAs, FoundFits, Tree, Seeks, Replaces, Left, Calls}
 use Rattle.rules.specs.declared.Plan.{Plan}
-use Rattle.calls.specs.declared.Found as Code
-use Rattle.calls.specs.declared.Found.TheVariants.{At, Nowhere, Stopped}
+use Rattle.calls.specs.Places.{Place, Halted}
 use Rattle.calls.specs.declared.Built.{Built}
 use Rattle.calls.specs.declared.Called.{Called}
 use Rattle.marks.specs.Marked.{size_in}
@@ -37,7 +38,6 @@ use Rattle.rewrite.proofs.Placing.{child_there}
 use Rattle.calls.proofs.Frames.{env_up, env_kept}
 use Rattle.calls.proofs.Going.{then_ok, then_stop, sure_first, sure_as, says_ok, says_stop}
 use Rattle.calls.proofs.Applied.{begin_sure}
-use Rattle.meaning.proofs.Numbered.{stop_number, sought_numbered}
 
 -- HOW A CALL OPENS
 
@@ -49,15 +49,15 @@ live_beyond : (n : ℕ) (l : State) → most_live < n → live_within n l ≡ st
 unfolding live_within stop_unless
 live_beyond n l h = rw (lt-leb n most_live h)
 
-opened_sure : (scope : Words) (rest : State → M.Called) (m : Result (Unit {0})) → ((opened scope rest m).ending ≡ cannot_go_on → ⊥) → Sure m
+opened_sure : (scope : Words) (rest : State → M.Called) (m : Computation.Result (Unit {0})) → ((opened scope rest m).ending ≡ cannot_go_on → ⊥) → Sure m
 unfolding opened
 opened_sure scope rest m h e = h (rw e)
 
-opened_ok : (scope : Words) (rest : State → M.Called) (m : Result (Unit {0})) (l : State) → m ≡ ok tt l → opened scope rest m ≡ rest l
+opened_ok : (scope : Words) (rest : State → M.Called) (m : Computation.Result (Unit {0})) (l : State) → m ≡ ok tt l → opened scope rest m ≡ rest l
 unfolding opened
 opened_ok scope rest m l e = rw e
 
-opened_stop : (scope : Words) (rest : State → M.Called) (m : Result (Unit {0})) (n : ℕ) (l : State) → m ≡ stop n l → opened scope rest m ≡ called scope 0 (stopped n) l
+opened_stop : (scope : Words) (rest : State → M.Called) (m : Computation.Result (Unit {0})) (n : ℕ) (l : State) → m ≡ stop n l → opened scope rest m ≡ called scope 0 (stopped n) l
 unfolding opened
 opened_stop scope rest m n l e = rw e
 
@@ -91,7 +91,7 @@ place_after first_match t = 0
 place_after exhaustive t = 0
 place_after one_pass t = t.behind
 
-module _ (scope : Words) (k : ℕ) (rest : Words → ℕ → State → M.Called) (m : Result (Option Turned)) where
+module _ (scope : Words) (k : ℕ) (rest : Words → ℕ → State → M.Called) (m : Computation.Result (Option Turned)) where
   after_sure : (s : Rules.Strategy) → ((after_round scope k s rest m).ending ≡ cannot_go_on → ⊥) → Sure m
   unfolding after_round
   after_sure root_only h e = h (rw e)
@@ -128,16 +128,16 @@ module _ (scope : Words) (k : ℕ) (rest : Words → ℕ → State → M.Called)
   after_again one_pass t l a e = rw e
 
 module _ (g : Grammar) (rules : Rules.Rules) (deeper : M.Calls) (r : Rule) (ps : List Piece) (args : Env) (now : Words) (place others : ℕ) where
-  abbrev sought : State → Result (Option M.Found)
+  abbrev sought : State → Computation.Result (Option M.Found)
   sought left = M.seek true g rules deeper r (drop place now) place (start args now others) left
 
-  abbrev turned : State → Result (Option Turned)
+  abbrev turned : State → Computation.Result (Option Turned)
   turned left = M.turn true g rules deeper r ps args now place others left
 
   abbrev turned_to : M.Found → Words → Turned
   turned_to f ws = record { scope = ws; behind = f.place + length (first_tree g (drop f.place ws)) }
 
-  abbrev replaced : M.Found → State → Result Words
+  abbrev replaced : M.Found → State → Computation.Result Words
   replaced f left = M.replace true g rules deeper r.target ps now f left
 
   module _ (left : State) where
@@ -223,11 +223,6 @@ module _ {g : Grammar} {w : Words} {base n t : ℕ} {ws : Words} (few : length g
 
 -- THE CALL
 
--- a stop's number says that it stopped
-ended_number : (n : ℕ) → (n ≡ 0 → ⊥) → EndedAs n (stopped n)
-ended_number zero h = absurd (h refl)
-ended_number (suc n) h = refl
-
 not_true : (b : Bool) → not b ≡ true → b ≡ false
 not_true true e = let z : ◌≡◌ {A = ℕ} 0 1 = cc in absurd (omega arith)
 not_true false e = refl
@@ -244,7 +239,7 @@ module _ (given : Given) (w₀ : Words) (at base n : ℕ) (vars : Vars) (besides
   -- a call of the meaning that goes on, of which the contract speaks
   pub record Case (g : Grammar) (rules : Rules.Rules) (rule : Rule) (next : ℕ) (args : Env) (scope : Words) (others : ℕ) : Type 0 where
     pub setting : Setting given g rules
-    pub read : Layout.rule given.types given.book at ≡ value rule next
+    pub read : Layout.rule given.types.count given.book at ≡ value rule next
     pub env : EnvAt g (take base w₀) (starts_of vars) args
     pub counted : besides ≡ others + total args
     pub tree : Tree g w₀ base n scope
@@ -281,41 +276,41 @@ module _ (given : Given) (w₀ : Words) (at base n : ℕ) (vars : Vars) (besides
   -- after a search, by where it ended
   pub record Searched (nodes count : ℕ) (w : Words) (s : Seeking) : Type 0 where
     pub room : 16384 ≤ length w₀ → Room w s.frame
-    pub place : (j : ℕ) → s.found ≡ At j → (j < nodes) × (base + 2 * nodes ≤ s.frame.top)
-    pub nowhere : (r : Called) → s.found ≡ Nowhere → r ≡ record { stop = 0; nodes = nodes; left = s.left; replacements = count } → Answers w r
-    pub stops : (r : Called) (number : ℕ) → s.found ≡ Stopped number → r ≡ record { stop = number; nodes = nodes; left = s.left; replacements = count } → Answers w r
+    pub place : (j : ℕ) → s.found ≡ Ok (Some j) → (j < nodes) × (base + 2 * nodes ≤ s.frame.top)
+    pub nowhere : s.found ≡ Ok None → Answers w (record { stop = None; nodes = nodes; left = s.left; replacements = count })
+    pub stops : {number : ℕ} → s.found ≡ Err number → Answers w (record { stop = Some number; nodes = nodes; left = s.left; replacements = count })
 
   -- after a replacement of node j
   pub record Placed (plan : Plan) (nodes : ℕ) (fuel : State) (count : ℕ) (repeats : Bool) (j : ℕ) (w : Words) (b : Built) : Type 0 where
     pub long : length w ≡ length w₀
     pub spent : b.left.attempts < fuel.attempts
     pub counted : count + 1 + b.left.attempts ≤ left.attempts
-    pub stops : (r : Called) → (b.stop ≡ 0 → ⊥) → r ≡ record { stop = b.stop; nodes = nodes; left = b.left; replacements = count } → Answers w r
-    pub last : (r : Called) → b.stop ≡ 0 → not repeats ≡ true → r ≡ record { stop = 0; nodes = b.nodes; left = b.left; replacements = count + 1 } → Answers w r
-    pub again : b.stop ≡ 0 → not repeats ≡ false → Calling w b.nodes b.left (count + 1) (onward_of plan.strategy j (size_in (get_or w (base + 2 * j) 0)))
+    pub stops : {number : ℕ} → b.nodes ≡ Err number → Answers w (record { stop = Some number; nodes = nodes; left = b.left; replacements = count })
+    pub last : {now : ℕ} → b.nodes ≡ Ok now → not repeats ≡ true → Answers w (record { stop = None; nodes = now; left = b.left; replacements = count + 1 })
+    pub again : {now : ℕ} → b.nodes ≡ Ok now → not repeats ≡ false → Calling w now b.left (count + 1) (onward_of plan.strategy j (size_in (get_or w (base + 2 * j) 0)))
 
   -- what a call leaves, as the contract says it
   abbrev Leaves : Words → Called → Type 0
   Leaves w r = (g : Grammar) (rules : Rules.Rules) (rule : Rule) (next : ℕ) (args : Env) (scope : Words) (others : ℕ) → Case g rules rule next args scope others
       → (take base w ≡ take base w₀) × Left given w₀ w g base r (M.call true g rules (calls true g rules deep) rule args scope others left)
 
-  -- .. with the numbers that it is answered by
-  answers : {number nodes : ℕ} {l : State} {k : ℕ} (w : Words) (r : Called) → r ≡ record { stop = number; nodes = nodes; left = l; replacements = k } → nodes ≤ most_nodes
-      → ((k : ℕ) → k ≤ besides → k + n ≤ most_live → k + nodes ≤ most_live) → l.attempts ≤ left.attempts → length w ≡ length w₀ → Leaves w (record { stop = number; nodes = nodes; left = l; replacements = k })
-      → Answers w r
-  answers w r e few fits less long leaves = rw e (record {
+  -- .. with what it is answered by
+  answers : {s : Halted} {nodes : ℕ} {l : State} {k : ℕ} (w : Words) → nodes ≤ most_nodes
+      → ((k : ℕ) → k ≤ besides → k + n ≤ most_live → k + nodes ≤ most_live) → l.attempts ≤ left.attempts → length w ≡ length w₀ → Leaves w (record { stop = s; nodes = nodes; left = l; replacements = k })
+      → Answers w (record { stop = s; nodes = nodes; left = l; replacements = k })
+  answers w few fits less long leaves = record {
     few = few;
     fits = fits;
     less = less;
     long = long;
     meant = λ g rules rule next args scope others setting read env counted tree goes.
         leaves g rules rule next args scope others (record { setting = setting; read = read; env = env; counted = counted; tree = tree; goes = goes });
-  })
+  }
 
   -- a call that has come to its end
-  left_is : (w : Words) (g : Grammar) (number nodes k : ℕ) (left : State) (count : ℕ) (now : Words) (e : Ending) (c : M.Called) → c ≡ called now k e left → EndedAs number e → count ≡ k → Tree g w base nodes now
-      → Left given w₀ w g base (record { stop = number; nodes = nodes; left = left; replacements = count }) c
-  left_is w g number nodes k left count now e c q ends same tree = rw q (ends, refl, same, tree)
+  left_is : (w : Words) (g : Grammar) (s : Halted) (nodes k : ℕ) (left : State) (count : ℕ) (now : Words) (e : Ending) (c : M.Called) → c ≡ called now k e left → EndedAs s e → count ≡ k → Tree g w base nodes now
+      → Left given w₀ w g base (record { stop = s; nodes = nodes; left = left; replacements = count }) c
+  left_is w g s nodes k left count now e c q ends same tree = rw q (ends, refl, same, tree)
 
   -- what is live as a call begins
   module _ {g : Grammar} {rules : Rules.Rules} {rule : Rule} {next : ℕ} {args : Env} {scope : Words} {others : ℕ} (c : Case g rules rule next args scope others) where
@@ -350,21 +345,20 @@ module _ (given : Given) (w₀ : Words) (at base n : ℕ) (vars : Vars) (besides
 
   module _ (w : Words) (nodes : ℕ) (fuel : State) (count from : ℕ) (i : Calling w nodes fuel count from) where
     -- too many nodes are live
-    pub calls_over : (r : Called) → r ≡ record { stop = 44; nodes = nodes; left = fuel; replacements = count } → most_live < besides + nodes → Answers w r
-    calls_over r e o =
+    pub calls_over : {number : ℕ} → number ≡ 44 → most_live < besides + nodes → Answers w (record { stop = Some number; nodes = nodes; left = fuel; replacements = count })
+    calls_over e o =
         let x = i.first o in
-        let e₀ : r ≡ record { stop = 44; nodes = n; left = left; replacements = 0 } = rw (x.1, x.2, x.3) at e in
-        rw x.0 (answers w₀ r e₀ (omega (arith, i.few)) (λ k a b. b) (omega arith) refl
+        rw (e, x.0, x.1, x.2, x.3) (answers w₀ (omega (arith, i.few, x.1)) (λ k a b. b) (omega arith) refl
         (λ g rules rule next args scope others c.
         let y = call_begins g rules (calls true g rules deep) rule args scope others left c.goes in
-        (refl, left_is w₀ g 44 n 0 left 0 scope (stopped 44) _ (y.2.1 (omega (arith, opens_live c))) refl refl c.tree)))
+        (refl, left_is w₀ g (Some 44) n 0 left 0 scope (stopped 44) _ (y.2.1 (omega (arith, opens_live c, x.1))) refl refl c.tree)))
 
     abbrev frame : Open
     frame = record { vars = vars; live = besides + nodes; top = base + 2 * nodes }
 
-    module _ (fit : besides + nodes ≤ most_live) (plan : Plan) (planned : (rule : Rule) (next : ℕ) → Layout.rule given.types given.book at ≡ value rule next → Planned given.types given.book rule plan) (w₁ : Words) (s : Seeking)
+    module _ (fit : besides + nodes ≤ most_live) (plan : Plan) (planned : (rule : Rule) (next : ℕ) → Layout.rule given.types.count given.book at ≡ value rule next → Planned given.types.count given.book rule plan) (w₁ : Words) (s : Seeking)
         (x : Seeks given w w₁ plan base nodes frame deep fuel from s) where
-      fits_as : (v : Code.Found) → s.found ≡ v → FoundFits nodes fuel v s.left
+      fits_as : (v : Place) → s.found ≡ v → FoundFits nodes fuel v s.left
       fits_as v f = subst (λ z. FoundFits nodes fuel z s.left) f x.fits
 
       module _ {g : Grammar} {rules : Rules.Rules} {rule : Rule} {next : ℕ} {args : Env} {scope : Words} {others : ℕ} (c : Case g rules rule next args scope others) where
@@ -389,7 +383,7 @@ module _ (given : Given) (w₀ : Words) (at base n : ℕ) (vars : Vars) (besides
             x.meant g rules rule (start args here.now others) here.now c.setting (planned rule next c.read) held (here.type, standing_below w (base + 2 * nodes) (omega arith) here.stands) here.begins
             (seek_sure g rules (calls true g rules deep) rule here.ps args here.now (2 * from) others fuel turn_goes)
 
-        found_as : (v : Code.Found) → s.found ≡ v
+        found_as : (v : Place) → s.found ≡ v
             → SoughtAs g w₁ (others + size here.now) given.book rule v s.frame s.left s.next (seek_from deep g rules rule here.now from (start args here.now others) fuel)
         found_as v f =
             subst (λ z. SoughtAs g w₁ (others + size here.now) given.book rule z s.frame s.left s.next (seek_from deep g rules rule here.now from (start args here.now others) fuel)) f found.1
@@ -401,63 +395,61 @@ module _ (given : Given) (w₀ : Words) (at base n : ℕ) (vars : Vars) (besides
         stands₁ = standing_kept w w₁ (base + 2 * nodes) (omega arith) found.0 here.stands
 
       -- there is no match
-      calls_nowhere : (r : Called) → s.found ≡ Nowhere → r ≡ record { stop = 0; nodes = nodes; left = s.left; replacements = count } → Answers w₁ r
-      calls_nowhere r f e =
-          answers w₁ r e i.few i.fits (omega (arith, fits_as Nowhere f, i.less)) (x.long ∙ i.long)
+      calls_nowhere : s.found ≡ Ok None → Answers w₁ (record { stop = None; nodes = nodes; left = s.left; replacements = count })
+      calls_nowhere f =
+          answers w₁ i.few i.fits (omega (arith, fits_as (Ok None) f, i.less)) (x.long ∙ i.long)
           (λ g rules rule next args scope others c.
           let d = here c in
-          let q = round_none g rules (calls true g rules deep) rule d.ps args d.now (2 * from) others d.most count fuel s.left (found_as c Nowhere f) in
-          (kept₁ c, left_is w₁ g 0 nodes count s.left count d.now done _ (d.rest ∙ q) refl refl (d.type, stands₁ c)))
+          let q = round_none g rules (calls true g rules deep) rule d.ps args d.now (2 * from) others d.most count fuel s.left (found_as c (Ok None) f) in
+          (kept₁ c, left_is w₁ g None nodes count s.left count d.now done _ (d.rest ∙ q) refl refl (d.type, stands₁ c)))
 
       -- the search stops
-      calls_stopped : (r : Called) (number : ℕ) → s.found ≡ Stopped number → r ≡ record { stop = number; nodes = nodes; left = s.left; replacements = count } → Answers w₁ r
-      calls_stopped r number f e =
-          answers w₁ r e i.few i.fits (omega (arith, fits_as (Stopped number) f, i.less)) (x.long ∙ i.long)
+      calls_stopped : {number : ℕ} → s.found ≡ Err number → Answers w₁ (record { stop = Some number; nodes = nodes; left = s.left; replacements = count })
+      calls_stopped {number} f =
+          answers w₁ i.few i.fits (omega (arith, fits_as (Err number) f, i.less)) (x.long ∙ i.long)
           (λ g rules rule next args scope others c.
           let d = here c in
-          let at = found_as c (Stopped number) f in
-          let q = round_stop g rules (calls true g rules deep) rule d.ps args d.now (2 * from) others d.most count fuel number s.left at in
-          let some = stop_number (sought_numbered true g rules deep rule (drop (2 * from) d.now) (2 * from) (start args d.now others) fuel) at in
-          (kept₁ c, left_is w₁ g number nodes count s.left count d.now (stopped number) _ (d.rest ∙ q) (ended_number number (λ z. omega (arith, some))) refl (d.type, stands₁ c)))
+          let q = round_stop g rules (calls true g rules deep) rule d.ps args d.now (2 * from) others d.most count fuel number s.left (found_as c (Err number) f) in
+          (kept₁ c, left_is w₁ g (Some number) nodes count s.left count d.now (stopped number) _ (d.rest ∙ q) refl refl (d.type, stands₁ c)))
 
       pub searched : Searched nodes count w₁ s
       searched = record {
         room = λ h. record { sound = x.grown.sound; few = x.grown.few; low = x.grown.low; long = omega (arith, x.long, i.long) };
-        place = λ j f. ((fits_as (At j) f).0, x.grown.higher);
+        place = λ j f. ((fits_as (Ok (Some j)) f).0, x.grown.higher);
         nowhere = calls_nowhere;
         stops = calls_stopped;
       }
 
-      module _ (j : ℕ) (f : s.found ≡ At j) (w₂ : Words) (b : Built) (y : Replaces given w₁ w₂ s.next base nodes j s.frame deep s.left b) where
+      module _ (j : ℕ) (f : s.found ≡ Ok (Some j)) (w₂ : Words) (b : Built) (y : Replaces given w₁ w₂ s.next base nodes j s.frame deep s.left b) where
         -- an attempt is spent
         spends : b.left.attempts < fuel.attempts
-        spends = omega (arith, y.less, (fits_as (At j) f).1)
+        spends = omega (arith, y.less, (fits_as (Ok (Some j)) f).1)
 
         counts : count + 1 + b.left.attempts ≤ left.attempts
         counts = omega (arith, i.spent, spends)
 
         -- what is live besides leaves room for the scope as it is then
-        fits_then : b.stop ≡ 0 → besides + b.nodes ≤ most_live
+        fits_then : {now : ℕ} → b.nodes ≡ Ok now → besides + now ≤ most_live
         fits_then z = omega (arith, y.fits z, x.grown.more)
 
         module _ {g : Grammar} {rules : Rules.Rules} {rule : Rule} {next : ℕ} {args : Env} {scope : Words} {others : ℕ} (c : Case g rules rule next args scope others) where
           abbrev m : M.Found
-          m = record { place = 2 * j; bound = bindings (found_as c (At j) f).0 (others + size (here c).now) }
+          m = record { place = 2 * j; bound = bindings (found_as c (Ok (Some j)) f).0 (others + size (here c).now) }
 
-          abbrev made : List Piece → Result Words
+          abbrev made : List Piece → Computation.Result Words
           made ps = M.replace true g rules (calls true g rules deep) rule.target ps (here c).now m s.left
 
           put_as : (ps : List Piece) → ps ≡ pieces (pairs_at given.book s.next) → Sure (made ps)
-              → (take base w₂ ≡ take base w₁) × ((b.stop ≡ 0 → ⊥) → take (base + 2 * nodes) w₂ ≡ take (base + 2 * nodes) w₁)
-              × Says (λ ws. Standing g w₂ base b.nodes (here c).type ws × (j < b.nodes)) b.stop b.left (made ps)
+              → (take base w₂ ≡ take base w₁) × ((k : ℕ) → b.nodes ≡ Err k → take (base + 2 * nodes) w₂ ≡ take (base + 2 * nodes) w₁)
+              × Says (λ made ws. Standing g w₂ base made (here c).type ws × (j < made)) b.nodes b.left (made ps)
           put_as ps e =
-              rw e (y.meant g rules (bindings (found_as c (At j) f).0 (others + size (here c).now)) (here c).type rule.target (here c).now c.setting (found_as c (At j) f).1 (stands₁ c))
+              rw e (y.meant g rules (bindings (found_as c (Ok (Some j)) f).0 (others + size (here c).now)) (here c).type rule.target (here c).now c.setting (found_as c (Ok (Some j)) f).1 (stands₁ c))
 
-          put : (take base w₂ ≡ take base w₁) × ((b.stop ≡ 0 → ⊥) → take (base + 2 * nodes) w₂ ≡ take (base + 2 * nodes) w₁)
-              × Says (λ ws. Standing g w₂ base b.nodes (here c).type ws × (j < b.nodes)) b.stop b.left (made (here c).ps)
+          put : (take base w₂ ≡ take base w₁) × ((k : ℕ) → b.nodes ≡ Err k → take (base + 2 * nodes) w₂ ≡ take (base + 2 * nodes) w₁)
+              × Says (λ made ws. Standing g w₂ base made (here c).type ws × (j < made)) b.nodes b.left (made (here c).ps)
           put =
               let d = here c in
-              let q = found_as c (At j) f in
+              let q = found_as c (Ok (Some j)) f in
               put_as d.ps (q.3 d.ps d.replaces)
               (replace_sure g rules (calls true g rules deep) rule d.ps args d.now (2 * from) others d.most count fuel m s.left q.2 (turn_goes c))
 
@@ -465,33 +457,33 @@ module _ (given : Given) (w₀ : Words) (at base n : ℕ) (vars : Vars) (besides
           strategy_is = sym (planned rule next c.read).strategy
 
         -- the replacement stops
-        calls_cut : (r : Called) → (b.stop ≡ 0 → ⊥) → r ≡ record { stop = b.stop; nodes = nodes; left = b.left; replacements = count } → Answers w₂ r
-        calls_cut r ne e =
-            answers w₂ r e i.few i.fits (omega (arith, spends, i.less)) (y.long ∙ x.long ∙ i.long)
+        calls_cut : {number : ℕ} → b.nodes ≡ Err number → Answers w₂ (record { stop = Some number; nodes = nodes; left = b.left; replacements = count })
+        calls_cut {number} e =
+            answers w₂ i.few i.fits (omega (arith, spends, i.less)) (y.long ∙ x.long ∙ i.long)
             (λ g rules rule next args scope others c.
             let d = here c in
             let p = put c in
-            let z = says_stop (λ ws. Standing g w₂ base b.nodes d.type ws × (j < b.nodes)) (made c d.ps) b.left b.stop ne p.2 in
-            let q = round_cut g rules (calls true g rules deep) rule d.ps args d.now (2 * from) others d.most count fuel (m c) s.left (found_as c (At j) f).2 b.stop b.left z in (
+            let z = says_stop (λ made ws. Standing g w₂ base made d.type ws × (j < made)) (made c d.ps) b.left e p.2 in
+            let q = round_cut g rules (calls true g rules deep) rule d.ps args d.now (2 * from) others d.most count fuel (m c) s.left (found_as c (Ok (Some j)) f).2 number b.left z in (
               p.0 ∙ kept₁ c,
-              left_is w₂ g b.stop nodes count b.left count d.now (stopped b.stop) _ (d.rest ∙ q) (ended_number b.stop ne) refl
-                  (d.type, standing_kept w₁ w₂ (base + 2 * nodes) (omega arith) (p.1 ne) (stands₁ c)),
+              left_is w₂ g (Some number) nodes count b.left count d.now (stopped number) _ (d.rest ∙ q) refl refl
+                  (d.type, standing_kept w₁ w₂ (base + 2 * nodes) (omega arith) (p.1 number e) (stands₁ c)),
             ))
 
-        module _ (z : b.stop ≡ 0) where
+        module _ {after : ℕ} (z : b.nodes ≡ Ok after) where
           -- it is the last by the rule's strategy
-          calls_done : (r : Called) → again_of plan.strategy ≡ false → r ≡ record { stop = 0; nodes = b.nodes; left = b.left; replacements = count + 1 } → Answers w₂ r
-          calls_done r a e =
-              answers w₂ r e (y.few z) (λ k h _. omega (arith, fits_then z)) (omega (arith, spends, i.less)) (y.long ∙ x.long ∙ i.long)
+          calls_done : again_of plan.strategy ≡ false → Answers w₂ (record { stop = None; nodes = after; left = b.left; replacements = count + 1 })
+          calls_done a =
+              answers w₂ (y.few z) (λ k h _. omega (arith, fits_then z)) (omega (arith, spends, i.less)) (y.long ∙ x.long ∙ i.long)
               (λ g rules rule next args scope others c.
               let d = here c in
               let p = put c in
-              let t = says_ok (λ ws. Standing g w₂ base b.nodes d.type ws × (j < b.nodes)) (made c d.ps) b.left b.stop z p.2 in
-              let q = round_done g rules (calls true g rules deep) rule d.ps args d.now (2 * from) others d.most count fuel (m c) s.left (found_as c (At j) f).2 t.0 b.left (ap again_of (strategy_is c) ∙ a) t.2 in
-              (p.0 ∙ kept₁ c, left_is w₂ g 0 b.nodes (suc count) b.left (count + 1) t.0 done _ (d.rest ∙ q) refl (omega arith) (d.type, t.1.0)))
+              let t = says_ok (λ made ws. Standing g w₂ base made d.type ws × (j < made)) (made c d.ps) b.left z p.2 in
+              let q = round_done g rules (calls true g rules deep) rule d.ps args d.now (2 * from) others d.most count fuel (m c) s.left (found_as c (Ok (Some j)) f).2 t.0 b.left (ap again_of (strategy_is c) ∙ a) t.2 in
+              (p.0 ∙ kept₁ c, left_is w₂ g None after (suc count) b.left (count + 1) t.0 done _ (d.rest ∙ q) refl (omega arith) (d.type, t.1.0)))
 
           -- the search goes on
-          calling_again : again_of plan.strategy ≡ true → Calling w₂ b.nodes b.left (count + 1) (onward_of plan.strategy j (size_in (get_or w₂ (base + 2 * j) 0)))
+          calling_again : again_of plan.strategy ≡ true → Calling w₂ after b.left (count + 1) (onward_of plan.strategy j (size_in (get_or w₂ (base + 2 * j) 0)))
           calling_again a = record {
             few = y.few z;
             fits = λ k h _. omega (arith, fits_then z);
@@ -502,9 +494,9 @@ module _ (given : Given) (w₀ : Words) (at base n : ℕ) (vars : Vars) (besides
             meant = λ g rules rule next args scope others c.
                 let d = here c in
                 let p = put c in
-                let few = c.setting.tables.heads_of.types in
-                let t = says_ok (λ ws. Standing g w₂ base b.nodes d.type ws × (j < b.nodes)) (made c d.ps) b.left b.stop z p.2 in
-                let q = round_again g rules (calls true g rules deep) rule d.ps args d.now (2 * from) others d.most count fuel (m c) s.left (found_as c (At j) f).2 t.0 b.left (ap again_of (strategy_is c) ∙ a) t.2 in
+                let few = c.setting.types_of.heads_of.types in
+                let t = says_ok (λ made ws. Standing g w₂ base made d.type ws × (j < made)) (made c d.ps) b.left z p.2 in
+                let q = round_again g rules (calls true g rules deep) rule d.ps args d.now (2 * from) others d.most count fuel (m c) s.left (found_as c (Ok (Some j)) f).2 t.0 b.left (ap again_of (strategy_is c) ∙ a) t.2 in
                 let k = pred_of d.most b.left.attempts (omega (arith, spends, d.enough)) in (
                   p.0 ∙ kept₁ c,
                   λ _. record {
@@ -529,6 +521,6 @@ module _ (given : Given) (w₀ : Words) (at base n : ℕ) (vars : Vars) (besides
           spent = spends;
           counted = counts;
           stops = calls_cut;
-          last = λ r z h. calls_done z r (sym e ∙ not_true repeats h);
+          last = λ z h. calls_done z (sym e ∙ not_true repeats h);
           again = λ z h. calling_again z (sym e ∙ not_false repeats h);
         }

@@ -28,7 +28,9 @@ use Rattle.rules.specs.declared.Strategy.TheVariants.{RootOnly, FirstMatch, Exha
 use Rattle.rules.specs.declared.Plan.{Plan}
 use Rattle.meaning.specs.Limits.{most_live}
 use Rattle.meaning.specs.declared.State.{State}
-use Rattle.meaning.specs.Computation.{Result, ok, stop, stuck, Comp, then_of, spend_of, spend, choose, whether, return}
+use Rattle.std.specs.Prelude.{Ok, Err, Some, None}
+use Rattle.meaning.specs.Computation as Computation
+use Rattle.meaning.specs.Computation.{ok, stop, stuck, Comp, then_of, spend_of, spend, choose, whether, return}
 use Rattle.meaning.specs.Meaning as M
 use Rattle.meaning.specs.Meaning.{Env, Bindings, Found, calls, match}
 use Rattle.marks.specs.Marked.{marked, type_in}
@@ -42,8 +44,7 @@ use Rattle.rewrite.specs.declared.candidates.Candidate.{Candidate}
 use Rattle.rewrite.proofs.Matcher.{kept_same, kept_more, Node, node_of, two_marked}
 use Rattle.rewrite.specs.declared.Verdict.TheVariants.{Matches, Differs, Stops}
 use Rattle.calls.specs.Engine.{Open, Taking, Seeking, Room, Grown, Held, Given, Setting, Sure, TakenAs, part_on, part_read, SoughtAs, Begins, seek_from, FoundFits, Tree, Steps, Seeks}
-use Rattle.calls.specs.declared.Found as Code
-use Rattle.calls.specs.declared.Found.TheVariants.{At, Nowhere, Stopped}
+use Rattle.calls.specs.Places.{Place}
 use Rattle.rewrite.proofs.Standing.{take_less, some_nodes, standing_end}
 use Rattle.calls.proofs.Frames.{grown_matched, grown_more, held_still}
 use Rattle.calls.proofs.Going.{then_ok, then_stop, sure_first, sure_as}
@@ -200,22 +201,20 @@ module _ (given : Given) (deep : ℕ) (w₀ : Words) (fuel₀ : State) (frame₀
     env : Env
     held : Held g w frame (bindings env besides)
     ps : List Rules.Part
-    read : many count (Layout.part given.types given.book) at ≡ value ps end
+    read : many count (Layout.part given.types.count given.book) at ≡ value ps end
     is : M.parts true g rules (calls true g rules deep) ps₀ (bindings env₀ besides) fuel₀ ≡ M.parts true g rules (calls true g rules deep) ps (bindings env besides) fuel
 
   pub record Parting (w : Words) (fuel : State) (frame : Open) (at count : ℕ) : Type 0 where
     pub grown : Grown frame₀ frame
     pub less : fuel.attempts ≤ fuel₀.attempts
-    pub fewer : count ≤ count₀
     pub long : length w ≡ length w₀
     gone : (g : Grammar) (rules : Rules.Rules) (env₀ : Env) (besides : ℕ) (ps₀ : List Rules.Part) (end : ℕ) → Setting given g rules → Held g w₀ frame₀ (bindings env₀ besides)
-        → many count₀ (Layout.part given.types given.book) at₀ ≡ value ps₀ end → Sure (M.parts true g rules (calls true g rules deep) ps₀ (bindings env₀ besides) fuel₀) → Gone g rules env₀ besides ps₀ end w fuel frame at count
+        → many count₀ (Layout.part given.types.count given.book) at₀ ≡ value ps₀ end → Sure (M.parts true g rules (calls true g rules deep) ps₀ (bindings env₀ besides) fuel₀) → Gone g rules env₀ besides ps₀ end w fuel frame at count
 
   pub parting_start : Sound frame₀.vars → frame₀.live ≤ most_live → frame₀.top ≤ 2 * frame₀.live → Parting w₀ fuel₀ frame₀ at₀ count₀
   parting_start s f l = record {
     grown = record { sound = s; kept = kept_same frame₀.vars; few = f; low = l; more = omega arith; higher = omega arith };
     less = omega arith;
-    fewer = omega arith;
     long = refl;
     gone = λ g rules env₀ besides ps₀ end setting held read sure. record { kept = refl; env = env₀; held = held; ps = ps₀; read = read; is = refl };
   }
@@ -225,12 +224,11 @@ module _ (given : Given) (deep : ℕ) (w₀ : Words) (fuel₀ : State) (frame₀
   parting_on w fuel frame at count pr pos w' r steps v = record {
     grown = grown_more pr.grown steps.takes.grown;
     less = omega (arith, pr.less, steps.takes.less);
-    fewer = omega (arith, pr.fewer);
     long = steps.takes.long ∙ pr.long;
     gone = λ g rules env₀ besides ps₀ end setting held read sure.
         let a = pr.gone g rules env₀ besides ps₀ end setting held read sure in
-        let x = there given.types given.book at count end a.ps pos a.read in
-        let first = step_first given.types given.book at count end a.ps x g rules deep (bindings a.env besides) fuel in
+        let x = there given.types.count given.book at count end a.ps pos a.read in
+        let first = step_first given.types.count given.book at count end a.ps x g rules deep (bindings a.env besides) fuel in
         let s = steps.takes.meant g rules (bindings a.env besides) setting a.held (sure_first _ _ (sure_as (a.is ∙ first) sure)) in
         let y = rw v at s.1 in
         record {
@@ -238,7 +236,7 @@ module _ (given : Given) (deep : ℕ) (w₀ : Words) (fuel₀ : State) (frame₀
           env = y.0;
           held = y.1;
           ps = x.more;
-          read = ap (many (count - 1) (Layout.part given.types given.book)) (steps.next_is x.q x.next x.read) ∙ x.others;
+          read = ap (many (count - 1) (Layout.part given.types.count given.book)) (steps.next_is x.q x.next x.read) ∙ x.others;
           is = a.is ∙ first ∙ ap (λ z. then_of z (λ m. whether m (M.parts true g rules (calls true g rules deep) x.more) (return none))) y.2
               ∙ some_first (bindings y.0 besides) r.left (M.parts true g rules (calls true g rules deep) x.more);
         };
@@ -278,13 +276,13 @@ module _ (given : Given) (w₀ : Words) (plan : Plan) (base n : ℕ) (frame : Op
     pub b : Bindings
     pub scope : Words
     pub setting : Setting given g rules
-    pub planned : Planned given.types given.book rule plan
+    pub planned : Planned given.types.count given.book rule plan
     pub held : Held g w₀ frame b
     pub tree : Tree g (take frame.top w₀) base n scope
     pub begins : Begins rule n start
     pub sure : Sure (seek_from deep g rules rule scope start b left)
 
-  abbrev whole : Case → Result (Option Found)
+  abbrev whole : Case → Computation.Result (Option Found)
   whole k = seek_from deep k.g k.rules k.rule k.scope start k.b left
 
   abbrev onward : Case → Words → ℕ → Comp (Option Found)
@@ -317,7 +315,7 @@ module _ (given : Given) (w₀ : Words) (plan : Plan) (base n : ℕ) (frame : Op
 
   module _ (room : Room w₀ frame) where
     few : (k : Case) → length k.g ≤ most_types
-    few k = k.setting.tables.heads_of.types
+    few k = k.setting.types_of.heads_of.types
 
     ends : (k : Case) → base + 2 * n ≤ frame.top
     ends k = standing_end w₀ frame.top k.tree.1
@@ -389,7 +387,7 @@ module _ (given : Given) (w₀ : Words) (plan : Plan) (base n : ℕ) (frame : Op
 
     module _ (w : Words) (fuel : State) (i : ℕ) (go : Searching w fuel i) where
       -- an answer at a node
-      sought : (f : Code.Found) (fr : Open) (now : State) (at : ℕ) (w' : Words) → length w' ≡ length w₀ → Grown frame fr → FoundFits n left f now
+      sought : (f : Place) (fr : Open) (now : State) (at : ℕ) (w' : Words) → length w' ≡ length w₀ → Grown frame fr → FoundFits n left f now
           → ((k : Case) → (take frame.top w' ≡ take frame.top w₀) × SoughtAs k.g w' k.b.besides given.book k.rule f fr now at (whole k))
           → Seeks given w₀ w' plan base n frame deep left start (record { found = f; frame = fr; left = now; next = at })
       sought f fr now at w' l grown fits run = record {
@@ -400,8 +398,8 @@ module _ (given : Given) (w₀ : Words) (plan : Plan) (base n : ℕ) (frame : Op
             run (record { g = g; rules = rules; rule = rule; b = b; scope = scope; setting = setting; planned = planned; held = held; tree = tree; begins = begins; sure = sure });
       }
 
-      pub searching_none : tried_of plan.strategy n ≤ i → (fr : Open) → Grown frame fr → Seeks given w₀ w plan base n frame deep left start (record { found = Nowhere; frame = fr; left = fuel; next = 0 })
-      searching_none past fr grown = sought Nowhere fr fuel 0 w go.long grown go.less (λ k. ((go.run k).kept, ended k))
+      pub searching_none : tried_of plan.strategy n ≤ i → (fr : Open) → Grown frame fr → Seeks given w₀ w plan base n frame deep left start (record { found = Ok None; frame = fr; left = fuel; next = 0 })
+      searching_none past fr grown = sought (Ok None) fr fuel 0 w go.long grown go.less (λ k. ((go.run k).kept, ended k))
         where
           empty : (x : Words) → length x ≡ 0 → x ≡ []
           empty [] e = refl
@@ -444,8 +442,8 @@ module _ (given : Given) (w₀ : Words) (plan : Plan) (base n : ℕ) (frame : Op
               run_here k w fuel i t inside (go.run k)
               ∙ seek_this k.g k.rules deep k.rule k.b (node k).t (node k).v (node k).below (2 * i) fuel (sym (type_here k) ∙ this ∙ k.planned.target)
 
-          pub searching_spent : fuel.attempts ≡ 0 → (fr : Open) → Grown frame fr → Seeks given w₀ w plan base n frame deep left start (record { found = Stopped 40; frame = fr; left = fuel; next = 0 })
-          searching_spent z fr grown = sought (Stopped 40) fr fuel 0 w go.long grown go.less (λ k. ((go.run k).kept, stops k))
+          pub searching_spent : fuel.attempts ≡ 0 → (fr : Open) → Grown frame fr → Seeks given w₀ w plan base n frame deep left start (record { found = Err 40; frame = fr; left = fuel; next = 0 })
+          searching_spent z fr grown = sought (Err 40) fr fuel 0 w go.long grown go.less (λ k. ((go.run k).kept, stops k))
             where
               stops : (k : Case) → whole k ≡ stop 40 fuel
               stops k =
@@ -454,7 +452,7 @@ module _ (given : Given) (w₀ : Words) (plan : Plan) (base n : ℕ) (frame : Op
                   (attempt_spent k.g k.rules deep k.rule ((node k).t ∷ (node k).v ∷ (node k).below) k.b fuel z)
 
           module _ (costs : fuel.attempts ≡ 0 → ⊥) (m : Match) (arena part pairs : Words) (ea : arena ≡ take frame.top w) (ep : part ≡ take (2 * (n - i)) (drop (base + 2 * i) arena)) (es : pairs ≡ pairs_at given.book plan.pattern)
-              (answers : Answers given.heads arena part (base + 2 * i) frame.vars frame.live (λ g ws b. match true g (shapes pairs) ws b) m) where
+              (answers : Answers given.types arena part (base + 2 * i) frame.vars frame.live (λ g ws b. match true g (shapes pairs) ws b) m) where
             spends : fuel.attempts ≡ suc (fuel.attempts - 1)
             spends = pred fuel.attempts costs
               where
@@ -467,13 +465,13 @@ module _ (given : Given) (w₀ : Words) (plan : Plan) (base n : ℕ) (frame : Op
                 (next k (node k).below (2 * i))
             matching k = tries k ∙ ap (λ x. then_of x (next k (node k).below (2 * i))) (attempt_first k.g k.rules deep k.rule ((node k).t ∷ (node k).v ∷ (node k).below) k.b fuel (spent fuel) spends)
 
-            stage : (k : Case) → Stage given.heads k.g arena part (base + 2 * i) frame.vars frame.live (go.run k).rest (go.run k).scope.due k.b
+            stage : (k : Case) → Stage given.types k.g arena part (base + 2 * i) frame.vars frame.live (go.run k).rest (go.run k).scope.due k.b
             stage k =
                 let a = go.run k in
                 let e : part ≡ here i = ep ∙ ap (λ x. take (2 * (n - i)) (drop (base + 2 * i) x)) (ea ∙ a.kept) in
                 let l : length part ≡ 2 * (n - i) = ap length e ∙ here_length k i a.within in
                 record {
-                  tables = k.setting.tables.heads_of;
+                  tables = k.setting.types_of;
                   place = ep ∙ ap (λ x. take x (drop (base + 2 * i) arena)) (sym l);
                   inside = omega (arith, l, inside, ends k, ap length ea, length-take frame.top w, go.long, room.low, room.few, room.long);
                   marks = e ∙ a.scope.marks;
@@ -502,8 +500,8 @@ module _ (given : Given) (w₀ : Words) (plan : Plan) (base n : ℕ) (frame : Op
                   ∙ none_twice (spent fuel) _ (next k (node k).below (2 * i)) ∙ after_none k.g k.rules deep k.rule k.b (node k).below (2 * i) (spent fuel));
             }
 
-            pub searching_stops : {no : ℕ} → m.verdict ≡ Stops no → (fr : Open) → Grown frame fr → Seeks given w₀ w plan base n frame deep left start (record { found = Stopped no; frame = fr; left = spent fuel; next = 0 })
-            searching_stops {no} v fr grown = sought (Stopped no) fr (spent fuel) 0 w go.long grown (omega (arith, go.less)) (λ k. ((go.run k).kept, stops k))
+            pub searching_stops : {no : ℕ} → m.verdict ≡ Stops no → (fr : Open) → Grown frame fr → Seeks given w₀ w plan base n frame deep left start (record { found = Err no; frame = fr; left = spent fuel; next = 0 })
+            searching_stops {no} v fr grown = sought (Err no) fr (spent fuel) 0 w go.long grown (omega (arith, go.less)) (λ k. ((go.run k).kept, stops k))
               where
                 stops : (k : Case) → whole k ≡ stop no (spent fuel)
                 stops k =
@@ -517,7 +515,7 @@ module _ (given : Given) (w₀ : Words) (plan : Plan) (base n : ℕ) (frame : Op
               env : Env
               held : Held k.g w' fr (bindings env k.b.besides)
               ps : List Rules.Part
-              read : many count (Layout.part given.types given.book) at ≡ value ps k.planned.end
+              read : many count (Layout.part given.types.count given.book) at ≡ value ps k.planned.end
               is : whole k ≡ then_of (M.parts true k.g k.rules (calls true k.g k.rules deep) ps (bindings env k.b.besides) now) (next k (node k).below (2 * i))
 
             pub record Trying (w' : Words) (now : State) (fr : Open) (at count : ℕ) : Type 0 where
@@ -562,13 +560,13 @@ module _ (given : Given) (w₀ : Words) (plan : Plan) (base n : ℕ) (frame : Op
                 }
 
             module _ (w₁ : Words) (now : State) (fr : Open) (at count : ℕ) (tr : Trying w₁ now fr at count) where
-              pub trying_done : count ≡ 0 → Seeks given w₀ w₁ plan base n frame deep left start (record { found = At i; frame = fr; left = now; next = at })
-              trying_done z = sought (At i) fr now at w₁ tr.long tr.grown (inside, tr.less) (λ k. ((tr.try k).kept, done k))
+              pub trying_done : count ≡ 0 → Seeks given w₀ w₁ plan base n frame deep left start (record { found = Ok (Some i); frame = fr; left = now; next = at })
+              trying_done z = sought (Ok (Some i)) fr now at w₁ tr.long tr.grown (inside, tr.less) (λ k. ((tr.try k).kept, done k))
                 where
-                  done : (k : Case) → SoughtAs k.g w₁ k.b.besides given.book k.rule (At i) fr now at (whole k)
+                  done : (k : Case) → SoughtAs k.g w₁ k.b.besides given.book k.rule (Ok (Some i)) fr now at (whole k)
                   done k =
                       let a = tr.try k in
-                      let e : value [] at ≡ value a.ps k.planned.end = sym (many_none (Layout.part given.types given.book) count at (omega arith)) ∙ a.read in
+                      let e : value [] at ≡ value a.ps k.planned.end = sym (many_none (Layout.part given.types.count given.book) count at (omega arith)) ∙ a.read in
                       let all : a.ps ≡ [] = cc in
                       let ends_here : k.planned.end ≡ at = cc in (
                         a.env,
@@ -580,17 +578,17 @@ module _ (given : Given) (w₀ : Words) (plan : Plan) (base n : ℕ) (frame : Op
                       )
 
               module _ (more : 0 < count) (w₂ : Words) (r : Taking) (steps : Steps given w₁ w₂ at fr deep now r) where
-                part_there : (k : Case) → There given.types given.book at count k.planned.end (tr.try k).ps
-                part_there k = there given.types given.book at count k.planned.end (tr.try k).ps more (tr.try k).read
+                part_there : (k : Case) → There given.types.count given.book at count k.planned.end (tr.try k).ps
+                part_there k = there given.types.count given.book at count k.planned.end (tr.try k).ps more (tr.try k).read
 
                 -- the run is that part's step, and what follows it
-                stepping : (k : Case) → whole k ≡ then_of (then_of (part_read deep given.book (part_at given.types given.book at) k.g k.rules (bindings (tr.try k).env k.b.besides) now)
+                stepping : (k : Case) → whole k ≡ then_of (then_of (part_read deep given.book (part_at given.types.count given.book at) k.g k.rules (bindings (tr.try k).env k.b.besides) now)
                     (λ m. whether m (M.parts true k.g k.rules (calls true k.g k.rules deep) (part_there k).more) (return none))) (next k (node k).below (2 * i))
                 stepping k =
                     let a = tr.try k in
-                    a.is ∙ ap (λ y. then_of y (next k (node k).below (2 * i))) (step_first given.types given.book at count k.planned.end a.ps (part_there k) k.g k.rules deep (bindings a.env k.b.besides) now)
+                    a.is ∙ ap (λ y. then_of y (next k (node k).below (2 * i))) (step_first given.types.count given.book at count k.planned.end a.ps (part_there k) k.g k.rules deep (bindings a.env k.b.besides) now)
 
-                stepped : (k : Case) → (take fr.top w₂ ≡ take fr.top w₁) × TakenAs k.g w₂ k.b.besides r.verdict r.frame r.left (part_read deep given.book (part_at given.types given.book at) k.g k.rules (bindings (tr.try k).env k.b.besides) now)
+                stepped : (k : Case) → (take fr.top w₂ ≡ take fr.top w₁) × TakenAs k.g w₂ k.b.besides r.verdict r.frame r.left (part_read deep given.book (part_at given.types.count given.book at) k.g k.rules (bindings (tr.try k).env k.b.besides) now)
                 stepped k = steps.takes.meant k.g k.rules (bindings (tr.try k).env k.b.besides) k.setting (tr.try k).held
                     (λ e. k.sure (stepping k ∙ ap (λ y. then_of (then_of y (λ m. whether m (M.parts true k.g k.rules (calls true k.g k.rules deep) (part_there k).more) (return none))) (next k (node k).below (2 * i))) e ∙ stuck_twice _ _))
 
@@ -605,18 +603,18 @@ module _ (given : Given) (w₀ : Words) (plan : Plan) (base n : ℕ) (frame : Op
                   less = omega (arith, tr.less, steps.takes.less);
                   long = same_long;
                   run = λ k.
-                      let y : part_read deep given.book (part_at given.types given.book at) k.g k.rules (bindings (tr.try k).env k.b.besides) now ≡ ok none r.left = rw v at (stepped k).1 in
+                      let y : part_read deep given.book (part_at given.types.count given.book at) k.g k.rules (bindings (tr.try k).env k.b.besides) now ≡ ok none r.left = rw v at (stepped k).1 in
                       at_next k w w₂ fuel r.left i inside (go.run k) (still k)
                       (stepping k ∙ ap (λ y. then_of (then_of y (λ m. whether m (M.parts true k.g k.rules (calls true k.g k.rules deep) (part_there k).more) (return none))) (next k (node k).below (2 * i))) y
                       ∙ none_twice r.left _ (next k (node k).below (2 * i)) ∙ after_none k.g k.rules deep k.rule k.b (node k).below (2 * i) r.left);
                 }
 
-                pub trying_stops : {no : ℕ} → r.verdict ≡ Stops no → (fr : Open) → Grown frame fr → Seeks given w₀ w₂ plan base n frame deep left start (record { found = Stopped no; frame = fr; left = r.left; next = 0 })
-                trying_stops {no} v fr grown = sought (Stopped no) fr r.left 0 w₂ same_long grown (omega (arith, tr.less, steps.takes.less)) (λ k. (still k, stops k))
+                pub trying_stops : {no : ℕ} → r.verdict ≡ Stops no → (fr : Open) → Grown frame fr → Seeks given w₀ w₂ plan base n frame deep left start (record { found = Err no; frame = fr; left = r.left; next = 0 })
+                trying_stops {no} v fr grown = sought (Err no) fr r.left 0 w₂ same_long grown (omega (arith, tr.less, steps.takes.less)) (λ k. (still k, stops k))
                   where
                     stops : (k : Case) → whole k ≡ stop no r.left
                     stops k =
-                        let y : part_read deep given.book (part_at given.types given.book at) k.g k.rules (bindings (tr.try k).env k.b.besides) now ≡ stop no r.left = rw v at (stepped k).1 in
+                        let y : part_read deep given.book (part_at given.types.count given.book at) k.g k.rules (bindings (tr.try k).env k.b.besides) now ≡ stop no r.left = rw v at (stepped k).1 in
                         stepping k ∙ ap (λ y. then_of (then_of y (λ m. whether m (M.parts true k.g k.rules (calls true k.g k.rules deep) (part_there k).more) (return none))) (next k (node k).below (2 * i))) y
                         ∙ stop_twice no r.left _ _
 
@@ -638,7 +636,7 @@ module _ (given : Given) (w₀ : Words) (plan : Plan) (base n : ℕ) (frame : Op
       passed_clash k now at_k l this clashes =
           let z : i + suc k ≡ i + k + 1 = omega arith in
           let y : suc now.attempts - 1 ≡ now.attempts = omega arith in
-          let c = clashes.clash given.heads (take frame.top w) (base + 2 * (i + k)) frame.vars room.sound in
+          let c = clashes.clash given.types (take frame.top w) (base + 2 * (i + k)) frame.vars room.sound in
           let s : Searching w (spent (unspent now)) (i + k + 1) =
           searching_differs w (unspent now) (i + k) at_k l this (λ e. omega arith) c.0 (take frame.top w) (span w (base + 2 * (i + k)) (base + 2 * n)) pairs refl (stretch (i + k) (omega (arith, tried_few plan.strategy n))) es (c.2 true) c.1 in
           rw (z, ← y) s

@@ -15,7 +15,9 @@ use Rattle.rules.specs.Rules.{Rule, Operation, Edit, rule, operation, editing, n
 use Rattle.rules.specs.Layout as Layout
 use Rattle.meaning.specs.Limits.{most_live}
 use Rattle.meaning.specs.declared.State.{State}
-use Rattle.meaning.specs.Computation.{Result, ok, stop, stuck, Comp, then_of, check, present, choose, whether, provided, return, live_within}
+use Rattle.std.specs.Prelude.{Ok, Err, Some, None}
+use Rattle.meaning.specs.Computation as Computation
+use Rattle.meaning.specs.Computation.{ok, stop, stuck, Comp, then_of, check, present, choose, whether, provided, return, live_within}
 use Rattle.meaning.specs.Operations.{compare, value_of, values_of, is_number_token, are_number_tokens}
 use Rattle.meaning.specs.Meaning as M
 use Rattle.meaning.specs.Meaning.{Env, Bindings, live, start, begin, variables, calls}
@@ -27,10 +29,9 @@ use Rattle.rewrite.specs.declared.Verdict.{Verdict}
 use Rattle.rewrite.specs.declared.Verdict.TheVariants.{Matches, Differs, Stops}
 use Rattle.rewrite.specs.Arena.{Arguments, NodesAt, Gathered, Standing}
 use Rattle.rules.specs.Views.{pairs_at, Planned, chain_count}
-use Rattle.calls.specs.Engine.{Open, Taking, Seeking, turned_by, Room, Sure, TakenAs, TestedAs, SoughtAs, FoundFits, Tree, Held, Given, Setting, part_on, Conditions, Seeks, CallMatches, succeeds_at, chain_at, Succeeds, AnySucceeds}
+use Rattle.calls.specs.Engine.{Open, Taking, Seeking, turned_by, found_verdict, Room, Sure, TakenAs, TestedAs, SoughtAs, FoundFits, Tree, Held, Given, Setting, part_on, Conditions, Seeks, CallMatches, succeeds_at, chain_at, Succeeds, AnySucceeds}
 use Rattle.rules.specs.declared.Plan.{Plan}
-use Rattle.calls.specs.declared.Found as Code
-use Rattle.calls.specs.declared.Found.TheVariants.{At, Nowhere, Stopped}
+use Rattle.calls.specs.Places.{Place}
 use Rattle.calls.specs.declared.Tested.{Tested}
 use Rattle.rewrite.proofs.Standing.{standing_stands, standing_whole, stands_standing}
 use Rattle.calls.proofs.Frames.{grown_same, held_kept}
@@ -43,29 +44,24 @@ use Rattle.judgement.proofs.Chains.{arguments_length}
 
 -- A CALL IN A CONDITION
 
-abbrev pub found_verdict : Code.Found → Verdict
-found_verdict (At i) = Matches
-found_verdict Nowhere = Differs
-found_verdict (Stopped n) = Stops n
-
-found_less : (n : ℕ) (left : State) (f : Code.Found) (now : State) → FoundFits n left f now → now.attempts ≤ left.attempts
-found_less n left (At i) now h = omega (arith, h.1)
-found_less n left Nowhere now h = h
-found_less n left (Stopped k) now h = h
+found_less : (n : ℕ) (left : State) (f : Place) (now : State) → FoundFits n left f now → now.attempts ≤ left.attempts
+found_less n left (Ok (Some i)) now h = omega (arith, h.1)
+found_less n left (Ok None) now h = h
+found_less n left (Err k) now h = h
 
 -- whether there is a match
 abbrev is_match : Option M.Found → Comp Bool
 is_match m = whether m (λ f. return true) (return false)
 
-found_tested : (g : Grammar) (w' : Words) (besides : ℕ) (book : Words) (r : Rule) (f : Code.Found) (frame : Open) (left : State) (next : ℕ) (m : Result (Option M.Found))
+found_tested : (g : Grammar) (w' : Words) (besides : ℕ) (book : Words) (r : Rule) (f : Place) (frame : Open) (left : State) (next : ℕ) (m : Computation.Result (Option M.Found))
     → SoughtAs g w' besides book r f frame left next m → TestedAs (found_verdict f) left (then_of m is_match)
 unfolding then_of whether
-found_tested g w' besides book r (At i) frame left next m s = rw s.2
-found_tested g w' besides book r Nowhere frame left next m s = rw s
-found_tested g w' besides book r (Stopped n) frame left next m s = rw s
+found_tested g w' besides book r (Ok (Some i)) frame left next m s = rw s.2
+found_tested g w' besides book r (Ok None) frame left next m s = rw s
+found_tested g w' besides book r (Err n) frame left next m s = rw s
 
 -- the same verdict of the same computation
-tested_as : {v v' : Verdict} (left : State) {m m' : Result Bool} → v ≡ v' → m' ≡ m → TestedAs v left m → TestedAs v' left m'
+tested_as : {v v' : Verdict} (left : State) {m m' : Computation.Result Bool} → v ≡ v' → m' ≡ m → TestedAs v left m → TestedAs v' left m'
 tested_as left ev e t = rw (← ev, e) t
 
 -- what a call in a condition does: the limit is tested, then its rule sought
@@ -95,7 +91,7 @@ module _ (given : Given) (w : Words) (at base n : ℕ) (frame : Open) (deep : �
   )
 
   pub matches_found : frame.live + n ≤ most_live → (w' : Words) (plan : Plan) (s : Seeking)
-      → ((rule : Rule) (next : ℕ) → Layout.rule given.types given.book at ≡ value rule next → Planned given.types given.book rule plan)
+      → ((rule : Rule) (next : ℕ) → Layout.rule given.types.count given.book at ≡ value rule next → Planned given.types.count given.book rule plan)
       → Seeks given w w' plan base n (record { vars = frame.vars; live = frame.live + n; top = frame.top }) deep left 0 s
       → (v : Verdict) → found_verdict s.found ≡ v → CallMatches given w w' at base n frame deep left (record { verdict = v; left = s.left })
   matches_found h w' plan s planned sk v ev = (
@@ -118,7 +114,7 @@ abbrev pub test_verdict : Bool → Verdict
 test_verdict true = Matches
 test_verdict false = Differs
 
-tested_bool : (t : Bool) (left : State) (m : Result Bool) → m ≡ ok t left → TestedAs (test_verdict t) left m
+tested_bool : (t : Bool) (left : State) (m : Computation.Result Bool) → m ≡ ok t left → TestedAs (test_verdict t) left m
 tested_bool true left m e = e
 tested_bool false left m e = e
 
@@ -158,7 +154,7 @@ module _ (given : Given) (w pairs : Words) (at base n : ℕ) (frame : Open) (dee
   abbrev Succeeding : Words → Tested → Type 0
   Succeeding w' r = Succeeds given w w' pairs at base n frame deep left r
 
-  abbrev Run : Grammar → Rules.Rules → Words → Bindings → Result Bool
+  abbrev Run : Grammar → Rules.Rules → Words → Bindings → Computation.Result Bool
   Run g rules scope b = succeeds_at deep pairs at g rules scope b left
 
   abbrev names : List ℕ
@@ -192,12 +188,12 @@ module _ (given : Given) (w pairs : Words) (at base n : ℕ) (frame : Open) (dee
             let p = st.placed (get_or pairs at 0) q.rule q.there in
             let run = q.same ∙ matches_call g rules q.rule q.args scope (live b) left deep d in
             let s' = sure_as run s in
-            let f = rule_few given.types given.book (get_or given.starts (get_or pairs at 0) 0) q.rule p.1.0 p.1.1 in
-            let here = ga.stands g frame.top b.env q.args left st.tables.heads_of.types held.stands
+            let f = rule_few given.types.count given.book (get_or given.starts (get_or pairs at 0) 0) q.rule p.1.0 p.1.1 in
+            let here = ga.stands g frame.top b.env q.args left st.types_of.heads_of.types held.stands
             (omega (arith, f, matches_begins g rules q.rule q.args scope (live b) left (calls true g rules (deep - 1)) s', q.many, arguments_length (get_or pairs (at + 1) 0) (drop (at + 2) pairs)))
             (subst (λ j. variables b.env (arguments j (drop (at + 2) pairs)) left ≡ ok q.args left) (sym ek) q.read) in
             let there : place ≡ get_or given.starts (get_or pairs at 0) 0 = es (omega (arith, p.0)) ∙ ap (λ j. get_or given.starts j 0) ea in
-            let z = (cm.1 q.rule p.1.0 (ap (Layout.rule given.types given.book) there ∙ p.1.1)).meant g rules scope (bindings q.args (live b)) st
+            let z = (cm.1 q.rule p.1.0 (ap (Layout.rule given.types.count given.book) there ∙ p.1.1)).meant g rules scope (bindings q.args (live b)) st
             (record { stands = here.0; counted = omega (arith, here.1, held.counted) }) tree s' in
             (z.0, tested_as {v = r.verdict} r.left refl run z.1);
       }
@@ -233,13 +229,13 @@ Ended (Stops n) = Unit {0}
 abbrev or_else : Comp Bool → Bool → Comp Bool
 or_else rest found = choose found (return true) rest
 
-ended : (v : Verdict) → Ended v → (left : State) (m : Result Bool) (rest : Comp Bool) → TestedAs v left m → TestedAs v left (then_of m (or_else rest))
+ended : (v : Verdict) → Ended v → (left : State) (m : Computation.Result Bool) (rest : Comp Bool) → TestedAs v left m → TestedAs v left (then_of m (or_else rest))
 unfolding then_of choose
 ended Matches h left m rest t = rw t
 ended Differs h left m rest t = absurd h
 ended (Stops n) h left m rest t = rw t
 
-goes_on_lem : (v : Verdict) → v ≡ Differs → (left : State) (m : Result Bool) (rest : Comp Bool) → TestedAs v left m → then_of m (or_else rest) ≡ rest left
+goes_on_lem : (v : Verdict) → v ≡ Differs → (left : State) (m : Computation.Result Bool) (rest : Comp Bool) → TestedAs v left m → then_of m (or_else rest) ≡ rest left
 unfolding then_of choose
 goes_on_lem Matches e left m rest t = let z : ◌≡◌ {A = ℕ} 0 1 = cc in absurd (omega arith)
 goes_on_lem Differs e left m rest t = rw t
@@ -258,7 +254,7 @@ unfolding M.any_succeeds applications
 any_end g rules deeper ws k env scope besides l e = rw e
 
 module _ (given : Given) (w₀ pairs : Words) (base n : ℕ) (frame : Open) (deep : ℕ) (left : State) where
-  abbrev Whole : Grammar → Rules.Rules → Words → Bindings → Result Bool
+  abbrev Whole : Grammar → Rules.Rules → Words → Bindings → Computation.Result Bool
   Whole g rules scope b = M.any_succeeds true g rules (calls true g rules deep) (chain_at pairs 2) b.env scope (live b) left
 
   -- with k applications left, the next at `at`
@@ -301,16 +297,17 @@ module _ (given : Given) (w₀ pairs : Words) (base n : ℕ) (frame : Open) (dee
             (q.0, tested_as {v = r.verdict} r.left refl q.2 (ended r.verdict over r.left (succeeds_at deep pairs at g rules scope b fuel) _ q.1));
       }
 
-      pub trying_more : r.verdict ≡ Differs → (x : ℕ) → x ≡ get_or pairs (at + 1) 0 → x < 2 ^ 32 → Trying w' (k - 1) (at + 2 + 2 * x) r.left
+      pub trying_more : r.verdict ≡ Differs → (x : ℕ) → x ≡ get_or pairs (at + 1) 0 → x < 2 ^ 32 → Trying w' (k - 1) (at + (2 + 2 * x)) r.left
       trying_more d x ex small = record {
         less = omega (arith, done.less, i.less);
         long = done.long ∙ i.long;
         near = omega (arith, i.near);
         gone = λ g rules scope b st held tree s.
-            let q = one g rules scope b st held tree s in (
+            let q = one g rules scope b st held tree s in
+            let next : at + 2 + 2 * get_or pairs (at + 1) 0 ≡ at + (2 + 2 * x) = omega (arith, ex) in (
               q.0,
               q.2 ∙ goes_on_lem r.verdict d r.left (succeeds_at deep pairs at g rules scope b fuel) _ q.1
-                  ∙ ap (λ j. M.any_succeeds true g rules (calls true g rules deep) (applications (k - 1) (drop (at + 2 + 2 * j) pairs)) b.env scope (live b) r.left) (sym ex),
+                  ∙ ap (λ j. M.any_succeeds true g rules (calls true g rules deep) (applications (k - 1) (drop j pairs)) b.env scope (live b) r.left) next,
             );
       }
 
@@ -329,7 +326,7 @@ module _ (given : Given) (w₀ pairs : Words) (base n : ℕ) (frame : Open) (dee
 abbrev holding : Bool → Bindings → Bool → Comp (Option Bindings)
 holding negated b found = provided (pick negated (not found) found) (return (some b))
 
-turned_taken : (negated : Bool) (v : Verdict) (g : Grammar) (w : Words) (frame : Open) (b : Bindings) (left : State) (m : Result Bool) → Held g w frame b → TestedAs v left m
+turned_taken : (negated : Bool) (v : Verdict) (g : Grammar) (w : Words) (frame : Open) (b : Bindings) (left : State) (m : Computation.Result Bool) → Held g w frame b → TestedAs v left m
     → TakenAs g w b.besides (turned_by negated v) frame left (then_of m (holding negated b))
 unfolding then_of choose
 turned_taken true Matches g w frame b left m h t = rw t
@@ -338,7 +335,7 @@ turned_taken true Differs g w frame b left m h t = (b.env, h, rw t)
 turned_taken false Differs g w frame b left m h t = rw t
 turned_taken negated (Stops n) g w frame b left m h t = rw t
 
-taken_as : (g : Grammar) (w : Words) (besides : ℕ) (v : Verdict) (frame : Open) (left : State) (m m' : Result (Option Bindings)) → m' ≡ m → TakenAs g w besides v frame left m → TakenAs g w besides v frame left m'
+taken_as : (g : Grammar) (w : Words) (besides : ℕ) (v : Verdict) (frame : Open) (left : State) (m m' : Computation.Result (Option Bindings)) → m' ≡ m → TakenAs g w besides v frame left m → TakenAs g w besides v frame left m'
 taken_as g w besides v frame left m m' e t = rw e t
 
 module _ (g : Grammar) (rules : Rules.Rules) (deeper : M.Calls) where
@@ -355,7 +352,7 @@ module _ (g : Grammar) (rules : Rules.Rules) (deeper : M.Calls) where
   condition_steps negated x apps b l s = variable_sure b.env x l _ s
 
 module _ (given : Given) (w : Words) (negated : Bool) (at next : ℕ) (frame : Open) (deep : ℕ) (left : State) (room : Room w frame) where
-  abbrev Part : Grammar → Rules.Rules → Bindings → Result (Option Bindings)
+  abbrev Part : Grammar → Rules.Rules → Bindings → Computation.Result (Option Bindings)
   Part g rules b = part_on deep (Rules.condition negated (get_or (pairs_at given.book at) 1 0) (condition_of (pairs_at given.book at))) g rules b left
 
   -- the variable's tree has n nodes and stands at the place
@@ -374,7 +371,7 @@ module _ (given : Given) (w : Words) (negated : Bool) (at next : ℕ) (frame : O
         let here : Stands g (take frame.top w) place q.0 =
         subst (λ p. Stands g (take frame.top w) p q.0) (ap (start_at frame.vars) ey ∙ sym ep)
         (variable_stands g (take frame.top w) frame.vars b.env (get_or (pairs_at given.book at) 1 0) q.0 room.sound held.stands q.1) in
-        let nodes : n ≡ size q.0 = na.stands g q.0 st.tables.heads_of.types here in
+        let nodes : n ≡ size q.0 = na.stands g q.0 st.types_of.heads_of.types here in
         record {
           tree = q.0;
           stands = (here.type, subst (λ m. Standing g (take frame.top w) place m here.type q.0) (sym nodes) (stands_standing (take frame.top w) here));
@@ -383,9 +380,8 @@ module _ (given : Given) (w : Words) (negated : Bool) (at next : ℕ) (frame : O
         }
 
     -- too many nodes would be live
-    pub condition_over : most_live < frame.live + n → (r : Taking) → r ≡ record { verdict = Stops 44; frame = frame; left = left; next = next }
-        → Conditions given w w negated at next frame deep left r
-    condition_over h r e = rw e (record {
+    pub condition_over : most_live < frame.live + n → {number : ℕ} → number ≡ 44 → Conditions given w w negated at next frame deep left (record { verdict = Stops number; frame = frame; left = left; next = next })
+    condition_over h e = rw e (record {
       next_is = refl;
       takes = record {
         grown = grown_same room;
@@ -407,7 +403,7 @@ module _ (given : Given) (w : Words) (negated : Bool) (at next : ℕ) (frame : O
         long = ts.long;
         meant = λ g rules b st held s.
             let q = located g rules b st held s in
-            let any : List Application → Result Bool = λ apps. M.any_succeeds true g rules (calls true g rules deep) apps b.env q.tree (live b) left in
+            let any : List Application → Computation.Result Bool = λ apps. M.any_succeeds true g rules (calls true g rules deep) apps b.env q.tree (live b) left in
             let e₁ = q.same ∙ live_fits (live b + size q.tree) left _ (omega (arith, h, q.count)) in
             let s₁ : Sure (any (condition_of ps)) = sure_first (any (condition_of ps)) (holding negated b) (sure_as e₁ s) in
             let read = condition_read ps (λ u. s₁ (ap any u ∙ any_unreadable g rules (calls true g rules deep) b.env q.tree (live b) left)) in

@@ -4,16 +4,17 @@
 // as it is, and so do the places of the variables that are bound: each call has one array of them, lent to all that it calls on its own level.
 #![tactic(auto)]
 
-ghost use Rattle.std.specs.Prelude.{◌≡◌, ◌+◌, ◌*◌, ◌<◌, ◌≤◌, ◌^◌, length};
+ghost use Rattle.std.specs.Prelude.{◌≡◌, ◌+◌, ◌*◌, ◌<◌, ◌≤◌, ◌^◌, length, Ok};
+ghost use Rattle.std.specs.Result.{result_and};
 ghost use Rattle.rewrite.specs.Vars.{vars_of, Sound};
-ghost use Rattle.calls.specs.Engine.{turned_by, open_of, taking_in, seeking_in, Named, Room, given_of, Deconstructs, Constructs, Conditions, Steps, Seeks, CallMatches, Succeeds, AnySucceeds, EditsAt, Applies, Chains, FillsChain, Fills, Finishes, Replaces, Calls};
+ghost use Rattle.calls.specs.Engine.{turned_by, open_of, taking_in, seeking_in, Named, Room, given_of, scope_of, found_verdict, Deconstructs, Constructs, Conditions, Steps, Seeks, CallMatches, Succeeds, AnySucceeds, EditsAt, Applies, Chains, FillsChain, Fills, Finishes, Replaces, Calls};
 
-use meaning::State;
-use rewrite::arena::{Frame, Placed};
+use meaning::{Halt, State, Stop};
+use rewrite::arena::Frame;
 use rewrite::{MOST_LIVE, Matched, Verdict, arena, candidates};
-use rules::limits::{FIRST_OPERATION, JOIN, MARK_CHAIN, MARK_VARIABLE, MOST_VARIABLES, STARTS};
-use rules::{Condition, Construct, Deconstruct, Part, Plan, Strategy};
-use tables::{HEADS, ROWS};
+use rules::limits::{FIRST_OPERATION, JOIN, MARK_CHAIN, MARK_VARIABLE, MOST_VARIABLES};
+use rules::{Condition, Deconstruct, Part, Plan, Program};
+use tables::Types;
 
 // What a part's step found, what is open then, the state that is left, and where the next part stands.
 #[derive(Clone, Copy)]
@@ -24,18 +25,11 @@ pub struct Taken {
     pub next: usize,
 }
 
-// Where a search ended: at a node, by its number in the scope; nowhere; or by a stop.
-#[derive(Clone, Copy)]
-pub enum Found {
-    At(usize),
-    Nowhere,
-    Stopped(u32),
-}
-
-// What a search found, what is open then, the state that is left, and where the rule's replacement stands.
+// Where a search ended, at a node by its number in the scope, nowhere, or by a stop; what is open then, the state that is left, and where the rule's replacement
+// stands.
 #[derive(Clone, Copy)]
 pub struct Sought {
-    pub found: Found,
+    pub found: Result<Option<usize>, Halt>,
     pub frame: Frame,
     pub left: State,
     pub next: usize,
@@ -48,11 +42,10 @@ pub struct Tested {
     pub left: State,
 }
 
-// A tree that was built: 0 or the number of the stop, its nodes, the state that is left.
+// How many nodes the tree has that was built, or the stop; and the state that is left.
 #[derive(Clone, Copy)]
 pub struct Built {
-    pub stop: u32,
-    pub nodes: usize,
+    pub nodes: Result<usize, Halt>,
     pub left: State,
 }
 
@@ -63,44 +56,25 @@ pub struct Chained {
     pub next: usize,
 }
 
-// What a call left: 0 or the number of the stop, the nodes of its scope, the state that is left, and its replacements.
+// What a call left: the stop, if it was stopped; the nodes of its scope, the state that is left, and its replacements.
 #[derive(Clone, Copy)]
 pub struct Called {
-    pub stop: u32,
+    pub stop: Option<Halt>,
     pub nodes: usize,
     pub left: State,
     pub replacements: u32,
 }
 
-// A part's answer, by its parts.
-fn taking(verdict: Verdict, frame: Frame, left: State, next: usize) -> Taken
-    ensures { result ≡ record { verdict = verdict; frame = frame; left = left; next = next } }
-{
-    Taken {
-        verdict,
-        frame,
-        left,
-        next,
+impl Called {
+    // The nodes of its scope, unless it was stopped.
+    fn scope(&self) -> Result<usize, Halt>
+        ensures { result ≡ scope_of self.now }
+    {
+        match self.stop {
+            None => Ok(self.nodes),
+            Some(halt) => Err(halt),
+        }
     }
-}
-
-// A search's answer, by its parts.
-fn seeking(found: Found, frame: Frame, left: State, next: usize) -> Sought
-    ensures { result ≡ record { found = found; frame = frame; left = left; next = next } }
-{
-    Sought {
-        found,
-        frame,
-        left,
-        next,
-    }
-}
-
-// What was built, by its parts.
-fn building(stop: u32, nodes: usize, left: State) -> Built
-    ensures { result ≡ record { stop = stop; nodes = nodes; left = left } }
-{
-    Built { stop, nodes, left }
 }
 
 // The other verdict, if the condition holds where none succeeds.
@@ -108,21 +82,20 @@ fn turned(verdict: Verdict, negated: bool) -> Verdict
     ensures { result ≡ turned_by negated verdict }
 {
     match verdict {
-        Verdict::Stops(n) => Verdict::Stops(n),
-        Verdict::Matches => {
-            if negated {
-                Verdict::Differs
-            } else {
-                Verdict::Matches
-            }
-        }
-        Verdict::Differs => {
-            if negated {
-                Verdict::Matches
-            } else {
-                Verdict::Differs
-            }
-        }
+        Verdict::Matches if negated => Verdict::Differs,
+        Verdict::Differs if negated => Verdict::Matches,
+        _ => verdict,
+    }
+}
+
+// What a search comes to, as a condition's verdict.
+fn verdict_of(found: Result<Option<usize>, Halt>) -> Verdict
+    ensures { result ≡ found_verdict found }
+{
+    match found {
+        Ok(Some(_)) => Verdict::Matches,
+        Ok(None) => Verdict::Differs,
+        Err(halt) => Verdict::Stops(halt),
     }
 }
 
@@ -130,24 +103,28 @@ fn turned(verdict: Verdict, negated: bool) -> Verdict
 fn after_match(m: Matched, top: usize) -> Frame
     ensures { result ≡ record { bound = m.bound; live = m.live; top = top } }
 {
-    let bound = m.bound;
-    let live = m.live;
-    Frame { bound, live, top }
+    Frame {
+        bound: m.bound,
+        live: m.live,
+        top,
+    }
 }
 
 // What a match found, as a part's step.
 fn match_taken(m: Matched, top: usize, left: State, next: usize) -> Taken
     ensures { result ≡ record { verdict = m.verdict; frame = record { bound = m.bound; live = m.live; top = top }; left = left; next = next } }
 {
-    let verdict = m.verdict;
-    let frame = after_match(m, top);
-    taking(verdict, frame, left, next)
+    Taken {
+        verdict: m.verdict,
+        frame: after_match(m, top),
+        left,
+        next,
+    }
 }
 
 // A part that takes a variable apart.
 fn deconstruct(
-    heads: &[u32; HEADS],
-    book: &[u32],
+    program: &Program,
     w: &[u32],
     d: Deconstruct,
     next: usize,
@@ -156,8 +133,10 @@ fn deconstruct(
     left: State,
 ) -> Taken
     requires { Room w.now (open_of places.old frame) }
-    ensures { Deconstructs heads.now book.now w.now d next (open_of places.old frame) left (taking_in places.new result) }
+    ensures { Deconstructs (given_of program.now) w.now d next (open_of places.old frame) left (taking_in places.new result) }
 {
+    let types = program.types;
+    let book = program.book;
     let pairs = rules::pairs_of(book, d.pattern);
     let bound = frame.bound;
     let live = frame.live;
@@ -165,34 +144,21 @@ fn deconstruct(
     let start = rewrite::start_in(places, bound, words::word(book, d.variable));
     let n = arena::nodes_at(w, start, top);
     if n == 0 {
-        return taking(Verdict::Differs, frame, left, next);
+        return Taken {
+            verdict: Verdict::Differs,
+            frame,
+            left,
+            next,
+        };
     }
-    let end = start + 2 * n;
     let arena = &w[..top];
-    if d.searches {
-        let m = rewrite::match_first(
-            d.searched,
-            pairs,
-            arena,
-            &arena[start..end],
-            start,
-            places,
-            bound,
-            live,
-            heads,
-        );
-        return match_taken(m, top, left, next);
-    }
-    let m = rewrite::match_pattern(
-        pairs,
-        arena,
-        &arena[start..end],
-        start,
-        places,
-        bound,
-        live,
-        heads,
-    );
+    let part = &arena[start..start + 2 * n];
+    let m = match d.searched {
+        Some(ty) => {
+            rewrite::match_first(ty, pairs, arena, part, start, places, bound, live, types)
+        }
+        None => rewrite::match_pattern(pairs, arena, part, start, places, bound, live, types),
+    };
     match_taken(m, top, left, next)
 }
 
@@ -208,16 +174,12 @@ fn bind(places: &mut [u32; MOST_VARIABLES], n: usize, start: usize) -> usize
     n
 }
 
-// What is open when the tree of n nodes on top is a variable, with so many bound.
-fn constructed(frame: Frame, bound: usize, n: usize) -> Frame
-    requires { (frame.live + n ≤ 6144) × (frame.top ≤ 2 * frame.live) }
-    ensures { result ≡ record { bound = bound; live = frame.live + n; top = frame.top + 2 * n } }
+// So many nodes, unless there is a stop.
+fn with_nodes(checked: Result<(), Halt>, nodes: usize) -> Result<usize, Halt>
+    ensures { result ≡ result_and checked (Ok nodes) }
 {
-    Frame {
-        bound,
-        live: frame.live + n,
-        top: frame.top + 2 * n,
-    }
+    checked?;
+    Ok(nodes)
 }
 
 // THE CYCLE
@@ -225,11 +187,7 @@ fn constructed(frame: Frame, bound: usize, n: usize) -> Frame
 // A part that builds a tree.
 #[cycle(engine)]
 fn construct(
-    heads: &[u32; HEADS],
-    rows: &[u8; ROWS],
-    types: u32,
-    book: &[u32],
-    starts: &[usize; STARTS],
+    program: &Program,
     w: &mut [u32],
     at: usize,
     next: usize,
@@ -238,29 +196,38 @@ fn construct(
     deep: usize,
     left: State,
 ) -> Taken
-    requires { Room w.old (open_of places.old frame) × (1 ≤ types) }
-    ensures { Constructs (given_of heads.now rows.now types book.now starts.now) w.old w.new at next (open_of places.old frame) deep left (taking_in places.new result) }
+    requires { Room w.old (open_of places.old frame) }
+    ensures { Constructs (given_of program.now) w.old w.new at next (open_of places.old frame) deep left (taking_in places.new result) }
 {
-    let b = finish(
-        heads, rows, types, book, starts, w, at, places, frame, deep, left,
-    );
-    let stop = b.stop;
-    if stop != 0 {
-        return taking(Verdict::Stops(stop), frame, b.left, next);
+    let b = finish(program, w, at, places, frame, deep, left);
+    match b.nodes {
+        Err(halt) => Taken {
+            verdict: Verdict::Stops(halt),
+            frame,
+            left: b.left,
+            next,
+        },
+        Ok(nodes) => {
+            let bound = bind(places, frame.bound, frame.top);
+            let more = Frame {
+                bound,
+                live: frame.live + nodes,
+                top: frame.top + 2 * nodes,
+            };
+            Taken {
+                verdict: Verdict::Matches,
+                frame: more,
+                left: b.left,
+                next,
+            }
+        }
     }
-    let bound = bind(places, frame.bound, frame.top);
-    let more = constructed(frame, bound, b.nodes);
-    taking(Verdict::Matches, more, b.left, next)
 }
 
 // A part that tests.
 #[cycle(engine)]
 fn condition(
-    heads: &[u32; HEADS],
-    rows: &[u8; ROWS],
-    types: u32,
-    book: &[u32],
-    starts: &[usize; STARTS],
+    program: &Program,
     w: &mut [u32],
     c: Condition,
     next: usize,
@@ -269,31 +236,34 @@ fn condition(
     deep: usize,
     left: State,
 ) -> Taken
-    requires { Room w.old (open_of places.now frame) × (1 ≤ types) }
-    ensures { Conditions (given_of heads.now rows.now types book.now starts.now) w.old w.new c.negated c.chain next (open_of places.now frame) deep left (taking_in places.now result) }
+    requires { Room w.old (open_of places.now frame) }
+    ensures { Conditions (given_of program.now) w.old w.new c.negated c.chain next (open_of places.now frame) deep left (taking_in places.now result) }
 {
+    let book = program.book;
     let pairs = rules::pairs_of(book, c.chain);
     let start = rewrite::start_in(places, frame.bound, words::word(pairs, 1));
     let n = arena::nodes_at(w, start, frame.top);
     if MOST_LIVE < frame.live + n {
-        return taking(Verdict::Stops(44), frame, left, next);
+        return Taken {
+            verdict: Verdict::Stops(Halt::new(Stop::TooManyLiveNodes)),
+            frame,
+            left,
+            next,
+        };
     }
-    let t = any_succeeds(
-        heads, rows, types, book, starts, w, pairs, start, n, places, frame, deep, left,
-    );
-    let verdict = t.verdict;
-    let v = turned(verdict, c.negated);
-    taking(v, frame, t.left, next)
+    let t = any_succeeds(program, w, pairs, start, n, places, frame, deep, left);
+    Taken {
+        verdict: turned(t.verdict, c.negated),
+        frame,
+        left: t.left,
+        next,
+    }
 }
 
 // The part whose map stands at a position.
 #[cycle(engine)]
 fn step(
-    heads: &[u32; HEADS],
-    rows: &[u8; ROWS],
-    types: u32,
-    book: &[u32],
-    starts: &[usize; STARTS],
+    program: &Program,
     w: &mut [u32],
     at: usize,
     places: &mut [u32; MOST_VARIABLES],
@@ -301,45 +271,25 @@ fn step(
     deep: usize,
     left: State,
 ) -> Taken
-    requires { Room w.old (open_of places.old frame) × (1 ≤ types) }
-    ensures { Steps (given_of heads.now rows.now types book.now starts.now) w.old w.new at (open_of places.old frame) deep left (taking_in places.new result) }
+    requires { Room w.old (open_of places.old frame) }
+    ensures { Steps (given_of program.now) w.old w.new at (open_of places.old frame) deep left (taking_in places.new result) }
 {
+    let book = program.book;
     let f = rules::part_of(book, at);
-    let part = f.part;
     let next = f.next;
-    match part {
-        Part::Deconstruct(d) => deconstruct(heads, book, w, d, next, places, frame, left),
-        Part::Construct(c) => construct(
-            heads,
-            rows,
-            types,
-            book,
-            starts,
-            w,
-            c.replacement,
-            next,
-            places,
-            frame,
-            deep,
-            left,
-        ),
-        Part::Condition(c) => {
-            condition(
-                heads, rows, types, book, starts, w, c, next, places, frame, deep, left,
-            )
-        }
+    match f.part {
+        Part::Deconstruct(d) => deconstruct(program, w, d, next, places, frame, left),
+        Part::Construct(c) => construct(program, w, c.replacement, next, places, frame, deep, left),
+        Part::Condition(c) => { condition(program, w, c, next, places, frame, deep, left) }
     }
 }
 
 // The first node of the scope, n nodes from base on, at which an attempt matches, sought from the node `from` on. Document 01's nested loops over nodes and
 // parts: left by a label at the first match, yielding its position by `break`.
 #[cycle(engine)]
+#[tactic(auto, using(crate::proofs::Searching::tried_inside))]
 fn seek(
-    heads: &[u32; HEADS],
-    rows: &[u8; ROWS],
-    types: u32,
-    book: &[u32],
-    starts: &[usize; STARTS],
+    program: &Program,
     w: &mut [u32],
     plan: Plan,
     base: usize,
@@ -350,19 +300,26 @@ fn seek(
     left: State,
     from: usize,
 ) -> Sought
-    requires { Room w.old (open_of places.old frame) × (1 ≤ types) × (plan.count ≤ 8) × (base < 2 ^ 32) × (n ≤ 2048) × (0 < n → base + 2 * n ≤ frame.top) }
-    ensures { Seeks (given_of heads.now rows.now types book.now starts.now) w.old w.new plan base n (open_of places.old frame) deep left from (seeking_in places.new result) }
+    requires { Room w.old (open_of places.old frame) × (plan.count ≤ 8) × (base < 2 ^ 32) × (n ≤ 2048) × (0 < n → base + 2 * n ≤ frame.top) }
+    ensures { Seeks (given_of program.now) w.old w.new plan base n (open_of places.old frame) deep left from (seeking_in places.new result) }
 {
+    let types = program.types;
+    let book = program.book;
     let pairs = rules::pairs_of(book, plan.pattern);
-    let strategy = plan.strategy;
-    let last = rules::tried(strategy, n);
+    let last = plan.strategy.tried(n);
     let end = base + 2 * n;
     let first = candidates::first_of(pairs, plan.target);
     let mut fuel = left;
     let mut i = from;
-    let found = 'nodes: loop {
+    // Each turn begins at the next node that may match, so no range counts them.
+    'nodes: loop {
         if last <= i {
-            break 'nodes seeking(Found::Nowhere, frame, fuel, 0);
+            break 'nodes Sought {
+                found: Ok(None),
+                frame,
+                left: fuel,
+                next: 0,
+            };
         }
         let arena = &w[..frame.top];
         let scope = &arena[base..end];
@@ -381,14 +338,23 @@ fn seek(
         i = next.node;
         fuel = next.left;
         if last <= i {
-            break 'nodes seeking(Found::Nowhere, frame, fuel, 0);
+            break 'nodes Sought {
+                found: Ok(None),
+                frame,
+                left: fuel,
+                next: 0,
+            };
         }
         let p = base + 2 * i;
         if fuel.attempts == 0 {
-            break 'nodes seeking(Found::Stopped(40), frame, fuel, 0);
+            break 'nodes Sought {
+                found: Err(Halt::new(Stop::BudgetSpent)),
+                frame,
+                left: fuel,
+                next: 0,
+            };
         }
-        let fewer = fuel.attempts - 1;
-        fuel = State { attempts: fewer };
+        fuel.attempts -= 1;
         let m = rewrite::match_pattern(
             pairs,
             arena,
@@ -397,59 +363,62 @@ fn seek(
             places,
             frame.bound,
             frame.live,
-            heads,
+            types,
         );
         let verdict = m.verdict;
         match verdict {
             Verdict::Differs => {
-                i = i + 1;
+                i += 1;
                 continue 'nodes;
             }
-            Verdict::Stops(no) => {
-                break 'nodes seeking(Found::Stopped(no), frame, fuel, 0);
+            Verdict::Stops(halt) => {
+                break 'nodes Sought {
+                    found: Err(halt),
+                    frame,
+                    left: fuel,
+                    next: 0,
+                };
             }
             Verdict::Matches => {}
         }
         let mut now = after_match(m, frame.top);
         let mut at = plan.first;
-        let mut k = plan.count;
-        loop {
-            if k == 0 {
-                break 'nodes seeking(Found::At(i), now, fuel, at);
-            }
-            let t = step(
-                heads, rows, types, book, starts, w, at, places, now, deep, fuel,
-            );
+        for _ in 0..plan.count {
+            let t = step(program, w, at, places, now, deep, fuel);
             fuel = t.left;
             let verdict = t.verdict;
             match verdict {
                 Verdict::Differs => {
-                    i = i + 1;
+                    i += 1;
                     continue 'nodes;
                 }
-                Verdict::Stops(no) => {
-                    break 'nodes seeking(Found::Stopped(no), frame, fuel, 0);
+                Verdict::Stops(halt) => {
+                    break 'nodes Sought {
+                        found: Err(halt),
+                        frame,
+                        left: fuel,
+                        next: 0,
+                    };
                 }
                 Verdict::Matches => {
-                    let after = t.frame;
-                    now = after;
+                    now = t.frame;
                     at = t.next;
-                    k = k - 1;
                 }
             }
         }
-    };
-    found
+        break 'nodes Sought {
+            found: Ok(Some(i)),
+            frame: now,
+            left: fuel,
+            next: at,
+        };
+    }
 }
 
 // Is there a match in the tree of n nodes at `start`? The open call's variables are the arguments.
 #[cycle(engine)]
 fn matches(
-    heads: &[u32; HEADS],
-    rows: &[u8; ROWS],
-    types: u32,
-    book: &[u32],
-    starts: &[usize; STARTS],
+    program: &Program,
     w: &mut [u32],
     at: usize,
     start: usize,
@@ -459,14 +428,16 @@ fn matches(
     deep: usize,
     left: State,
 ) -> Tested
-    requires { Sound (vars_of places.old frame.bound) × (frame.live ≤ 2 ^ 17) × (frame.top ≤ 2 * frame.live) × (frame.top ≤ 12288) × (16384 ≤ length w.old) × (1 ≤ types) × (start < 2 ^ 32) × (n ≤ 2048) × (0 < n → start + 2 * n ≤ frame.top) }
-    ensures { CallMatches (given_of heads.now rows.now types book.now starts.now) w.old w.new at start n (open_of places.old frame) deep left result }
+    requires { Sound (vars_of places.old frame.bound) × (frame.live ≤ 2 ^ 17) × (frame.top ≤ 2 * frame.live) × (frame.top ≤ 12288) × (16384 ≤ length w.old) × (start < 2 ^ 32) × (n ≤ 2048) × (0 < n → start + 2 * n ≤ frame.top) }
+    ensures { CallMatches (given_of program.now) w.old w.new at start n (open_of places.old frame) deep left result }
 {
-    let plan = rules::plan_of(types, book, at);
+    let types = program.types;
+    let book = program.book;
+    let plan = rules::plan_of(types.count, book, at);
     let live = frame.live + n;
     if MOST_LIVE < live {
         return Tested {
-            verdict: Verdict::Stops(44),
+            verdict: Verdict::Stops(Halt::new(Stop::TooManyLiveNodes)),
             left,
         };
     }
@@ -475,35 +446,17 @@ fn matches(
         live,
         top: frame.top,
     };
-    let s = seek(
-        heads, rows, types, book, starts, w, plan, start, n, places, inner, deep, left, 0,
-    );
-    let now = s.left;
-    let found = s.found;
-    match found {
-        Found::At(_) => Tested {
-            verdict: Verdict::Matches,
-            left: now,
-        },
-        Found::Nowhere => Tested {
-            verdict: Verdict::Differs,
-            left: now,
-        },
-        Found::Stopped(no) => Tested {
-            verdict: Verdict::Stops(no),
-            left: now,
-        },
+    let s = seek(program, w, plan, start, n, places, inner, deep, left, 0);
+    Tested {
+        verdict: verdict_of(s.found),
+        left: s.left,
     }
 }
 
 // Does the application whose first word is at `at` succeed on the tree of n nodes at `start`?
 #[cycle(engine)]
 fn succeeds(
-    heads: &[u32; HEADS],
-    rows: &[u8; ROWS],
-    types: u32,
-    book: &[u32],
-    starts: &[usize; STARTS],
+    program: &Program,
     w: &mut [u32],
     pairs: &[u32],
     at: usize,
@@ -514,14 +467,14 @@ fn succeeds(
     deep: usize,
     left: State,
 ) -> Tested
-    requires { Room w.old (open_of places.now frame) × (1 ≤ types) × (at < 2 ^ 36) × (start < 2 ^ 32) × (n ≤ 2048) × (0 < n → start + 2 * n ≤ frame.top) }
-    ensures { Succeeds (given_of heads.now rows.now types book.now starts.now) w.old w.new pairs.now at start n (open_of places.now frame) deep left result }
+    requires { Room w.old (open_of places.now frame) × (at < 2 ^ 36) × (start < 2 ^ 32) × (n ≤ 2048) × (0 < n → start + 2 * n ≤ frame.top) }
+    ensures { Succeeds (given_of program.now) w.old w.new pairs.now at start n (open_of places.now frame) deep left result }
 {
     let a = words::word(pairs, at);
     if a < FIRST_OPERATION {
         if deep == 0 {
             return Tested {
-                verdict: Verdict::Stops(41),
+                verdict: Verdict::Stops(Halt::new(Stop::CallsTooDeep)),
                 left,
             };
         }
@@ -533,13 +486,9 @@ fn succeeds(
             live: frame.live + args.total,
             top: frame.top,
         };
-        let rule = rules::rule_at(starts, a);
+        let rule = program.rule_at(a);
         return matches(
-            heads,
-            rows,
-            types,
-            book,
-            starts,
+            program,
             w,
             rule,
             start,
@@ -566,11 +515,7 @@ fn succeeds(
 // Does one of the chain's applications succeed? They are tried in order up to the first that does.
 #[cycle(engine)]
 fn any_succeeds(
-    heads: &[u32; HEADS],
-    rows: &[u8; ROWS],
-    types: u32,
-    book: &[u32],
-    starts: &[usize; STARTS],
+    program: &Program,
     w: &mut [u32],
     pairs: &[u32],
     start: usize,
@@ -580,30 +525,22 @@ fn any_succeeds(
     deep: usize,
     left: State,
 ) -> Tested
-    requires { Room w.old (open_of places.now frame) × (1 ≤ types) × (start < 2 ^ 32) × (n ≤ 2048) × (0 < n → start + 2 * n ≤ frame.top) }
-    ensures { AnySucceeds (given_of heads.now rows.now types book.now starts.now) w.old w.new pairs.now start n (open_of places.now frame) deep left result }
+    requires { Room w.old (open_of places.now frame) × (start < 2 ^ 32) × (n ≤ 2048) × (0 < n → start + 2 * n ≤ frame.top) }
+    ensures { AnySucceeds (given_of program.now) w.old w.new pairs.now start n (open_of places.now frame) deep left result }
 {
-    let mut k = rules::chain_count(pairs, 2);
+    let k = rules::chain_count(pairs, 2);
     let mut at: usize = 4;
     let mut fuel = left;
-    while 0 < k {
-        let t = succeeds(
-            heads, rows, types, book, starts, w, pairs, at, start, n, places, frame, deep, fuel,
-        );
-        let verdict = t.verdict;
-        match verdict {
-            Verdict::Stops(_) => {
+    for _ in 0..k {
+        let t = succeeds(program, w, pairs, at, start, n, places, frame, deep, fuel);
+        match t.verdict {
+            Verdict::Stops(_) | Verdict::Matches => {
                 return t;
             }
-            Verdict::Matches => {
-                return t;
-            }
-            Verdict::Differs => {
-                fuel = t.left;
-                at = at + 2 + 2 * words::wide(words::word(pairs, at + 1));
-                k = k - 1;
-            }
+            Verdict::Differs => {}
         }
+        fuel = t.left;
+        at += 2 + 2 * words::word(pairs, at + 1) as usize;
     }
     Tested {
         verdict: Verdict::Differs,
@@ -613,8 +550,7 @@ fn any_succeeds(
 
 // What the operation on sequences whose application stands at `at` makes of the tree of n nodes at base. Its arguments are the trees of up to two variables.
 fn edit_at(
-    heads: &[u32; HEADS],
-    rows: &[u8; ROWS],
+    types: &Types,
     w: &mut [u32],
     pairs: &[u32],
     at: usize,
@@ -624,24 +560,20 @@ fn edit_at(
     bound: usize,
     under: usize,
     besides: usize,
-) -> Placed
+) -> Result<usize, Halt>
     requires { (besides + n ≤ 6144) × (base ≤ 2 * besides) × (n ≤ 2048) × (under ≤ 2048) × (16384 ≤ length w.old) × (at < 2 ^ 36) }
-    ensures { EditsAt heads.now rows.now w.old w.new pairs.now at base n (vars_of places.now bound) under besides result }
+    ensures { EditsAt types.now w.old w.new pairs.now at base n (vars_of places.now bound) under besides result }
 {
     let op = words::word(pairs, at);
     let first = rewrite::start_in(places, bound, words::word(pairs, at + 3));
     let second = rewrite::start_in(places, bound, words::word(pairs, at + 5));
-    sequences::edit(heads, rows, w, op, base, n, first, second, under, besides)
+    sequences::edit(types, w, op, base, n, first, second, under, besides)
 }
 
 // Applies the application whose first word is at `at` to the tree of n nodes at base, which is on top.
 #[cycle(engine)]
 fn apply(
-    heads: &[u32; HEADS],
-    rows: &[u8; ROWS],
-    types: u32,
-    book: &[u32],
-    starts: &[usize; STARTS],
+    program: &Program,
     w: &mut [u32],
     pairs: &[u32],
     at: usize,
@@ -654,56 +586,52 @@ fn apply(
     deep: usize,
     left: State,
 ) -> Built
-    requires { Sound (vars_of places.now bound) × (besides + n ≤ 6144) × (base ≤ 2 * besides) × (n ≤ 2048) × (under ≤ 2048) × (16384 ≤ length w.old) × (1 ≤ types) × (at < 2 ^ 36) }
-    ensures { Applies (given_of heads.now rows.now types book.now starts.now) w.old w.new pairs.now at base n (vars_of places.now bound) besides under deep left result }
+    requires { Sound (vars_of places.now bound) × (besides + n ≤ 6144) × (base ≤ 2 * besides) × (n ≤ 2048) × (under ≤ 2048) × (16384 ≤ length w.old) × (at < 2 ^ 36) }
+    ensures { Applies (given_of program.now) w.old w.new pairs.now at base n (vars_of places.now bound) besides under deep left result }
 {
+    let types = program.types;
     let a = words::word(pairs, at);
     if a < FIRST_OPERATION {
         if deep == 0 {
-            return building(41, n, left);
+            return Built {
+                nodes: Err(Halt::new(Stop::CallsTooDeep)),
+                left,
+            };
         }
         let mut given = [0u32; MOST_VARIABLES];
         let count = words::word(pairs, at + 1);
         let args = arena::gather(w, pairs, at + 2, count, places, bound, &mut given);
-        let rule = rules::rule_at(starts, a);
-        let live = besides + args.total;
+        let rule = program.rule_at(a);
         let c = call(
-            heads,
-            rows,
-            types,
-            book,
-            starts,
+            program,
             w,
             rule,
             base,
             n,
             &mut given,
             args.bound,
-            live,
+            besides + args.total,
             deep - 1,
             left,
         );
-        return building(c.stop, c.nodes, c.left);
+        return Built {
+            nodes: c.scope(),
+            left: c.left,
+        };
     }
     if a < JOIN {
         let b = arena::value_of(w, pairs, at + 3, places, bound);
-        let stop = arena::compute_at(w, base, a, b);
-        return building(stop, n, left);
+        let nodes = with_nodes(arena::compute_at(w, base, a, b), n);
+        return Built { nodes, left };
     }
-    let p = edit_at(
-        heads, rows, w, pairs, at, base, n, places, bound, under, besides,
-    );
-    building(p.stop, p.nodes, left)
+    let nodes = edit_at(types, w, pairs, at, base, n, places, bound, under, besides);
+    Built { nodes, left }
 }
 
 // Applies a chain, its count at `from`, to the tree of n nodes at base, one application after the other.
 #[cycle(engine)]
 fn chain(
-    heads: &[u32; HEADS],
-    rows: &[u8; ROWS],
-    types: u32,
-    book: &[u32],
-    starts: &[usize; STARTS],
+    program: &Program,
     w: &mut [u32],
     pairs: &[u32],
     from: usize,
@@ -716,38 +644,39 @@ fn chain(
     deep: usize,
     left: State,
 ) -> Chained
-    requires { Sound (vars_of places.now bound) × (besides + n ≤ 6144) × (base ≤ 2 * besides) × (n ≤ 2048) × (under ≤ 2048) × (16384 ≤ length w.old) × (1 ≤ types) × (from ≤ 1024) }
-    ensures { Chains (given_of heads.now rows.now types book.now starts.now) w.old w.new pairs.now from base n (vars_of places.now bound) besides under deep left result }
+    requires { Sound (vars_of places.now bound) × (besides + n ≤ 6144) × (base ≤ 2 * besides) × (n ≤ 2048) × (under ≤ 2048) × (16384 ≤ length w.old) × (from ≤ 1024) }
+    ensures { Chains (given_of program.now) w.old w.new pairs.now from base n (vars_of places.now bound) besides under deep left result }
 {
-    let mut k = rules::chain_count(pairs, from);
+    let k = rules::chain_count(pairs, from);
     let mut at = from + 2;
     let mut fuel = left;
     let mut nodes = n;
-    while 0 < k {
+    for _ in 0..k {
         let b = apply(
-            heads, rows, types, book, starts, w, pairs, at, base, nodes, places, bound, besides,
-            under, deep, fuel,
+            program, w, pairs, at, base, nodes, places, bound, besides, under, deep, fuel,
         );
-        if b.stop != 0 {
-            return Chained { built: b, next: at };
+        match b.nodes {
+            Err(_) => {
+                return Chained { built: b, next: at };
+            }
+            Ok(now) => {
+                nodes = now;
+            }
         }
         fuel = b.left;
-        nodes = b.nodes;
-        at = at + 2 + 2 * words::wide(words::word(pairs, at + 1));
-        k = k - 1;
+        at += 2 + 2 * words::word(pairs, at + 1) as usize;
     }
-    let b = building(0, nodes, fuel);
-    Chained { built: b, next: at }
+    let built = Built {
+        nodes: Ok(nodes),
+        left: fuel,
+    };
+    Chained { built, next: at }
 }
 
 // A chain of applications in a replacement, at the pair i, in a tree under way of n nodes.
 #[cycle(engine)]
 fn fill_chain(
-    heads: &[u32; HEADS],
-    rows: &[u8; ROWS],
-    types: u32,
-    book: &[u32],
-    starts: &[usize; STARTS],
+    program: &Program,
     w: &mut [u32],
     pairs: &[u32],
     i: usize,
@@ -757,24 +686,23 @@ fn fill_chain(
     deep: usize,
     left: State,
 ) -> Chained
-    requires { Room w.old (open_of places.now frame) × (1 ≤ types) × (i ≤ 256) × (frame.live + n ≤ 6144) × (n ≤ 2048) }
-    ensures { FillsChain (given_of heads.now rows.now types book.now starts.now) w.old w.new pairs.now i n (open_of places.now frame) deep left result }
+    requires { Room w.old (open_of places.now frame) × (i ≤ 256) × (frame.live + n ≤ 6144) × (n ≤ 2048) }
+    ensures { FillsChain (given_of program.now) w.old w.new pairs.now i n (open_of places.now frame) deep left result }
 {
     let base = frame.top + 2 * n;
     let start = rewrite::start_in(places, frame.bound, words::word(pairs, i + 1));
     let m = arena::nodes_at(w, start, frame.top);
     let besides = frame.live + n;
     if MOST_LIVE < besides + m {
-        let b = building(44, n, left);
-        return Chained { built: b, next: i };
+        let built = Built {
+            nodes: Err(Halt::new(Stop::TooManyLiveNodes)),
+            left,
+        };
+        return Chained { built, next: i };
     }
     arena::push_tree(w, start, m, base);
     let c = chain(
-        heads,
-        rows,
-        types,
-        book,
-        starts,
+        program,
         w,
         pairs,
         i + 2,
@@ -788,26 +716,25 @@ fn fill_chain(
         left,
     );
     let b = c.built;
-    if b.stop != 0 {
-        return c;
-    }
-    let nodes = n + b.nodes;
-    let stop = arena::over(nodes, 0);
-    let r = building(stop, nodes, b.left);
-    Chained {
-        built: r,
-        next: c.next,
+    match b.nodes {
+        Err(_) => c,
+        Ok(more) => {
+            let nodes = with_nodes(arena::check_nodes(n + more), n + more);
+            Chained {
+                built: Built {
+                    nodes,
+                    left: b.left,
+                },
+                next: c.next,
+            }
+        }
     }
 }
 
 // Fills a replacement, the pairs whose count stands at `at`, on top: its nodes are not marked yet.
 #[cycle(engine)]
 fn fill(
-    heads: &[u32; HEADS],
-    rows: &[u8; ROWS],
-    types: u32,
-    book: &[u32],
-    starts: &[usize; STARTS],
+    program: &Program,
     w: &mut [u32],
     at: usize,
     places: &[u32; MOST_VARIABLES],
@@ -815,9 +742,10 @@ fn fill(
     deep: usize,
     left: State,
 ) -> Built
-    requires { Room w.old (open_of places.now frame) × (1 ≤ types) }
-    ensures { Fills (given_of heads.now rows.now types book.now starts.now) w.old w.new at (open_of places.now frame) deep left result }
+    requires { Room w.old (open_of places.now frame) }
+    ensures { Fills (given_of program.now) w.old w.new at (open_of places.now frame) deep left result }
 {
+    let book = program.book;
     let pairs = rules::pairs_of(book, at);
     let bound = frame.bound;
     let top = frame.top;
@@ -825,51 +753,56 @@ fn fill(
     let mut fuel = left;
     let mut n: usize = 0;
     let mut i: usize = 0;
+    // A chain takes several pairs, so no range counts the turns.
     while i + 2 <= pairs.len() {
         let t = pairs[i];
         let v = pairs[i + 1];
         if t == MARK_CHAIN {
-            let c = fill_chain(
-                heads, rows, types, book, starts, w, pairs, i, n, places, frame, deep, fuel,
-            );
-            let b = c.built;
-            if b.stop != 0 {
-                return b;
+            let c = fill_chain(program, w, pairs, i, n, places, frame, deep, fuel);
+            match c.built.nodes {
+                Err(_) => {
+                    return c.built;
+                }
+                Ok(now) => {
+                    n = now;
+                }
             }
-            n = b.nodes;
-            fuel = b.left;
+            fuel = c.built.left;
             i = c.next;
         } else if t == MARK_VARIABLE {
             let start = rewrite::start_in(places, bound, v);
             let m = arena::nodes_at(w, start, top);
-            let stop = arena::over(n + m, live + n + m);
-            if stop != 0 {
-                return building(stop, n, fuel);
+            if let Err(halt) = arena::check_limits(n + m, live + n + m) {
+                return Built {
+                    nodes: Err(halt),
+                    left: fuel,
+                };
             }
             arena::push_tree(w, start, m, top + 2 * n);
-            n = n + m;
-            i = i + 2;
+            n += m;
+            i += 2;
         } else {
-            let stop = arena::over(n + 1, live + n + 1);
-            if stop != 0 {
-                return building(stop, n, fuel);
+            if let Err(halt) = arena::check_limits(n + 1, live + n + 1) {
+                return Built {
+                    nodes: Err(halt),
+                    left: fuel,
+                };
             }
             arena::push_node(w, top + 2 * n, t, v);
-            n = n + 1;
-            i = i + 2;
+            n += 1;
+            i += 2;
         }
     }
-    building(0, n, fuel)
+    Built {
+        nodes: Ok(n),
+        left: fuel,
+    }
 }
 
 // Fills a replacement and finishes it: its nodes are marked, and its nesting is tested.
 #[cycle(engine)]
 fn finish(
-    heads: &[u32; HEADS],
-    rows: &[u8; ROWS],
-    types: u32,
-    book: &[u32],
-    starts: &[usize; STARTS],
+    program: &Program,
     w: &mut [u32],
     at: usize,
     places: &[u32; MOST_VARIABLES],
@@ -877,27 +810,24 @@ fn finish(
     deep: usize,
     left: State,
 ) -> Built
-    requires { Room w.old (open_of places.now frame) × (1 ≤ types) }
-    ensures { Finishes (given_of heads.now rows.now types book.now starts.now) w.old w.new at (open_of places.now frame) deep left result }
+    requires { Room w.old (open_of places.now frame) }
+    ensures { Finishes (given_of program.now) w.old w.new at (open_of places.now frame) deep left result }
 {
-    let b = fill(
-        heads, rows, types, book, starts, w, at, places, frame, deep, left,
-    );
-    if b.stop != 0 {
-        return b;
+    let types = program.types;
+    let b = fill(program, w, at, places, frame, deep, left);
+    match b.nodes {
+        Err(_) => b,
+        Ok(n) => Built {
+            nodes: with_nodes(arena::close(types, w, frame.top, n), n),
+            left: b.left,
+        },
     }
-    let stop = arena::close(heads, rows, w, frame.top, b.nodes);
-    building(stop, b.nodes, b.left)
 }
 
 // Finishes the replacement of a match and puts it in place of node i.
 #[cycle(engine)]
 fn replace(
-    heads: &[u32; HEADS],
-    rows: &[u8; ROWS],
-    types: u32,
-    book: &[u32],
-    starts: &[usize; STARTS],
+    program: &Program,
     w: &mut [u32],
     at: usize,
     base: usize,
@@ -908,28 +838,25 @@ fn replace(
     deep: usize,
     left: State,
 ) -> Built
-    requires { Room w.old (open_of places.now frame) × (1 ≤ types) × (i < n) × (n ≤ 2048) × (base + 2 * n ≤ frame.top) }
-    ensures { Replaces (given_of heads.now rows.now types book.now starts.now) w.old w.new at base n i (open_of places.now frame) deep left result }
+    requires { Room w.old (open_of places.now frame) × (i < n) × (n ≤ 2048) × (base + 2 * n ≤ frame.top) }
+    ensures { Replaces (given_of program.now) w.old w.new at base n i (open_of places.now frame) deep left result }
 {
-    let b = finish(
-        heads, rows, types, book, starts, w, at, places, frame, deep, left,
-    );
-    if b.stop != 0 {
-        return building(b.stop, n, b.left);
+    let types = program.types;
+    let b = finish(program, w, at, places, frame, deep, left);
+    match b.nodes {
+        Err(_) => b,
+        Ok(m) => Built {
+            nodes: arena::replace_tree(types, w, base, n, i, frame.top, m),
+            left: b.left,
+        },
     }
-    let p = arena::replace_tree(heads, rows, w, base, n, i, frame.top, b.nodes);
-    building(p.stop, p.nodes, b.left)
 }
 
 // Rewrites the scope, n nodes from base on, which is on top: the rounds of search and replacement. The variables are the arguments; so many nodes are live besides
 // the scope.
 #[cycle(engine)]
 pub fn call(
-    heads: &[u32; HEADS],
-    rows: &[u8; ROWS],
-    types: u32,
-    book: &[u32],
-    starts: &[usize; STARTS],
+    program: &Program,
     w: &mut [u32],
     at: usize,
     base: usize,
@@ -940,67 +867,70 @@ pub fn call(
     deep: usize,
     left: State,
 ) -> Called
-    requires { Sound (vars_of places.old bound) × (besides ≤ 2 ^ 17) × (base ≤ 2 * besides) × (base ≤ 12288) × (n ≤ 2048) × (16384 ≤ length w.old) × (1 ≤ types) }
-    ensures { Calls (given_of heads.now rows.now types book.now starts.now) w.old w.new at base n (vars_of places.old bound) besides deep left result }
+    requires { Sound (vars_of places.old bound) × (besides ≤ 2 ^ 17) × (base ≤ 2 * besides) × (base ≤ 12288) × (n ≤ 2048) × (16384 ≤ length w.old) }
+    ensures { Calls (given_of program.now) w.old w.new at base n (vars_of places.old bound) besides deep left result }
 {
-    let plan = rules::plan_of(types, book, at);
-    let strategy = plan.strategy;
-    let repeats = rules::again(strategy);
-    let mut nodes = n;
-    let mut fuel = left;
-    let mut count: u32 = 0;
+    let types = program.types;
+    let book = program.book;
+    let plan = rules::plan_of(types.count, book, at);
+    let mut c = Called {
+        stop: None,
+        nodes: n,
+        left,
+        replacements: 0,
+    };
     let mut from: usize = 0;
+    // Each turn begins from what the replacement left, so no range counts them.
     loop {
-        let live = besides + nodes;
+        let live = besides + c.nodes;
         if MOST_LIVE < live {
-            return calling(44, nodes, fuel, count);
+            let halt = Halt::new(Stop::TooManyLiveNodes);
+            return Called {
+                stop: Some(halt),
+                ..c
+            };
         }
         let frame = Frame {
             bound,
             live,
-            top: base + 2 * nodes,
+            top: base + 2 * c.nodes,
         };
         let s = seek(
-            heads, rows, types, book, starts, w, plan, base, nodes, places, frame, deep, fuel, from,
+            program, w, plan, base, c.nodes, places, frame, deep, c.left, from,
         );
-        let found = s.found;
-        match found {
-            Found::Nowhere => {
-                return calling(0, nodes, s.left, count);
+        c.left = s.left;
+        match s.found {
+            Ok(None) => {
+                return c;
             }
-            Found::Stopped(no) => {
-                return calling(no, nodes, s.left, count);
+            Err(halt) => {
+                return Called {
+                    stop: Some(halt),
+                    ..c
+                };
             }
-            Found::At(i) => {
-                let after = s.frame;
+            Ok(Some(i)) => {
                 let b = replace(
-                    heads, rows, types, book, starts, w, s.next, base, nodes, i, places, after,
-                    deep, s.left,
+                    program, w, s.next, base, c.nodes, i, places, s.frame, deep, s.left,
                 );
-                if b.stop != 0 {
-                    return calling(b.stop, nodes, b.left, count);
+                c.left = b.left;
+                match b.nodes {
+                    Err(halt) => {
+                        return Called {
+                            stop: Some(halt),
+                            ..c
+                        };
+                    }
+                    Ok(nodes) => {
+                        c.nodes = nodes;
+                    }
                 }
-                nodes = b.nodes;
-                fuel = b.left;
-                count = count + 1;
-                if !repeats {
-                    return calling(0, nodes, fuel, count);
+                c.replacements += 1;
+                if !plan.strategy.again() {
+                    return c;
                 }
-                let put = marks::size_at(w, base + 2 * i);
-                from = rules::onward(strategy, i, put);
+                from = plan.strategy.onward(i, marks::size_at(w, base + 2 * i));
             }
         }
-    }
-}
-
-// What a call left, by its parts.
-fn calling(stop: u32, nodes: usize, left: State, replacements: u32) -> Called
-    ensures { result ≡ record { stop = stop; nodes = nodes; left = left; replacements = replacements } }
-{
-    Called {
-        stop,
-        nodes,
-        left,
-        replacements,
     }
 }

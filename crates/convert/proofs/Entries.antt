@@ -1,45 +1,32 @@
--- The reading of the table in code: its numbers, its entries, and the places of its types. Assumes nothing.
-use Prim.Native.Nat.{ℕ, zero, suc, ◌+◌, ◌<◌, ◌≤◌}
+-- The reading of the table in code: its entries, and the places of its types. Assumes nothing.
+use Prim.Native.Nat.{ℕ, zero, suc, ◌+◌, ◌<◌, ◌≤◌, min}
 use mathlib.Core.Path.{◌≡◌, refl, sym, ap, ◌∙◌}
 use mathlib.Core.List.{List, [], ◌∷◌, ◌++◌, append_assoc, append-nil}
 use mathlib.Core.Bool.{Bool, true, false}
+use Rattle.std.proofs.Math.Logic.{∥∥₁_elim}
+use native.Mathlib.Bridge.{le_prop}
 use native.Mathlib.Omega.{arith}
 use native.Mathlib.Numerals.{add-one}
-use lib.ListN.{length, get_or, take, drop, set, length-set, drop_of_length-le, get_or-eq_default}
-use lib.Seq.{take-suc-set}
-use lib.Dec.{ltb}
-use borrow.Author.Tests.{lt-ltb, le-ltb, ltb-true, ltb-false}
-use Rattle.words.specs.Reader.{Words, pick, Read, value, refused, and_then, return, word, many, end}
+use lib.ListN.{length, get_or, take, drop, set, replicate, length-set, drop_of_length-le, get_or-eq_default}
+use lib.Seq.{take-suc-set, length-take-le, get_or-take, get_or-set_other}
+use lib.Dec.{ltb, leb}
+use borrow.Author.Tests.{lt-ltb, le-ltb, ltb-true, ltb-false, leb-true, leb-false}
+use Rattle.std.specs.Prelude.{Result, Ok, Err}
+use Rattle.words.specs.Reader.{Words, Read, value, refused, and_then, return, many, end}
 use Rattle.words.specs.Views.{answer, got}
-use Rattle.words.specs.declared.Check.{Check}
-use Rattle.words.specs.declared.Check.TheVariants.{Passed, Refused}
-use Rattle.words.specs.declared.Got.{Got}
-use Rattle.words.specs.declared.Got.TheVariants.{Word, Bad}
 use Rattle.words.proofs.Laws.{read_word, read_bad, answer_map, answer_passed, answer_refused, then_value}
 use Rattle.words.proofs.Stretches.{drop_next}
 use Rattle.grammar.specs.Grammar.{Kind, token, opt, sequence, forms, Grammar}
 use Rattle.grammar.specs.Kinds.{kind_of, forms_of}
 use Rattle.grammar.specs.Values.{values_of}
-use Rattle.tables.specs.Tables.{map_of, Heads}
+use Rattle.tables.specs.Tables.{map_of}
+use Rattle.tables.specs.Types.{TypesOf, OfTypes}
+use Rattle.tables.specs.declared.types.Types.{Types}
 use Rattle.tables.proofs.Filling.{style_map}
 use Rattle.convert.specs.Table.{Entry, named, entry, entries, whole_table, entry_of, type_to, form_to, bit_of, written}
-use Rattle.convert.specs.Views.{type_at, form_at, places_of, Placed, EntryRead, WholeRead}
-use Rattle.convert.proofs.Exactly.{here, past, entry_read}
-
--- ONE NUMBER
-
-module _ (ts : Words) (n at : ℕ) (g : Got) (e : g ≡ got (word 60 ts at)) where
-  pub named_bad : {no' p : ℕ} → g ≡ Bad no' p → Bad no' p ≡ got (named ts n at)
-  unfolding named
-  named_bad b = rw (read_bad (word 60 ts at) g e b)
-
-  pub named_in : {w next : ℕ} → g ≡ Word w next → w < n → Word w next ≡ got (named ts n at)
-  unfolding named
-  named_in {w} b h = rw (read_word (word 60 ts at) g e b, lt-ltb w n h)
-
-  pub named_out : {w next : ℕ} → g ≡ Word w next → n ≤ w → Bad 60 at ≡ got (named ts n at)
-  unfolding named
-  named_out {w} b h = rw (read_word (word 60 ts at) g e b, le-ltb w n h)
+use Rattle.convert.specs.Views.{places_of, Placed, ReadAs, EntryRead, WholeRead}
+use Rattle.convert.specs.declared.table.Table.{Table}
+use Rattle.convert.proofs.Exactly.{here, past, entry_read, table_read}
 
 -- KINDS AS THE TABLES OF TYPES SHOW THEM
 
@@ -87,56 +74,40 @@ bit_none k m em e = map_none k (sym em ∙ e)
 pub bit_there : (k : Kind) (m : ℕ) → m ≡ map_of k → (m ≡ 0 → ⊥) → m ≡ bit_of k
 bit_there k m em e = em ∙ map_bit k (λ x. e (em ∙ x))
 
--- LOOKING UP THE TABLE'S WORDS
-
-module _ (ts : Words) (places : List ℕ) (t i : ℕ) (ei : i ≡ t) where
-  pub type_in_lem : i < length places → (w : ℕ) → w ≡ get_or ts (get_or places i 0) 0 → w ≡ type_at ts places t
-  unfolding type_at
-  type_in_lem h w e = e ∙ rw (ei, lt-ltb t (length places) (omega arith))
-
-  pub type_out : length places ≤ i → 0 ≡ type_at ts places t
-  unfolding type_at
-  type_out h = rw (le-ltb t (length places) (omega arith))
-
-  pub form_out : (v : ℕ) → length places ≤ i → 0 ≡ form_at ts places t v
-  unfolding form_at
-  form_out v h = rw (le-ltb t (length places) (omega arith))
-
-  pub form_past : (v : ℕ) → i < length places → length ts ≤ get_or places i 0 → 0 ≡ form_at ts places t v
-  unfolding form_at
-  form_past v h l =
-      let z : length ts ≤ get_or places t 0 = rw ei at l in
-      rw (lt-ltb t (length places) (omega arith)) (sym (get_or-eq_default ts 0 (omega arith)))
-
-  pub form_in : (v u : ℕ) → u ≡ v → i < length places → (w : ℕ) → w ≡ get_or ts (get_or places i 0 + 1 + u) 0 → w ≡ form_at ts places t v
-  unfolding form_at
-  form_in v u eu h w e = e ∙ rw (ei, eu, lt-ltb t (length places) (omega arith))
-
 -- AN ENTRY
 
-module _ (b : Grammar) (kd : Kind) (ts : Words) (n k at : ℕ) (en : n ≡ length b) (ek : k ≡ length (forms_of kd)) (g : Got) (e : g ≡ got (named ts n at)) where
-  pub entry_bad : {no' p : ℕ} → g ≡ Bad no' p → Refused no' p ≡ answer (entry ts b kd at)
+module _ (types : Types) (ts : Words) (k at : ℕ) {g : Result (ℕ × ℕ) (ℕ × ℕ)} (e : g ≡ got (named ts types.count at)) where
+  pub entry_bad : {x : ℕ × ℕ} → g ≡ Err x → EntryRead types ts k at (Err x)
   unfolding entry
-  entry_bad f = let h : named ts (length b) at ≡ refused _ _ = rw en at (read_bad (named ts n at) g e f) in rw h
+  entry_bad {x} f = λ b kd tb ek. let h : named ts (length b) at ≡ refused x.0 x.1 = rw tb.count_of (read_bad (named ts types.count at) g e f) in rw h
 
-  pub entry_there : {t next : ℕ} → g ≡ Word t next → (c : ℕ) → c ≡ length (forms_of (kind_of b t)) → (r : Check) → r ≡ answer (many k (named ts c) next) → r ≡ answer (entry ts b kd at)
+  pub entry_there : {x : ℕ × ℕ} → g ≡ Ok x → {c : ℕ} → OfTypes types (λ g. c ≡ length (forms_of (kind_of g x.0))) → {r : Result ℕ (ℕ × ℕ)} → r ≡ answer (many k (named ts c) x.1) → EntryRead types ts k at r
   unfolding entry
-  entry_there {t} {next} f c ec r er =
-      let h : named ts (length b) at ≡ value t next = rw en at (read_word (named ts n at) g e f) in
-      er ∙ rw (h, ek, ec) (answer_map (many (length (forms_of kd)) (named ts (length (forms_of (kind_of b t)))) next) (λ ns. record { type = t; numbers = ns }))
+  entry_there {x} f ec er = λ b kd tb ek.
+      let h : named ts (length b) at ≡ value x.0 x.1 = rw tb.count_of (read_word (named ts types.count at) g e f) in
+      er ∙ rw (h, ek, ec b tb) (answer_map (many (length (forms_of kd)) (named ts (length (forms_of (kind_of b x.0)))) x.1) (λ ns. record { type = x.0; numbers = ns }))
 
 -- THE TABLE
 
+-- a grammar has at most 64 types
+pub types_few : (types : Types) → types.count ≤ 64
+types_few types = ∥∥₁_elim types.of_grammar le_prop (λ t. omega (arith, t.1.heads_of.types, t.2))
+
 -- t types have been read
-pub record TableLoop (heads heads' : Words) (n n' : ℕ) (ts : Words) (places : List ℕ) (t at : ℕ) : Type 0 where
-  pub inside : t ≤ n
+pub record TableLoop (old new : Types) (ts : Words) (places : List ℕ) (t at : ℕ) : Type 0 where
   pub long : length places ≡ 64
-  pub rest : (a b : Grammar) → Heads a heads → Heads b heads' → n ≡ length a → n' ≡ length b → answer (entries ts b a 0) ≡ answer (entries ts b (drop t a) at)
-  pub stored : (a b : Grammar) (es : List Entry) (next : ℕ) → Heads a heads → Heads b heads' → n ≡ length a → n' ≡ length b → entries ts b a 0 ≡ value es next
+  pub clear : (i : ℕ) → t ≤ i → get_or places i (length ts) ≡ length ts
+  pub rest : (a b : Grammar) → TypesOf a old → TypesOf b new → answer (entries ts b a 0) ≡ answer (entries ts b (drop t a) at)
+  pub stored : (a b : Grammar) (es : List Entry) (next : ℕ) → TypesOf a old → TypesOf b new → entries ts b a 0 ≡ value es next
       → (fs : List Entry) × (entries ts b (drop t a) at ≡ value fs next) × (take t places ++ places_of at fs ≡ places_of 0 es)
 
-pub table_start : (heads heads' : Words) (n n' : ℕ) (ts : Words) (places : List ℕ) → length places ≡ 64 → TableLoop heads heads' n n' ts places 0 0
-table_start heads heads' n n' ts places l = record { inside = omega arith; long = l; rest = λ a b ha hb en en'. refl; stored = λ a b es next ha hb en en' e. (es, e, refl) }
+all_clear : (n i d : ℕ) → get_or (replicate n d) i d ≡ d
+all_clear zero i d = refl
+all_clear (suc n) zero d = refl
+all_clear (suc n) (suc i) d = all_clear n i d
+
+pub table_start : {old new : Types} {ts : Words} → TableLoop old new ts (replicate 64 (length ts)) 0 0
+table_start {old} {new} {ts} = record { long = refl; clear = λ i h. all_clear 64 i (length ts); rest = λ a b ta tb. refl; stored = λ a b es next ta tb e. (es, e, refl) }
 
 placed_one : (places : List ℕ) (t at : ℕ) (e : Entry) (fs : List Entry) {next : ℕ} → t < length places → next ≡ at + suc (length e.numbers)
     → take (t + 1) (set places t at) ++ places_of next fs ≡ take t places ++ places_of at (e ∷ fs)
@@ -170,80 +141,6 @@ none_left ts b ks at fs next e h = let z : value [] at ≡ value fs next = rw e 
 no_value : {A B : Type 0} {no' p : ℕ} (q : Read A) (a : A) (next : ℕ) → q ≡ refused no' p → q ≡ value a next → B
 no_value q a next e f = let z : ◌≡◌ {A = ℕ} 0 1 = cc in absurd (omega arith)
 
-module _ {heads heads' : Words} {n n' : ℕ} {ts : Words} {places : List ℕ} {t at : ℕ} (l : TableLoop heads heads' n n' ts places t at) (few : n ≤ 64) where
-  refused_table : (no' p : ℕ) → ((a b : Grammar) → Heads a heads → Heads b heads' → n ≡ length a → n' ≡ length b → whole_table ts b a 0 ≡ refused no' p) → (places' : List ℕ) → length places' ≡ 64 → WholeRead heads heads' n n' ts places' (Refused no' p)
-  refused_table no' p f places' lp = record {
-    long = lp;
-    answered = λ a b ha hb en en'. sym (ap answer (f a b ha hb en en'));
-    placed = λ a b es next ha hb en en' e. no_value (whole_table ts b a 0) es next (f a b ha hb en en') e;
-  }
-
-  ended : (a b : Grammar) → Heads a heads → Heads b heads' → n ≡ length a → n' ≡ length b → n ≤ t → (es : List Entry) × (entries ts b a 0 ≡ value es at) × (take n places ≡ places_of 0 es)
-  unfolding entries places_of
-  ended a b ha hb en en' h =
-      let z : t ≡ n = omega (arith, l.inside) in
-      let done : drop t a ≡ [] = drop_of_length-le a {i = t} (omega arith) in
-      let r : answer (entries ts b a 0) ≡ Passed at = l.rest a b ha hb en en' ∙ rw done in
-      let u = answer_passed (entries ts b a 0) (Passed at) (sym r) refl in
-      let s = l.stored a b u.0 at ha hb en en' u.1 in
-      let none = none_left ts b (drop t a) at s.0 at done s.1 in
-      (u.0, u.1, ap (λ i. take i places) (sym z) ∙ sym (append-nil (take t places)) ∙ last u.0 s.0 none s.2)
-    where
-      last : (es fs : List Entry) → [] ≡ fs → take t places ++ places_of at fs ≡ places_of 0 es → take t places ++ [] ≡ places_of 0 es
-      last es fs e h = rw (← e) at h
-
-  pub table_left : n ≤ t → at < length ts → WholeRead heads heads' n n' ts places (Refused 60 at)
-  table_left h o = refused_table 60 at (λ a b ha hb en en'. let u = ended a b ha hb en en' h in table_over ts a b u.0 at u.1 o) places l.long
-
-  pub table_end : n ≤ t → length ts ≤ at → WholeRead heads heads' n n' ts places (Passed at)
-  table_end h o = record {
-    long = l.long;
-    answered = λ a b ha hb en en'. let u = ended a b ha hb en en' h in sym (ap answer (table_whole ts a b u.0 at u.1 o));
-    placed = λ a b es next ha hb en en' e.
-        let u = ended a b ha hb en en' h in
-        let w = table_entries ts a b es next e in
-        let same : u.0 ≡ es = cc (u.1, w.1) in
-        u.2 ∙ ap (places_of 0) same;
-  }
-
-  module _ (more : t < n) (k : ℕ) (count : (a : Grammar) → Heads a heads → k ≡ length (forms_of (kind_of a t))) (c : Check) (told : EntryRead heads' n' ts k at c) where
-    head_type : (a : Grammar) → n ≡ length a → drop t a ≡ kind_of a t ∷ drop (t + 1) a
-    unfolding kind_of
-    head_type a en = drop_next a t (forms []) (omega arith)
-
-    fault_first : (a b : Grammar) {no' p : ℕ} → n ≡ length a → entry ts b (kind_of a t) at ≡ refused no' p → answer (entries ts b (drop t a) at) ≡ Refused no' p
-    unfolding entries
-    fault_first a b en e = rw (head_type a en, e)
-
-    pub table_fault : {no' p : ℕ} → c ≡ Refused no' p → (i : ℕ) → WholeRead heads heads' n n' ts (set places i at) (Refused no' p)
-    table_fault {no'} {p} f i = refused_table no' p (λ a b ha hb en en'.
-        let e = answer_refused (entry ts b (kind_of a t) at) c (told b (kind_of a t) hb en' (count a ha)) f in
-        table_refused ts a b (answer_refused (entries ts b a 0) (answer (entries ts b a 0)) refl (l.rest a b ha hb en en' ∙ fault_first a b en e))) (set places i at) (length-set places i at ∙ l.long)
-
-    more_first : (a b : Grammar) (e : Entry) {next : ℕ} → n ≡ length a → entry ts b (kind_of a t) at ≡ value e next → entries ts b (drop t a) at ≡ and_then (entries ts b (drop (t + 1) a) next) (λ es. return (e ∷ es))
-    unfolding entries
-    more_first a b e en h = rw (head_type a en, h)
-
-    table_more : {next : ℕ} → c ≡ Passed next → TableLoop heads heads' n n' ts (set places t at) (t + 1) next
-    table_more {next} f = record {
-      inside = omega arith;
-      long = length-set places t at ∙ l.long;
-      rest = λ a b ha hb en en'.
-          let u = answer_passed (entry ts b (kind_of a t) at) c (told b (kind_of a t) hb en' (count a ha)) f in
-          l.rest a b ha hb en en' ∙ ap answer (more_first a b u.0 en u.1) ∙ sym (answer_map (entries ts b (drop (t + 1) a) next) (λ es. u.0 ∷ es));
-      stored = λ a b es last ha hb en en' e.
-          let u = answer_passed (entry ts b (kind_of a t) at) c (told b (kind_of a t) hb en' (count a ha)) f in
-          let s = l.stored a b es last ha hb en en' e in
-          let v = then_value (entries ts b (drop (t + 1) a) next) (λ more. return (u.0 ∷ more)) (sym (more_first a b u.0 en u.1) ∙ s.1) in
-          (v.0, cc (v.2, v.3), one_more u.0 v.0 s.0 es (entry_read ts b (kind_of a t) at u.0 next u.1).2 (cc v.3) s.2);
-    }
-      where
-        one_more : (e : Entry) (fs gs es : List Entry) → next ≡ at + suc (length e.numbers) → e ∷ fs ≡ gs → take t places ++ places_of at gs ≡ places_of 0 es → take (t + 1) (set places t at) ++ places_of next fs ≡ places_of 0 es
-        one_more e fs gs es en eg h = placed_one places t at e fs (omega arith) en ∙ (rw (← eg) at h)
-
-    pub table_stored : {next : ℕ} → c ≡ Passed next → (i : ℕ) → i ≡ t → TableLoop heads heads' n n' ts (set places i at) (t + 1) next
-    table_stored f i e = rw e (table_more f)
-
 -- THE PLACES
 
 word_in : (ts : Words) (p : ℕ) (xs rest : Words) → drop p ts ≡ xs ++ rest → (j : ℕ) → j < length xs → get_or ts (p + j) 0 ≡ get_or xs j 0
@@ -270,27 +167,112 @@ unfolding places_of
 places_length at [] = refl
 places_length at (e ∷ es) = ap suc (places_length (at + suc (length e.numbers)) es)
 
-pub places_placed : (ts : Words) (places : List ℕ) (es : List Entry) → ts ≡ written es → places ≡ places_of 0 es → Placed ts places es
-unfolding type_at form_at type_to form_to entry_of
-places_placed ts places es w p = record { type = λ t. types t (ltb t (length es)) refl; form = λ t v. numbers t v (ltb t (length es)) refl }
+-- a place past the end is as good as the end
+past_end : (ts : Words) (p j : ℕ) → get_or ts (min p (length ts) + j) 0 ≡ get_or ts (p + j) 0
+past_end ts p j = go (leb p (length ts)) refl
   where
-    there : drop 0 ts ≡ written es ++ []
+    go : (b : Bool) → leb p (length ts) ≡ b → get_or ts (min p (length ts) + j) 0 ≡ get_or ts (p + j) 0
+    go true e = let h = leb-true p (length ts) e in let z : min p (length ts) ≡ p = omega arith in rw z
+    go false e = let h = leb-false p (length ts) e in get_or-eq_default ts 0 (omega arith) ∙ sym (get_or-eq_default ts 0 (omega arith))
+
+any_default : (l : List ℕ) (i d e : ℕ) → i < length l → get_or l i d ≡ get_or l i e
+any_default [] i d e h = absurd (omega arith)
+any_default (x ∷ l) zero d e h = refl
+any_default (x ∷ l) (suc i) d e h = any_default l i d e (omega arith)
+
+pub places_placed : (table : Table) (es : List Entry) → table.words.now ≡ written es → (t : ℕ) → take t table.places ≡ places_of 0 es → t ≤ length table.places
+    → ((i : ℕ) → t ≤ i → get_or table.places i (length table.words.now) ≡ length table.words.now) → Placed table es
+unfolding type_to form_to entry_of
+places_placed table es w n p low clear = record { type = λ t. types t (ltb t (length es)) refl; form = λ t v. numbers t v (ltb t (length es)) refl }
+  where
+    there : drop 0 table.words.now ≡ written es ++ []
     there = w ∙ sym (append-nil (written es))
 
-    long : length places ≡ length es
-    long = ap length p ∙ places_length 0 es
+    long : n ≡ length es
+    long = sym (length-take-le n table.places low) ∙ ap length p ∙ places_length 0 es
 
-    types : (t : ℕ) (b : Bool) → ltb t (length es) ≡ b → pick (ltb t (length places)) (get_or ts (get_or places t 0) 0) 0 ≡ (get_or es t (record { type = 0; numbers = [] })).type
+    place : (t : ℕ) → t < length es → get_or table.places t (length table.words.now) ≡ get_or (places_of 0 es) t 0
+    place t h = sym (get_or-take n table.places t (length table.words.now) (omega (arith, long))) ∙ ap (λ l. get_or l t (length table.words.now)) p ∙ any_default (places_of 0 es) t (length table.words.now) 0 (omega (arith, places_length 0 es))
+
+    types : (t : ℕ) (b : Bool) → ltb t (length es) ≡ b → get_or table.words.now (min (get_or table.places t (length table.words.now)) (length table.words.now)) 0 ≡ (get_or es t (record { type = 0; numbers = [] })).type
     types t true e =
-        let q = placed_word ts es 0 [] there t (ltb-true t (length es) e) 0 (omega arith) in
-        let z : get_or (places_of 0 es) t 0 + 0 ≡ get_or (places_of 0 es) t 0 = omega arith in
-        rw (long, e, p) (rw z at q)
-    types t false e = rw (long, e, get_or-eq_default es (record { type = 0; numbers = [] }) (ltb-false t (length es) e))
+        let h = ltb-true t (length es) e in
+        let q = placed_word table.words.now es 0 [] there t h 0 (omega arith) in
+        let z : min (get_or table.places t (length table.words.now)) (length table.words.now) + 0 ≡ min (get_or table.places t (length table.words.now)) (length table.words.now) = omega arith in
+        ap (λ i. get_or table.words.now i 0) (sym z) ∙ past_end table.words.now (get_or table.places t (length table.words.now)) 0 ∙ ap (λ i. get_or table.words.now (i + 0) 0) (place t h) ∙ q
+    types t false e =
+        let h = ltb-false t (length es) e in
+        let c = clear t (omega (arith, long)) in
+        get_or-eq_default table.words.now 0 (omega arith) ∙ sym (ap (λ (x : Entry). x.type) (get_or-eq_default es (record { type = 0; numbers = [] }) h))
 
     numbers : (t v : ℕ) (b : Bool) → ltb t (length es) ≡ b → v < length (get_or es t (record { type = 0; numbers = [] })).numbers
-        → pick (ltb t (length places)) (get_or ts (get_or places t 0 + 1 + v) 0) 0 ≡ get_or (get_or es t (record { type = 0; numbers = [] })).numbers v 0
+        → get_or table.words.now (min (get_or table.places t (length table.words.now)) (length table.words.now) + 1 + v) 0 ≡ get_or (get_or es t (record { type = 0; numbers = [] })).numbers v 0
     numbers t v true e h =
-        let q = placed_word ts es 0 [] there t (ltb-true t (length es) e) (suc v) (omega arith) in
-        let z : get_or (places_of 0 es) t 0 + suc v ≡ get_or (places_of 0 es) t 0 + 1 + v = omega arith in
-        rw (long, e, p) (rw z at q)
-    numbers t v false e h = absurd (omega (arith, ap (λ x. length x.numbers) (get_or-eq_default es (record { type = 0; numbers = [] }) (ltb-false t (length es) e))))
+        let i = ltb-true t (length es) e in
+        let q = placed_word table.words.now es 0 [] there t i (suc v) (omega arith) in
+        let z : min (get_or table.places t (length table.words.now)) (length table.words.now) + 1 + v ≡ min (get_or table.places t (length table.words.now)) (length table.words.now) + suc v = omega arith in
+        ap (λ i. get_or table.words.now i 0) z ∙ past_end table.words.now (get_or table.places t (length table.words.now)) (suc v) ∙ ap (λ i. get_or table.words.now (i + suc v) 0) (place t i) ∙ q
+    numbers t v false e h = absurd (omega (arith, ap (λ (x : Entry). length x.numbers) (get_or-eq_default es (record { type = 0; numbers = [] }) (ltb-false t (length es) e))))
+
+-- a reading that is refused
+pub as_refused : (q : Read (List Entry)) {x : ℕ × ℕ} → q ≡ refused x.0 x.1 → ReadAs q (Err x)
+as_refused q e = rw e
+
+module _ {old new : Types} {ts : Words} {places : List ℕ} {t at : ℕ} (l : TableLoop old new ts places t at) where
+  ended : (a b : Grammar) → TypesOf a old → TypesOf b new → t ≤ old.count → old.count ≤ t → (es : List Entry) × (entries ts b a 0 ≡ value es at) × (take t places ≡ places_of 0 es)
+  unfolding entries places_of
+  ended a b ta tb low h =
+      let done : drop t a ≡ [] = drop_of_length-le a {i = t} (omega (arith, ta.count_of)) in
+      let r : answer (entries ts b a 0) ≡ Ok at = l.rest a b ta tb ∙ rw done in
+      let u = answer_passed (entries ts b a 0) (Ok at) (sym r) refl in
+      let s = l.stored a b u.0 at ta tb u.1 in
+      let none = none_left ts b (drop t a) at s.0 at done s.1 in
+      (u.0, u.1, sym (append-nil (take t places)) ∙ last u.0 s.0 none s.2)
+    where
+      last : (es fs : List Entry) → [] ≡ fs → take t places ++ places_of at fs ≡ places_of 0 es → take t places ++ [] ≡ places_of 0 es
+      last es fs e h = rw (← e) at h
+
+  pub table_left : t ≤ old.count → old.count ≤ t → at < length ts → WholeRead old new ts (Err (60, at))
+  table_left low h o = λ a b ta tb. let u = ended a b ta tb low h in as_refused (whole_table ts b a 0) (table_over ts a b u.0 at u.1 o)
+
+  pub table_end : t ≤ old.count → old.count ≤ t → length ts ≤ at → t ≤ 64 → (table : Table) → table.words.now ≡ ts → table.places ≡ places → WholeRead old new ts (Ok table)
+  table_end low h o few table ew ep = λ a b ta tb.
+      let u = ended a b ta tb low h in
+      let whole = table_whole ts a b u.0 at u.1 o in
+      let read = table_read a b ts u.0 at whole in
+      rw whole (places_placed table u.0 (ew ∙ read.words) t (rw ep u.2) (rw ep (omega (arith, l.long))) (rw (ew, ep) l.clear))
+
+  module _ (more : t < old.count) (k : ℕ) (count : OfTypes old (λ g. k ≡ length (forms_of (kind_of g t)))) (c : Result ℕ (ℕ × ℕ)) (told : EntryRead new ts k at c) where
+    head_type : (a : Grammar) → TypesOf a old → drop t a ≡ kind_of a t ∷ drop (t + 1) a
+    unfolding kind_of
+    head_type a ta = drop_next a t (forms []) (omega (arith, ta.count_of))
+
+    fault_first : (a b : Grammar) {x : ℕ × ℕ} → TypesOf a old → entry ts b (kind_of a t) at ≡ refused x.0 x.1 → answer (entries ts b (drop t a) at) ≡ Err x
+    unfolding entries
+    fault_first a b ta e = rw (head_type a ta, e)
+
+    pub table_fault : {x : ℕ × ℕ} → c ≡ Err x → WholeRead old new ts (Err x)
+    table_fault {x} f = λ a b ta tb.
+        let e = answer_refused (entry ts b (kind_of a t) at) c (told b (kind_of a t) tb (count a ta)) f in
+        as_refused (whole_table ts b a 0) (table_refused ts a b (answer_refused (entries ts b a 0) (answer (entries ts b a 0)) refl (l.rest a b ta tb ∙ fault_first a b ta e)))
+
+    more_first : (a b : Grammar) (e : Entry) {next : ℕ} → TypesOf a old → entry ts b (kind_of a t) at ≡ value e next → entries ts b (drop t a) at ≡ and_then (entries ts b (drop (t + 1) a) next) (λ es. return (e ∷ es))
+    unfolding entries
+    more_first a b e ta h = rw (head_type a ta, h)
+
+    pub table_more : {next : ℕ} → c ≡ Ok next → t < 64 → TableLoop old new ts (set places t at) (t + 1) next
+    table_more {next} f low = record {
+      long = length-set places t at ∙ l.long;
+      clear = λ i h. get_or-set_other places t i at (length ts) (λ e. omega arith) ∙ l.clear i (omega arith);
+      rest = λ a b ta tb.
+          let u = answer_passed (entry ts b (kind_of a t) at) c (told b (kind_of a t) tb (count a ta)) f in
+          l.rest a b ta tb ∙ ap answer (more_first a b u.0 ta u.1) ∙ sym (answer_map (entries ts b (drop (t + 1) a) next) (λ es. u.0 ∷ es));
+      stored = λ a b es last ta tb e.
+          let u = answer_passed (entry ts b (kind_of a t) at) c (told b (kind_of a t) tb (count a ta)) f in
+          let s = l.stored a b es last ta tb e in
+          let v = then_value (entries ts b (drop (t + 1) a) next) (λ more. return (u.0 ∷ more)) (sym (more_first a b u.0 ta u.1) ∙ s.1) in
+          (v.0, cc (v.2, v.3), one_more u.0 v.0 s.0 es (entry_read ts b (kind_of a t) at u.0 next u.1).2 (cc v.3) s.2);
+    }
+      where
+        one_more : (e : Entry) (fs gs es : List Entry) → next ≡ at + suc (length e.numbers) → e ∷ fs ≡ gs → take t places ++ places_of at gs ≡ places_of 0 es → take (t + 1) (set places t at) ++ places_of next fs ≡ places_of 0 es
+        one_more e fs gs es en eg h = placed_one places t at e fs (omega (arith, l.long)) en ∙ (rw (← eg) at h)

@@ -1,25 +1,26 @@
--- The table's two readings as one, the slip read and written, and the outcome. Assumes nothing.
+-- The table read, the slip read and written, and the outcome. Assumes nothing.
 use Prim.Native.Nat.{ℕ, zero, suc, ◌+◌, ◌*◌, ◌<◌, ◌≤◌}
 use mathlib.Core.Path.{◌≡◌, refl, sym, ap, ◌∙◌}
 use mathlib.Core.List.{List, [], ◌∷◌, ◌++◌}
 use mathlib.Core.Bool.{Bool, true, false}
+use Rattle.std.proofs.Math.Logic.{∥∥₁_elim}
+use native.Mathlib.Bridge.{le_prop}
 use native.Mathlib.Omega.{arith}
-use lib.ListN.{length, get_or, take, drop, length-take}
+use lib.ListN.{length, take, drop}
 use lib.Seq.{take_at, drop_at, drop-drop}
-use lib.Dec.{eqb}
 use borrow.Author.Tests.{eq-eqb, ne_eqb, le-leb, lt-leb}
-use Rattle.words.specs.Reader.{Words, value, refused, accepted}
+use Rattle.std.specs.Prelude.{Result, Ok, Err}
+use Rattle.words.specs.Reader.{Words, Read, value, refused, accepted}
 use Rattle.words.specs.Views.{answer}
-use Rattle.words.specs.declared.Check.{Check}
-use Rattle.words.specs.declared.Check.TheVariants.{Passed, Refused}
-use Rattle.words.proofs.Laws.{answer_passed, answer_refused, answer_then, then_value, require_value}
+use Rattle.words.proofs.Laws.{answer_passed, answer_refused}
 use Rattle.grammar.specs.Grammar.{Grammar, read_grammar, grammar_fits}
 use Rattle.grammar.specs.Kinds.{kind_of, forms_of}
-use Rattle.tables.specs.Tables.{Tables, read_of}
-use Rattle.tables.proofs.Shown.{accepted_decoded, decoded_length}
+use Rattle.tables.specs.Tables.{read_of}
+use Rattle.tables.specs.Types.{TypesOf}
+use Rattle.tables.specs.declared.types.Types.{Types}
 use Rattle.tree.specs.Tree.{Tree, size}
 use Rattle.tree.specs.Slip.{counted, read_edition, in_edition}
-use Rattle.tree.specs.Views.{AreTables}
+use Rattle.tree.proofs.Reading.{some_types}
 use Rattle.tree.proofs.Trees.{trees_even}
 use Rattle.tree.proofs.Slip.{counted_length, slip_exactly}
 use Rattle.marks.specs.Marked.{marked}
@@ -27,11 +28,15 @@ use Rattle.marks.proofs.Marks.{marked_length}
 use Rattle.slips.specs.Slips.{SlipRead}
 use Rattle.convert.specs.Table.{Entry, whole_table, entry_of, type_to, types_fit, read_table, Fits}
 use Rattle.convert.specs.Conversion.{converted, Conversion, refused_by, or_refused, conversion_between, conversion, result_after, converted_as, Converts}
-use Rattle.convert.specs.Views.{Side, Shows, type_at, Placed, Numbered, WholeRead, TypesTested, TableRead, TableChecked, TreeConverted, nodes_in, SlipConverted}
-use Rattle.convert.specs.declared.Converted.{Converted}
-use Rattle.convert.specs.declared.Converted.TheVariants.{Filled, Refusal}
+use Rattle.convert.specs.Refusals.{blamed, passed}
+use Rattle.convert.specs.Views.{Shows, type_at, Placed, Numbered, ReadAs, WholeRead, TypesTested, TableRead, TableChecked, TreeConverted, nodes_in, SlipConverted}
+use Rattle.convert.specs.declared.refusal.AtFault.{AtFault}
+use Rattle.convert.specs.declared.refusal.AtFault.TheVariants.{Neither, Old, New}
+use Rattle.convert.specs.declared.refusal.ConversionRefusal.{ConversionRefusal}
+use Rattle.convert.specs.declared.side.Side.{Side}
+use Rattle.convert.specs.declared.table.Table.{Table}
 use Rattle.convert.proofs.Exactly.{table_exactly, EntriesNamed, none_named, one_named, fits_named, table_read}
-use Rattle.convert.proofs.Entries.{places_placed}
+use Rattle.convert.proofs.Entries.{as_refused}
 use Rattle.convert.proofs.Converting.{converted_size}
 
 -- AS MANY NUMBERS AS FORMS
@@ -59,102 +64,112 @@ both_root : (a b : Grammar) (ts : Words) (es : List Entry) (p : ℕ) → whole_t
 unfolding read_table
 both_root a b ts es p e h = rw (e, ne_eqb (type_to es 0) 0 h)
 
-both_types : (a b : Grammar) (ts : Words) (es : List Entry) (p : ℕ) → whole_table ts b a 0 ≡ value es p → type_to es 0 ≡ 0 → answer (types_fit b es a es 0) ≡ answer (read_table a b ts)
+both_misfit : (a b : Grammar) (ts : Words) (es : List Entry) (p : ℕ) {n q : ℕ} → whole_table ts b a 0 ≡ value es p → type_to es 0 ≡ 0 → types_fit b es a es 0 ≡ refused n q → read_table a b ts ≡ refused n q
 unfolding read_table
-both_types a b ts es p e h = rw (e, eq-eqb (type_to es 0) 0 h) (answer_then (types_fit b es a es 0) es)
+both_misfit a b ts es p e h m = rw (e, eq-eqb (type_to es 0) 0 h, m)
 
-both_read : (a b : Grammar) (ts : Words) (es : List Entry) (next : ℕ) → read_table a b ts ≡ value es next → (p : ℕ) × (whole_table ts b a 0 ≡ value es p)
+both_fit : (a b : Grammar) (ts : Words) (es : List Entry) (p : ℕ) {u : Unit {0}} {q : ℕ} → whole_table ts b a 0 ≡ value es p → type_to es 0 ≡ 0 → types_fit b es a es 0 ≡ value u q → read_table a b ts ≡ value es q
 unfolding read_table
-both_read a b ts es next h =
-    let u = then_value (whole_table ts b a 0) _ h in
-    let q = require_value (eqb (type_to u.0 0) 0) 61 0 0 _ u.3 in
-    let m = then_value (types_fit b u.0 a u.0 0) _ q.1 in
-    (u.1, cc (u.2, m.3))
+both_fit a b ts es p e h m = rw (e, eq-eqb (type_to es 0) 0 h, m)
 
-module _ (s s' : Side) {n n' : ℕ} {ts : Words} {places : List ℕ} {c : Check} (w : WholeRead s.heads s'.heads n n' ts places c) where
-  placed_so : (a b : Grammar) (es : List Entry) (p : ℕ) → Shows s a → Shows s' b → n ≡ length a → n' ≡ length b → whole_table ts b a 0 ≡ value es p → Placed ts (take n places) es
-  placed_so a b es p sa sb en en' e = places_placed ts (take n places) es (table_read a b ts es p e).words (w.placed a b es p sa.tables.heads_of sb.tables.heads_of en en' e)
+-- what was read where there is a table
+read_there : (q : Read (List Entry)) (table : Table) → ReadAs q (Ok table) → (es : List Entry) × (next : ℕ) × (q ≡ value es next) × Placed table es
+read_there (value es next) table h = (es, next, refl, h)
+read_there (refused n p) table h = absurd h
 
-  all_placed : (a b : Grammar) (es : List Entry) (next : ℕ) → Shows s a → Shows s' b → n ≡ length a → n' ≡ length b → read_table a b ts ≡ value es next → Placed ts (take n places) es
-  all_placed a b es next sa sb en en' e = let u = both_read a b ts es next e in placed_so a b es u.0 sa sb en en' u.1
+module _ (s s' : Side) (ts : Words) {c : Result Table (ℕ × ℕ)} (w : WholeRead s.types s'.types ts c) where
+  pub read_refused : {x : ℕ × ℕ} → c ≡ Err x → TableRead s s' ts (Err x)
+  read_refused {x} f = λ a b sa sb. go a b (whole_table ts b a 0) refl (rw f at (w a b sa.types sb.types))
+    where
+      go : (a b : Grammar) (q : Read (List Entry)) → whole_table ts b a 0 ≡ q → ReadAs q (Err x) → ReadAs (read_table a b ts) (Err x)
+      go a b (value es next) e h = absurd h
+      go a b (refused n p) e h = rw (both_refused a b ts e) h
 
-  whole_told : (a b : Grammar) → Shows s a → Shows s' b → n ≡ length a → n' ≡ length b → c ≡ answer (whole_table ts b a 0)
-  whole_told a b sa sb en en' = w.answered a b sa.tables.heads_of sb.tables.heads_of en en'
+  module _ {table : Table} (f : c ≡ Ok table) {root : ℕ} (found : root ≡ type_at table 0) where
+    whole : (a b : Grammar) → Shows s a → Shows s' b → (es : List Entry) × (next : ℕ) × (whole_table ts b a 0 ≡ value es next) × Placed table es
+    whole a b sa sb = read_there (whole_table ts b a 0) table (rw f at (w a b sa.types sb.types))
 
-  pub read_refused : {no' p : ℕ} → c ≡ Refused no' p → TableRead s s' n n' ts places (Refused no' p)
-  read_refused f = record { answered = λ a b sa sb en en'. sym (ap answer (both_refused a b ts (answer_refused (whole_table ts b a 0) c (whole_told a b sa sb en en') f))); placed = all_placed; long = w.long }
+    pub read_root : (root ≡ 0 → ⊥) → TableRead s s' ts (Err (61, 0))
+    read_root h = λ a b sa sb. let u = whole a b sa sb in as_refused (read_table a b ts) (both_root a b ts u.0 u.1 u.2 (λ z. h (found ∙ u.3.type 0 ∙ z)))
 
-  module _ {p : ℕ} (f : c ≡ Passed p) {i root : ℕ} (ei : i ≡ n) (found : root ≡ type_at ts (take i places) 0) where
-    er : root ≡ type_at ts (take n places) 0
-    er = found ∙ ap (λ j. type_at ts (take j places) 0) ei
+    module _ (h : root ≡ 0) {r : Result ℕ (ℕ × ℕ)} (tested : TypesTested s s' table r) where
+      fit : (a b : Grammar) (sa : Shows s a) (sb : Shows s' b) → let u = whole a b sa sb in r ≡ answer (types_fit b u.0 a u.0 0)
+      fit a b sa sb =
+          let u = whole a b sa sb in
+          let l = (table_read a b ts u.0 u.1 u.2).named_all in
+          tested a b u.0 sa sb (named_count l) u.3 (named_numbered l)
 
-    pub read_root : (root ≡ 0 → ⊥) → TableRead s s' n n' ts places (Refused 61 0)
-    read_root h = record {
-      answered = λ a b sa sb en en'.
-          let u = answer_passed (whole_table ts b a 0) c (whole_told a b sa sb en en') f in
-          let q = placed_so a b u.0 p sa sb en en' u.1 in
-          sym (ap answer (both_root a b ts u.0 p u.1 (λ z. h (er ∙ q.type 0 ∙ z))));
-      placed = all_placed;
-      long = w.long;
-    }
+      pub read_misfit : {x : ℕ × ℕ} → r ≡ Err x → TableRead s s' ts (Err x)
+      read_misfit g = λ a b sa sb.
+          let u = whole a b sa sb in
+          as_refused (read_table a b ts) (both_misfit a b ts u.0 u.1 u.2 (sym (u.3.type 0) ∙ sym found ∙ h) (answer_refused (types_fit b u.0 a u.0 0) r (fit a b sa sb) g))
 
-    pub read_types : root ≡ 0 → (r : Check) → TypesTested s s' n ts (take i places) r → TableRead s s' n n' ts places r
-    read_types h r tested = record {
-      answered = λ a b sa sb en en'.
-          let u = answer_passed (whole_table ts b a 0) c (whole_told a b sa sb en en') f in
-          let q = placed_so a b u.0 p sa sb en en' u.1 in
-          let l = (table_read a b ts u.0 p u.1).named_all in
-          let told : TypesTested s s' n ts (take n places) r = rw ei at tested in
-          told a b u.0 sa sb en (named_count l) q (named_numbered l) ∙ both_types a b ts u.0 p u.1 (sym (q.type 0) ∙ sym er ∙ h);
-      placed = all_placed;
-      long = w.long;
-    }
+      pub read_fits : {p : ℕ} → r ≡ Ok p → TableRead s s' ts (Ok table)
+      read_fits g = λ a b sa sb.
+          let u = whole a b sa sb in
+          rw (both_fit a b ts u.0 u.1 u.2 (sym (u.3.type 0) ∙ sym found ∙ h) (answer_passed (types_fit b u.0 a u.0 0) r (fit a b sa sb) g).1) u.3
 
 -- THE WHOLE CONVERSION
 
 -- a refusal, which leaves the result as it was
-refuses : {o : Conversion} {r : Words} {which n p : ℕ} → o ≡ refused_by which n p → Converts o r r (Refusal which n p)
+refuses : {o : Conversion} {r : Words} {which : AtFault} {n p : ℕ} → o ≡ refused_by which n p → Converts o r r (Err (blamed which (n, p)))
 unfolding converted_as result_after
 refuses e = record { answered = rw e; result = rw e }
 
+-- a reading that stops the conversion
+stopped : {A : Type 0} (which : AtFault) (q : Read A) {c : Result (Unit {0}) ConversionRefusal} → c ≡ passed which q → {x : ConversionRefusal} → c ≡ Err x → (q ≡ refused x.refusal.0 x.refusal.1) × (x ≡ blamed which x.refusal)
+stopped which (value a next) e h = let z = sym h ∙ e in cc
+stopped which (refused n p) e {x} h =
+    let same : x ≡ blamed which (n, p) = let z = sym h ∙ e in cc in
+    rw same (refl, refl)
+
+hands_on : {o : Conversion} {r : Words} {which : AtFault} {x : ConversionRefusal} → o ≡ refused_by which x.refusal.0 x.refusal.1 → x ≡ blamed which x.refusal → Converts o r r (Err x)
+unfolding converted_as result_after
+hands_on e h = record { answered = rw e (ap Err h); result = rw e }
+
+-- .. or that goes on
+went : {A : Type 0} (which : AtFault) (q : Read A) {c : Result (Unit {0}) ConversionRefusal} → c ≡ passed which q → {u : Unit {0}} → c ≡ Ok u → (a : A) × (next : ℕ) × (q ≡ value a next)
+went which (value a next) e h = (a, next, refl)
+went which (refused n p) e h = let z = sym e ∙ h in cc
+
+pub passes : (which : AtFault) (ws : Words) {c : Result (Unit {0}) ConversionRefusal} → c ≡ passed which (read_grammar ws) → {u : Unit {0}} → c ≡ Ok u → accepted (read_grammar ws) ≡ true
+passes which ws e h = ap accepted (went which (read_grammar ws) e h).2
+
 module _ (edition : Bool) (olds news ts ss r : Words) where
-  abbrev Whole : Words → Converted → Type 0
+  abbrev Whole : Words → Result ℕ ConversionRefusal → Type 0
   Whole r' x = Converts (conversion edition (length r) olds news ts ss) r r' x
 
-  pub whole_small : length r < 6144 → Whole r (Refusal 0 1 0)
+  pub whole_small : length r < 6144 → Whole r (Err (blamed Neither (1, 0)))
   unfolding conversion or_refused
   whole_small h = refuses (rw (lt-leb 6144 (length r) h))
 
-  module _ (room : 6144 ≤ length r) where
-    pub whole_old_long : 4096 < length olds → Whole r (Refusal 1 4 0)
-    unfolding conversion or_refused grammar_fits
-    whole_old_long h = refuses (rw (le-leb 6144 (length r) room, lt-leb (length olds) 4096 h))
+  module _ (room : 6144 ≤ length r) {c₁ : Result (Unit {0}) ConversionRefusal} (e₁ : c₁ ≡ passed Old (grammar_fits olds 0)) where
+    pub old_long : {x : ConversionRefusal} → c₁ ≡ Err x → Whole r (Err x)
+    unfolding conversion or_refused
+    old_long f = let z = stopped Old (grammar_fits olds 0) e₁ f in hands_on (rw (le-leb 6144 (length r) room, z.0)) z.1
 
-    module _ (few : length olds ≤ 4096) where
-      pub whole_new_long : 4096 < length news → Whole r (Refusal 2 4 0)
-      unfolding conversion or_refused grammar_fits
-      whole_new_long h = refuses (rw (le-leb 6144 (length r) room, le-leb (length olds) 4096 few, lt-leb (length news) 4096 h))
+    module _ {u₁ : Unit {0}} (f₁ : c₁ ≡ Ok u₁) {c₂ : Result (Unit {0}) ConversionRefusal} (e₂ : c₂ ≡ passed New (grammar_fits news 0)) where
+      pub new_long : {x : ConversionRefusal} → c₂ ≡ Err x → Whole r (Err x)
+      unfolding conversion or_refused
+      new_long f = let z = stopped New (grammar_fits news 0) e₂ f in hands_on (rw (le-leb 6144 (length r) room, (went Old (grammar_fits olds 0) e₁ f₁).2, z.0)) z.1
 
-      module _ (small : length news ≤ 4096) (c : Check) (ec : c ≡ answer (read_grammar olds)) where
-        pub whole_old : {no' p : ℕ} → c ≡ Refused no' p → Whole r (Refusal 1 no' p)
-        unfolding conversion or_refused grammar_fits
-        whole_old f = refuses (rw (le-leb 6144 (length r) room, le-leb (length olds) 4096 few, le-leb (length news) 4096 small, answer_refused (read_grammar olds) c ec f))
+      module _ {u₂ : Unit {0}} (f₂ : c₂ ≡ Ok u₂) {c₃ : Result (Unit {0}) ConversionRefusal} (e₃ : c₃ ≡ passed Old (read_grammar olds)) where
+        pub old_refused : {x : ConversionRefusal} → c₃ ≡ Err x → Whole r (Err x)
+        unfolding conversion or_refused
+        old_refused f = let z = stopped Old (read_grammar olds) e₃ f in hands_on (rw (le-leb 6144 (length r) room, (went Old (grammar_fits olds 0) e₁ f₁).2, (went New (grammar_fits news 0) e₂ f₂).2, z.0)) z.1
 
-        module _ {p : ℕ} (f : c ≡ Passed p) (d : Check) (ed : d ≡ answer (read_grammar news)) where
-          pub whole_new : {no' q : ℕ} → d ≡ Refused no' q → Whole r (Refusal 2 no' q)
-          unfolding conversion or_refused grammar_fits
-          whole_new g = refuses (rw (le-leb 6144 (length r) room, le-leb (length olds) 4096 few, le-leb (length news) 4096 small, (answer_passed (read_grammar olds) c ec f).1, answer_refused (read_grammar news) d ed g))
+        module _ {u₃ : Unit {0}} (f₃ : c₃ ≡ Ok u₃) {c₄ : Result (Unit {0}) ConversionRefusal} (e₄ : c₄ ≡ passed New (read_grammar news)) where
+          pub new_refused : {x : ConversionRefusal} → c₄ ≡ Err x → Whole r (Err x)
+          unfolding conversion or_refused
+          new_refused f = let z = stopped New (read_grammar news) e₄ f in hands_on (rw (le-leb 6144 (length r) room, (went Old (grammar_fits olds 0) e₁ f₁).2, (went New (grammar_fits news 0) e₂ f₂).2, (went Old (read_grammar olds) e₃ f₃).2, z.0)) z.1
 
-          pub whole_both : {q : ℕ} → d ≡ Passed q → (accepted (read_grammar olds) ≡ true) × (accepted (read_grammar news) ≡ true)
-          whole_both g = (ap accepted (answer_passed (read_grammar olds) c ec f).1, ap accepted (answer_passed (read_grammar news) d ed g).1)
-
-          pub whole_between : {q : ℕ} → d ≡ Passed q → (r' : Words) (x : Converted) → Converts (conversion_between edition (read_of (read_grammar olds)) (read_of (read_grammar news)) ts ss) r r' x → Whole r' x
-          unfolding conversion or_refused grammar_fits
-          whole_between g r' x o =
-              let e = (answer_passed (read_grammar olds) c ec f).1 in
-              let e' = (answer_passed (read_grammar news) d ed g).1 in
+          pub whole_between : {u : Unit {0}} → c₄ ≡ Ok u → {r' : Words} {x : Result ℕ ConversionRefusal} → Converts (conversion_between edition (read_of (read_grammar olds)) (read_of (read_grammar news)) ts ss) r r' x → Whole r' x
+          unfolding conversion or_refused
+          whole_between g o =
+              let e = (went Old (read_grammar olds) e₃ f₃).2 in
+              let e' = (went New (read_grammar news) e₄ g).2 in
               let z = rw (e, e') at o in
-              rw (le-leb 6144 (length r) room, le-leb (length olds) 4096 few, le-leb (length news) 4096 small, e, e') z
+              rw (le-leb 6144 (length r) room, (went Old (grammar_fits olds 0) e₁ f₁).2, (went New (grammar_fits news 0) e₂ f₂).2, e, e') z
 
 -- A SLIP
 
@@ -163,25 +178,25 @@ unfolding in_edition nodes_in
 nodes_of_lem true a ss ws e l = omega (arith, ap length e, counted_length a ws)
 nodes_of_lem false a ss ws e l = omega (arith, ap length e)
 
-module _ (edition : Bool) (ss heads rows : Words) {r r₁ : Words} (c : Check) (s : SlipRead (λ g. read_edition edition g ss) heads rows r r₁ c) (room : 6144 ≤ length r) where
-  pub slip_refused : {no' p : ℕ} → c ≡ Refused no' p → (ts : Words) (places : List ℕ) → SlipConverted heads rows ts places edition ss r r₁ (Refusal 0 no' p)
+module _ (edition : Bool) (ss : Words) {types : Types} (table : Table) {r r₁ : Words} {c : Result ℕ (ℕ × ℕ)} (s : SlipRead (λ g. read_edition edition g ss) types r r₁ c) (room : 6144 ≤ length r) where
+  pub slip_refused : {x : ℕ × ℕ} → c ≡ Err x → SlipConverted types table edition ss r r₁ (Err (blamed Neither x))
   unfolding or_refused
-  slip_refused f ts places = λ a b es ta p fits. rw (s.kept f) (refuses (rw (answer_refused (read_edition edition a ss) c (s.answered a ta) f)))
+  slip_refused f = λ a b es ta p fits. rw (s.kept f) (refuses (rw (answer_refused (read_edition edition a ss) c (s.answered a ta) f)))
 
-  module _ {p : ℕ} (f : c ≡ Passed p) where
-    tree_of : (a : Grammar) → Tables a heads rows → (ws : Words) × (read_edition edition a ss ≡ value ws p) × Tree a 0 ws × (length ws ≡ 2 * size ws) × (nodes_in edition (length ss) ≡ size ws)
+  module _ {p : ℕ} (f : c ≡ Ok p) where
+    tree_of : (a : Grammar) → TypesOf a types → (ws : Words) × (read_edition edition a ss ≡ value ws p) × Tree a 0 ws × (length ws ≡ 2 * size ws) × (nodes_in edition (length ss) ≡ size ws)
     tree_of a ta =
         let u = answer_passed (read_edition edition a ss) c (s.answered a ta) f in
         let x = (slip_exactly edition a ss u.0).sound (p, u.1) in
         let l = trees_even x.0.typed in
         (u.0, u.1, x.0, l, nodes_of_lem edition a ss u.0 x.1 l)
 
-    pub slip_few : AreTables heads rows → nodes_in edition (length ss) ≤ 2048
-    slip_few t = let u = tree_of t.0 t.1 in omega (arith, u.2.nodes, u.4)
+    pub slip_few : nodes_in edition (length ss) ≤ 2048
+    slip_few = ∥∥₁_elim (some_types types) le_prop (λ t. let u = tree_of t.0 t.1 in omega (arith, u.2.nodes, u.4))
 
-    pub slip_done : (n : ℕ) → n ≡ nodes_in edition (length ss) → (ts : Words) (places : List ℕ) (r' : Words) → TreeConverted heads ts places n r₁ r' → SlipConverted heads rows ts places edition ss r r' (Filled (3 * n))
+    pub slip_done : {n : ℕ} → n ≡ nodes_in edition (length ss) → {r' : Words} → TreeConverted types table n r₁ r' → SlipConverted types table edition ss r r' (Ok (3 * n))
     unfolding or_refused converted_as result_after
-    slip_done n en ts places r' t = λ a b es ta p fits.
+    slip_done {n} en {r'} t = λ a b es ta p fits.
         let u = tree_of a ta in
         let ws = u.0 in
         let out = counted b (converted a es ws) in
@@ -193,36 +208,22 @@ module _ (edition : Bool) (ss heads rows : Words) {r r₁ : Words} (c : Check) (
         let three : 2 * n + n ≡ 3 * n = omega arith in
         let behind : drop (3 * n) r₁ ≡ drop (3 * n) r = ap (λ k. drop k r₁) (sym three) ∙ sym (drop-drop n (2 * n) r₁) ∙ ap (drop n) back ∙ drop-drop n (2 * n) r ∙ ap (λ k. drop k r) three in
         let long : 3 * n ≡ length out = omega (arith, count, counted_length b (converted a es ws), converted_size a es ws) in
-        let w = t.words a b es (0 ∷ []) ws ta.heads_of p fits u.2.typed u.2.nodes count front in
-        record { answered = rw u.1 (ap Filled long); result = rw u.1 (w ∙ ap (λ l. out ++ l) behind ∙ ap (λ k. out ++ drop k r) long) }
-
--- the places of the types
-pub places_part : (i n : ℕ) (l : List ℕ) → length l ≡ 64 → i ≡ n → n ≤ 64 → i ≡ length (take i l)
-places_part i n l e ei h = omega (arith, length-take i l)
+        let w = t.words a b es (0 ∷ []) ws ta p fits u.2.typed u.2.nodes count front in
+        record { answered = rw u.1 (ap Ok long); result = rw u.1 (w ∙ ap (λ l. out ++ l) behind ∙ ap (λ k. out ++ drop k r) long) }
 
 -- BETWEEN TWO GRAMMARS
 
-pub few_types : (ws : Words) → accepted (read_grammar ws) ≡ true → (n : ℕ) → n ≡ get_or ws 0 0 → (n ≤ 64) × (n ≡ length (read_of (read_grammar ws)))
-few_types ws a n e = let d = accepted_decoded ws a in (omega (arith, e, d.high), e ∙ sym (decoded_length ws (read_of (read_grammar ws)) d))
-
-pub table_checked : {s s' : Side} {n n' : ℕ} {ts : Words} {places : List ℕ} {r : Check} (a b : Grammar) → TableRead s s' n n' ts places r → Shows s a → Shows s' b → n ≡ length a → n' ≡ length b → TableChecked a b ts places r
-table_checked {places = places} a b read sa sb en en' =
-    record { answered = read.answered a b sa sb en en'; placed = λ es next e. rw en at (read.placed a b es next sa sb en en' e); long = read.long }
-
-module _ (edition : Bool) (a b : Grammar) {ts : Words} (ss r : Words) {places : List ℕ} {c : Check} (read : TableChecked a b ts places c) where
-  pub between_refused : {no' p : ℕ} → c ≡ Refused no' p → Converts (conversion_between edition a b ts ss) r r (Refusal 0 no' p)
+module _ (edition : Bool) {s : Side} {a : Grammar} (b : Grammar) (sa : Shows s a) (ts ss : Words) {r : Words} {c : Result Table (ℕ × ℕ)} (read : TableChecked s b ts c) where
+  pub between_refused : {x : ℕ × ℕ} → c ≡ Err x → Converts (conversion_between edition a b ts ss) r r (Err (blamed Neither x))
   unfolding conversion_between or_refused
-  between_refused f = refuses (rw (answer_refused (read_table a b ts) c read.answered f))
+  between_refused {x} f = go (read_table a b ts) refl (rw f at (read a sa))
+    where
+      go : (q : Read (List Entry)) → read_table a b ts ≡ q → ReadAs q (Err x) → Converts (conversion_between edition a b ts ss) r r (Err (blamed Neither x))
+      go (value es next) e h = absurd h
+      go (refused n p) e h = rw h (refuses (rw e))
 
-  pub between_done : {p : ℕ} → c ≡ Passed p → (heads rows : Words) → Tables a heads rows → (n : ℕ) → n ≡ length a → (r' : Words) (x : Converted) → SlipConverted heads rows ts (take n places) edition ss r r' x → Converts (conversion_between edition a b ts ss) r r' x
+  pub between_done : {table : Table} → c ≡ Ok table → {r' : Words} {x : Result ℕ ConversionRefusal} → SlipConverted s.types table edition ss r r' x → Converts (conversion_between edition a b ts ss) r r' x
   unfolding conversion_between or_refused
-  between_done {p} f heads rows t n en r' x slip =
-      let u = answer_passed (read_table a b ts) c read.answered f in
-      let fits = ((table_exactly a b ts u.0).sound p u.1).1 in
-      let there : Placed ts (take n places) u.0 = rw en (read.placed u.0 p u.1) in
-      rw u.1 (slip a b u.0 t there fits)
-
--- THE PARTS THAT ARE HANDED ON
-
-pub handed_on : (heads ts : Words) (places : List ℕ) (nodes : ℕ) (r r' : Words) (i n : ℕ) → i ≡ n → TreeConverted heads ts (take i places) nodes r r' → TreeConverted heads ts (take n places) nodes r r'
-handed_on heads ts places nodes r r' i n e t = rw e at t
+  between_done {table} f slip =
+      let u = read_there (read_table a b ts) table (rw f at (read a sa)) in
+      rw u.2 (slip a b u.0 sa.types u.3 ((table_exactly a b ts u.0).sound u.1 u.2).1)

@@ -10,7 +10,7 @@ use lib.Seq.{sets}
 use lib.Dec.{ltb}
 use borrow.Author.Tests.{ltb-true, ltb-false}
 use Rattle.words.specs.Reader.{Words, value, many, accepted}
-use Rattle.words.proofs.Laws.{accepted_value, many_none, many_suc}
+use Rattle.words.proofs.Laws.{accepted_value, many_done, many_suc}
 use Rattle.words.proofs.Stretches.{get_d_map}
 use Rattle.words.proofs.Sets.{get_d_above, get_d_within}
 use Rattle.grammar.specs.Grammar.{Kind, forms, Grammar, element, form, kind, read_grammar}
@@ -34,34 +34,34 @@ elements_next ws n (suc k) p es next e =
     let a = element_at ws n p u.3 in
     omega (arith, a.after, elements_next ws n k u.1 u.2 next u.4)
 
--- left forms are still to come
-pub record FormsWalk (ws : Words) (k start left at : ℕ) : Type 0 where
+-- i forms have been passed
+pub record FormsWalk (ws : Words) (k start i at : ℕ) : Type 0 where
   pub rest : List (List ℕ)
-  pub reads : many left (form ws (type_count ws)) at ≡ value rest (next_of (many k (form ws (type_count ws)) start))
+  pub reads : many (k - i) (form ws (type_count ws)) at ≡ value rest (next_of (many k (form ws (type_count ws)) start))
 
-pub walk_start : (ws : Words) (k start : ℕ) → accepted (many k (form ws (type_count ws)) start) ≡ true → FormsWalk ws k start k start
-walk_start ws k start a = let u = accepted_value (many k (form ws (type_count ws)) start) a in record { rest = u.0; reads = u.2 ∙ ap (value u.0) (sym (ap next_of u.2)) }
+pub walk_start : (ws : Words) (k start : ℕ) → accepted (many k (form ws (type_count ws)) start) ≡ true → FormsWalk ws k start 0 start
+walk_start ws k start a = let u = accepted_value (many k (form ws (type_count ws)) start) a in let z : k - 0 ≡ k = omega arith in record { rest = u.0; reads = rw z u.2 ∙ ap (value u.0) (sym (ap next_of u.2)) }
 
-module _ (ws : Words) (k start left at : ℕ) (w : FormsWalk ws k start left at) where
-  pub walk_end : left ≤ 0 → at ≡ next_of (many k (form ws (type_count ws)) start)
-  walk_end h = let z : value [] at ≡ value w.rest (next_of (many k (form ws (type_count ws)) start)) = sym (many_none (form ws (type_count ws)) left at h) ∙ w.reads in cc z
+module _ {ws : Words} {k start i at : ℕ} (w : FormsWalk ws k start i at) where
+  pub walk_end : k ≤ i → at ≡ next_of (many k (form ws (type_count ws)) start)
+  walk_end h = let z : value [] at ≡ value w.rest (next_of (many k (form ws (type_count ws)) start)) = sym (many_done (form ws (type_count ws)) k i at h) ∙ w.reads in cc z
 
-  module _ (more : 0 < left) where
-    walked : (f : List ℕ) × (p : ℕ) × (fs : List (List ℕ)) × (form ws (type_count ws) at ≡ value f p) × (many (left - 1) (form ws (type_count ws)) p ≡ value fs (next_of (many k (form ws (type_count ws)) start)))
+  module _ (more : i < k) where
+    walked : (f : List ℕ) × (p : ℕ) × (fs : List (List ℕ)) × (form ws (type_count ws) at ≡ value f p) × (many (k - (i + 1)) (form ws (type_count ws)) p ≡ value fs (next_of (many k (form ws (type_count ws)) start)))
     walked =
-        let z : suc (left - 1) ≡ left = omega arith in
-        let u = many_suc (form ws (type_count ws)) (left - 1) at (ap (λ i. many i (form ws (type_count ws)) at) z ∙ w.reads) in
+        let z : suc (k - (i + 1)) ≡ k - i = omega arith in
+        let u = many_suc (form ws (type_count ws)) (k - (i + 1)) at (ap (λ j. many j (form ws (type_count ws)) at) z ∙ w.reads) in
         (u.0, u.1, u.2, u.3, u.4)
 
-    pub walk_inside : (x : ℕ) → x ≡ get_or ws at 0 → (at < length ws) × (x ≤ 8)
-    walk_inside x e = let f = form_at_lem ws (type_count ws) at walked.3 in (f.inside, omega (arith, f.few))
+    pub walk_inside : {x : ℕ} → x ≡ get_or ws at 0 → (at < length ws) × (x ≤ 8)
+    walk_inside e = let f = form_at_lem ws (type_count ws) at walked.3 in (f.inside, omega (arith, f.few))
 
-    pub walk_more : (x y : ℕ) → x ≡ get_or ws at 0 → y ≡ x → FormsWalk ws k start (left - 1) (at + 1 + y)
-    walk_more x y e f =
+    pub walk_more : {x : ℕ} → x ≡ get_or ws at 0 → FormsWalk ws k start (i + 1) (at + (1 + x))
+    walk_more {x} e =
         let u = walked in
         let a = form_at_lem ws (type_count ws) at u.3 in
-        let n : u.1 ≡ at + 1 + y = elements_next ws (type_count ws) (get_or ws at 0) (at + 1) a.elements u.1 a.reads ∙ ap (λ i. at + 1 + i) (sym (f ∙ e)) in
-        record { rest = u.2; reads = ap (many (left - 1) (form ws (type_count ws))) (sym n) ∙ u.4 }
+        let n : u.1 ≡ at + (1 + x) = omega (arith, elements_next ws (type_count ws) (get_or ws at 0) (at + 1) a.elements u.1 a.reads) in
+        record { rest = u.2; reads = ap (many (k - (i + 1)) (form ws (type_count ws))) (sym n) ∙ u.4 }
 
 -- A RECORD
 
@@ -116,19 +116,18 @@ module _ (ws : Words) (at : ℕ) (a : accepted (kind ws (type_count ws) at) ≡ 
 -- ALL RECORDS
 
 -- the classes of the first t types are there
-pub record ClassLoop (ws : Words) (cs : Words) (left t at : ℕ) : Type 0 where
+pub record ClassLoop (ws : Words) (cs : Words) (t at : ℕ) : Type 0 where
   pub rest : Grammar
   pub end : ℕ
-  pub reads : many left (kind ws (type_count ws)) at ≡ value rest end
+  pub reads : many (type_count ws - t) (kind ws (type_count ws)) at ≡ value rest end
   pub stored : sets cs t (map class_of rest) ≡ sets (replicate 64 0) 0 (map class_of (read_of (read_grammar ws)))
-  pub count : t + left ≡ type_count ws
-  pub few : type_count ws ≤ 64
-  pub types : length (read_of (read_grammar ws)) ≤ 64
 
-pub class_start : (ws : Words) → accepted (read_grammar ws) ≡ true → (left : ℕ) → left ≡ get_or ws 0 0 → ClassLoop ws (replicate 64 0) left 0 1
-class_start ws a left e =
-    let d = accepted_decoded ws a in
-    record { rest = read_of (read_grammar ws); end = d.next; reads = ap (λ i. many i (kind ws (type_count ws)) 1) e ∙ d.records; stored = refl; count = omega (arith, e); few = d.high; types = omega (arith, decoded_length ws (read_of (read_grammar ws)) d, d.high) }
+-- a grammar has at most 64 types
+pub few_types : (ws : Words) → accepted (read_grammar ws) ≡ true → type_count ws ≤ 64
+few_types ws a = (accepted_decoded ws a).high
+
+pub class_start : {ws : Words} → accepted (read_grammar ws) ≡ true → ClassLoop ws (replicate 64 0) 0 1
+class_start {ws} a = let d = accepted_decoded ws a in let z : type_count ws - 0 ≡ type_count ws = omega arith in record { rest = read_of (read_grammar ws); end = d.next; reads = rw z d.records; stored = refl }
 
 one_class : (cs : Words) (t x : ℕ) (k : Kind) (ks : Grammar) → x ≡ class_of k → sets (set cs t x) (t + 1) (map class_of ks) ≡ sets cs t (map class_of (k ∷ ks))
 one_class cs t x k ks e = rw (e, add-one t)
@@ -137,22 +136,19 @@ no_type : (g : Grammar) (t : ℕ) → length g ≤ t → 0 ≡ class_of (kind_of
 unfolding class_of
 no_type g t h = rw (no_kind g t h)
 
-module _ (ws cs : Words) (left t at : ℕ) (l : ClassLoop ws cs left t at) where
-  pub class_end : left ≤ 0 → Classes (read_of (read_grammar ws)) cs
+module _ {ws cs : Words} {t at : ℕ} (l : ClassLoop ws cs t at) (passes : accepted (read_grammar ws) ≡ true) where
+  pub class_end : type_count ws ≤ t → Classes (read_of (read_grammar ws)) cs
   unfolding kind_of
   class_end h = record { class = λ i. found i (ltb i (length g)) refl }
     where
       g : Grammar
       g = read_of (read_grammar ws)
 
-      few_types : length g ≤ 64
-      few_types = l.types
-
       long : length (map class_of g) ≤ 64
-      long = omega (arith, length-map g class_of, few_types)
+      long = let d = accepted_decoded ws passes in omega (arith, length-map g class_of, decoded_length ws g d, d.high)
 
       none : [] ≡ l.rest
-      none = let z : value [] at ≡ value l.rest l.end = sym (many_none (kind ws (type_count ws)) left at h) ∙ l.reads in cc z
+      none = let z : value [] at ≡ value l.rest l.end = sym (many_done (kind ws (type_count ws)) (type_count ws) t at h) ∙ l.reads in cc z
 
       all : cs ≡ sets (replicate 64 0) 0 (map class_of g)
       all = ap (λ k. sets cs t (map class_of k)) none ∙ l.stored
@@ -166,27 +162,24 @@ module _ (ws cs : Words) (left t at : ℕ) (l : ClassLoop ws cs left t at) where
           let high = ltb-false i (length g) e in
           ap (λ k. get_or k i 0) all ∙ get_d_above (replicate 64 0) 0 i (map class_of g) (omega (arith, length-map g class_of)) ∙ zeros_clear 64 i ∙ no_type g i high
 
-  module _ (more : 0 < left) where
-    first_record : (k : Kind) × (p : ℕ) × (ks : Grammar) × (kind ws (type_count ws) at ≡ value k p) × (many (left - 1) (kind ws (type_count ws)) p ≡ value ks l.end) × (l.rest ≡ k ∷ ks)
+  module _ (more : t < type_count ws) where
+    first_record : (k : Kind) × (p : ℕ) × (ks : Grammar) × (kind ws (type_count ws) at ≡ value k p) × (many (type_count ws - (t + 1)) (kind ws (type_count ws)) p ≡ value ks l.end) × (l.rest ≡ k ∷ ks)
     first_record =
-        let z : suc (left - 1) ≡ left = omega arith in
-        let u = many_suc (kind ws (type_count ws)) (left - 1) at (ap (λ i. many i (kind ws (type_count ws)) at) z ∙ l.reads) in
+        let z : suc (type_count ws - (t + 1)) ≡ type_count ws - t = omega arith in
+        let u = many_suc (kind ws (type_count ws)) (type_count ws - (t + 1)) at (ap (λ i. many i (kind ws (type_count ws)) at) z ∙ l.reads) in
         (u.0, u.1, u.2, u.3, u.4, u.5)
 
     pub class_record : accepted (kind ws (type_count ws) at) ≡ true
     class_record = ap accepted first_record.3
 
-    pub class_more : (x r : ℕ) → x ≡ class_of (kind_read (kind ws (type_count ws) at)) → r ≡ next_of (kind ws (type_count ws) at) → ClassLoop ws (set cs t x) (left - 1) (t + 1) r
-    class_more x r ex er =
+    pub class_more : {x r : ℕ} → x ≡ class_of (kind_read (kind ws (type_count ws) at)) → r ≡ next_of (kind ws (type_count ws) at) → ClassLoop ws (set cs t x) (t + 1) r
+    class_more {x} {r} ex er =
         let u = first_record in
         let n : r ≡ u.1 = er ∙ ap next_of u.3 in
         let c : x ≡ class_of u.0 = ex ∙ ap (λ q. class_of (kind_read q)) u.3 in
         record {
           rest = u.2;
           end = l.end;
-          reads = ap (many (left - 1) (kind ws (type_count ws))) n ∙ u.4;
+          reads = ap (many (type_count ws - (t + 1)) (kind ws (type_count ws))) n ∙ u.4;
           stored = one_class cs t x u.0 u.2 c ∙ sym (ap (λ k. sets cs t (map class_of k)) u.5) ∙ l.stored;
-          count = omega (arith, l.count);
-          few = l.few;
-          types = l.types;
         }

@@ -15,6 +15,8 @@ use Rattle.tree.specs.Limits.{most_slip_words}
 use Rattle.tree.specs.Tree.{Tree, nesting}
 use Rattle.tree.specs.Slip.{counted, read_edition, in_edition, check_slip}
 use Rattle.tree.proofs.Slip.{slip_exactly}
+use Rattle.convert.specs.declared.refusal.AtFault.{AtFault}
+use Rattle.convert.specs.declared.refusal.AtFault.TheVariants.{Neither, Old, New}
 use Rattle.convert.specs.Table.{Entry, read_table, Fits, written}
 use Rattle.convert.specs.Conversion.{converted, Conversion, converted_to, or_refused, conversion_between, conversion, Convertible, BecomesSlip, ConvertedFrom, ConvertsExactly}
 use Rattle.convert.proofs.Exactly.{table_exactly}
@@ -22,7 +24,7 @@ use Rattle.convert.proofs.Converting.{converts, converted_size, nesting_converts
 
 -- WHAT WAS READ on the way
 
-went_on : {A : Type 0} (which : ℕ) (q : Read A) (f : A → Conversion) {ws : Words} → or_refused which q f ≡ converted_to ws → (x : A) × (next : ℕ) × (q ≡ value x next) × (f x ≡ converted_to ws)
+went_on : {A : Type 0} (which : AtFault) (q : Read A) (f : A → Conversion) {ws : Words} → or_refused which q f ≡ converted_to ws → (x : A) × (next : ℕ) × (q ≡ value x next) × (f x ≡ converted_to ws)
 unfolding or_refused
 went_on which (value x next) f e = (x, next, refl, e)
 went_on which (refused n p) f e = let z : ◌≡◌ {A = ℕ} 0 1 = cc in absurd (omega arith)
@@ -74,18 +76,18 @@ module _ (edition : Bool) (n : ℕ) (olds news ts ss ws : Words) where
   by_table : (a b : Grammar) (p q : ℕ) → most_slip_words ≤ n → check_grammar olds ≡ value a p → check_grammar news ≡ value b q → conversion_between edition a b ts ss ≡ converted_to ws → ConvertedFrom edition n olds news ts ss ws
   unfolding conversion_between
   by_table a b p q big old new h =
-      let t = went_on 0 (read_table a b ts) _ h in
-      let s = went_on 0 (read_edition edition a ss) _ t.3 in
+      let t = went_on Neither (read_table a b ts) _ h in
+      let s = went_on Neither (read_edition edition a ss) _ t.3 in
       by_tree a b t.0 s.0 p q big old new ((table_exactly a b ts t.0).sound t.1 t.2) ((slip_exactly edition a ss s.0).sound (s.1, s.2)) s.3
 
   found : conversion edition n olds news ts ss ≡ converted_to ws → ConvertedFrom edition n olds news ts ss ws
   unfolding conversion
   found h =
-      let r = went_on 0 (require (leb most_slip_words n) 1 0 0) _ h in
-      let la = went_on 1 (grammar_fits olds 0) _ r.3 in
-      let lb = went_on 2 (grammar_fits news 0) _ la.3 in
-      let a = went_on 1 (read_grammar olds) _ lb.3 in
-      let b = went_on 2 (read_grammar news) _ a.3 in
+      let r = went_on Neither (require (leb most_slip_words n) 1 0 0) _ h in
+      let la = went_on Old (grammar_fits olds 0) _ r.3 in
+      let lb = went_on New (grammar_fits news 0) _ la.3 in
+      let a = went_on Old (read_grammar olds) _ lb.3 in
+      let b = went_on New (read_grammar news) _ a.3 in
       by_table a.0 b.0 a.1 b.1 (room n r.2) (checked olds a.0 a.1 la.2 a.2) (checked news b.0 b.1 lb.2 b.2) b.3
 
   made : (a b : Grammar) (es : List Entry) (tree : Words) → most_slip_words ≤ n → Convertible edition olds news ts ss a b es tree → ws ≡ counted b (converted a es tree) → conversion edition n olds news ts ss ≡ converted_to ws

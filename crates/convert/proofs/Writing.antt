@@ -10,7 +10,8 @@ use borrow.Author.Tests.{eq-eqb, ne_eqb, ltb-true}
 use Rattle.words.specs.Reader.{Words}
 use Rattle.grammar.specs.Grammar.{Kind, token, opt, sequence, forms, Grammar}
 use Rattle.grammar.specs.Kinds.{kind_of, allows, allowed, forms_of}
-use Rattle.tables.specs.Tables.{Heads}
+use Rattle.tables.specs.Types.{TypesOf, OfTypes}
+use Rattle.tables.specs.declared.types.Types.{Types}
 use Rattle.tables.proofs.Filling.{style_map}
 use Rattle.tree.specs.Tree.{Trees, none, node, size, first_tree}
 use Rattle.tree.specs.Slip.{counted}
@@ -19,6 +20,7 @@ use Rattle.marks.specs.Marked.{type_in, size_in, marked}
 use Rattle.slips.proofs.Counts.{mark_says, drop_three}
 use Rattle.convert.specs.Table.{Entry, type_to, bit_of, Fits}
 use Rattle.convert.specs.Conversion.{value_to, converted}
+use Rattle.convert.specs.declared.table.Table.{Table}
 use Rattle.convert.specs.Views.{form_at, type_at, Placed, Numbered, ValueMade, TreeConverted, nodes_in}
 use Rattle.convert.proofs.Converting.{first_converts, converted_size}
 
@@ -32,14 +34,14 @@ formed (opt f) v e h = absurd (omega arith)
 formed (sequence style f) v e h = absurd ((style_map style).1 e)
 formed (forms fs) v e h = ltb-true v (length fs) h
 
-module _ (heads ts : Words) (places : List ℕ) (t v k : ℕ) (ek : (g : Grammar) → Heads g heads → k ≡ bit_of (kind_of g t)) where
-  pub value_form : k ≡ 8 → (r : ℕ) → r ≡ form_at ts places t v → ValueMade heads ts places t v r
+module _ {types : Types} (table : Table) (t v : ℕ) {k : ℕ} (ek : OfTypes types (λ g. k ≡ bit_of (kind_of g t))) where
+  pub value_form : k ≡ 8 → {r : ℕ} → r ≡ form_at table t v → ValueMade types table t v r
   unfolding allowed value_to
-  value_form h r er = λ a es ha p q fine.
+  value_form h er = λ a es ha p q fine.
       let bit : bit_of (kind_of a t) ≡ 8 = sym (ek a ha) ∙ h in
       er ∙ p.form t v (omega (arith, q t, formed (kind_of a t) v bit fine)) ∙ rw (eq-eqb (bit_of (kind_of a t)) 8 bit)
 
-  pub value_kept : (k ≡ 8 → ⊥) → ValueMade heads ts places t v v
+  pub value_kept : (k ≡ 8 → ⊥) → ValueMade types table t v v
   unfolding value_to
   value_kept h = λ a es ha p q fine. rw (ne_eqb (bit_of (kind_of a t)) 8 (λ e. h (ek a ha ∙ e)))
 
@@ -87,9 +89,9 @@ three_set (a ∷ b ∷ c ∷ r) (suc k) x y z h =
     rw (e₁, e₂, e₃) (three_set (b ∷ c ∷ r) k x y z (omega arith))
 
 -- what is written, of what
-pub record Writes (heads ts : Words) (places : List ℕ) (n : ℕ) (r : Words) (a b : Grammar) (es : List Entry) (us : List ℕ) (ws : Words) : Type 0 where
-  pub heads_a : Heads a heads
-  pub placed : Placed ts places es
+pub record Writes (types : Types) (table : Table) (n : ℕ) (r : Words) (a b : Grammar) (es : List Entry) (us : List ℕ) (ws : Words) : Type 0 where
+  pub types_a : TypesOf a types
+  pub placed : Placed table es
   pub fits : Fits a b es
   pub numbered : Numbered a es
   pub trees : Trees a us ws
@@ -98,30 +100,30 @@ pub record Writes (heads ts : Words) (places : List ℕ) (n : ℕ) (r : Words) (
   pub stands : take (2 * n) r ≡ marked a ws
 
 -- the first i nodes are still marked, those behind them are written
-pub record WriteLoop (heads ts : Words) (places : List ℕ) (n : ℕ) (r₀ r : Words) (i : ℕ) : Type 0 where
+pub record WriteLoop (types : Types) (table : Table) (n : ℕ) (r₀ r : Words) (i : ℕ) : Type 0 where
   pub inside : i ≤ n
   pub long : length r ≡ length r₀
   pub kept : take (2 * i) r ≡ take (2 * i) r₀
-  pub words : (a b : Grammar) (es : List Entry) (us : List ℕ) (ws : Words) → Writes heads ts places n r₀ a b es us ws → drop (3 * i) r ≡ drop (3 * i) (counted b (converted a es ws)) ++ drop (3 * n) r₀
+  pub words : (a b : Grammar) (es : List Entry) (us : List ℕ) (ws : Words) → Writes types table n r₀ a b es us ws → drop (3 * i) r ≡ drop (3 * i) (counted b (converted a es ws)) ++ drop (3 * n) r₀
 
 out_length : (a b : Grammar) (es : List Entry) (ws : Words) → length (counted b (converted a es ws)) ≡ 3 * size ws
 out_length a b es ws = counted_length b (converted a es ws) ∙ ap (λ n. 3 * n) (converted_size a es ws)
 
-pub write_start : (heads ts : Words) (places : List ℕ) (n : ℕ) (r₀ : Words) → WriteLoop heads ts places n r₀ r₀ n
-write_start heads ts places n r₀ = record {
+pub write_start : (types : Types) (table : Table) (n : ℕ) (r₀ : Words) → WriteLoop types table n r₀ r₀ n
+write_start types table n r₀ = record {
   inside = omega arith;
   long = refl;
   kept = refl;
   words = λ a b es us ws w. sym (ap (λ l. l ++ drop (3 * n) r₀) (drop_of_length-le (counted b (converted a es ws)) {i = 3 * n} (omega (arith, out_length a b es ws, w.count))));
 }
 
-module _ {heads ts : Words} {places : List ℕ} {n : ℕ} {r₀ r : Words} {i : ℕ} (l : WriteLoop heads ts places n r₀ r i) (room : 3 * n ≤ length r₀) where
-  pub write_end : i ≤ 0 → ((a b : Grammar) (es : List Entry) → Fits a b es → Numbered a es) → TreeConverted heads ts places n r₀ r
+module _ {types : Types} {table : Table} {n : ℕ} {r₀ r : Words} {i : ℕ} (l : WriteLoop types table n r₀ r i) (room : 3 * n ≤ length r₀) where
+  pub write_end : i ≤ 0 → ((a b : Grammar) (es : List Entry) → Fits a b es → Numbered a es) → TreeConverted types table n r₀ r
   write_end h numbered = record {
     long = l.long;
     words = λ a b es us ws ha p f q s e there.
         let z : 3 * i ≡ 0 = omega arith in
-        rw z at (l.words a b es us ws (record { heads_a = ha; placed = p; fits = f; numbered = numbered a b es f; trees = q; few = s; count = e; stands = there }));
+        rw z at (l.words a b es us ws (record { types_a = ha; placed = p; fits = f; numbered = numbered a b es f; trees = q; few = s; count = e; stands = there }));
   }
 
   module _ (more : 0 < i) (j : ℕ) (ej : j ≡ i - 1) where
@@ -129,15 +131,15 @@ module _ {heads ts : Words} {places : List ℕ} {n : ℕ} {r₀ r : Words} {i : 
     same_word : (k : ℕ) → k < 2 * i → get_or r k 0 ≡ get_or r₀ k 0
     same_word k h = sym (get_or-take (2 * i) r k 0 h) ∙ ap (λ m. get_or m k 0) l.kept ∙ get_or-take (2 * i) r₀ k 0 h
 
-    module _ (a b : Grammar) (es : List Entry) (us : List ℕ) (ws : Words) (w : Writes heads ts places n r₀ a b es us ws) where
+    module _ (a b : Grammar) (es : List Entry) (us : List ℕ) (ws : Words) (w : Writes types table n r₀ a b es us ws) where
       marked_word : (k : ℕ) → k < 2 * i → get_or r k 0 ≡ get_or (marked a ws) k 0
       marked_word k h = same_word k h ∙ sym (get_or-take (2 * n) r₀ k 0 (omega (arith, l.inside))) ∙ ap (λ m. get_or m k 0) w.stands
 
       node_here : NodeThere a b es (marked a ws) (counted b (converted a es ws)) j
-      node_here = node_there w.fits w.heads_a.types w.few w.trees j (omega (arith, l.inside, w.count))
+      node_here = node_there w.fits w.types_a.heads_of.types w.few w.trees j (omega (arith, l.inside, w.count))
 
-    pub write_more : (t m v c : ℕ) → t ≡ type_in (get_or r (2 * j) 0) → m ≡ type_at ts places t → ValueMade heads ts places t (get_or r (2 * j + 1) 0) v → c ≡ size_in (get_or r (2 * j) 0)
-        → WriteLoop heads ts places n r₀ (set (set (set r (3 * j) m) (3 * j + 1) v) (3 * j + 2) c) j
+    pub write_more : (t m v c : ℕ) → t ≡ type_in (get_or r (2 * j) 0) → m ≡ type_at table t → ValueMade types table t (get_or r (2 * j + 1) 0) v → c ≡ size_in (get_or r (2 * j) 0)
+        → WriteLoop types table n r₀ (set (set (set r (3 * j) m) (3 * j + 1) v) (3 * j + 2) c) j
     write_more t m v c et em ev ec = record {
       inside = omega (arith, l.inside);
       long = length-set (set (set r (3 * j) m) (3 * j + 1) v) (3 * j + 2) c ∙ length-set (set r (3 * j) m) (3 * j + 1) v ∙ length-set r (3 * j) m ∙ l.long;
@@ -152,7 +154,7 @@ module _ {heads ts : Words} {places : List ℕ} {n : ℕ} {r₀ r : Words} {i : 
           let et' : t ≡ type_in (get_or (marked a ws) (2 * j) 0) = et ∙ ap type_in mark in
           let fine : allowed a t (get_or r (2 * j + 1) 0) ≡ true = rw (et', value) there.fine in
           let em' : m ≡ get_or out (3 * j) 0 = em ∙ w.placed.type t ∙ ap (type_to es) et' ∙ there.type in
-          let ev' : v ≡ get_or out (3 * j + 1) 0 = ev a es w.heads_a w.placed w.numbered fine ∙ rw (et', value) there.value in
+          let ev' : v ≡ get_or out (3 * j + 1) 0 = ev a es w.types_a w.placed w.numbered fine ∙ rw (et', value) there.value in
           let ec' : c ≡ get_or out (3 * j + 2) 0 = ec ∙ ap size_in mark ∙ there.count in
           let at : 3 * j + 3 ≡ 3 * i = omega arith in
           let next : 3 * (j + 1) ≡ 3 * i = omega arith in

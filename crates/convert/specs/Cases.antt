@@ -9,6 +9,7 @@ use Rattle.tree.specs.Dues.{pairs, whole}
 use Rattle.tree.specs.Reading.{dues_of, meets_node, read_tree_of}
 use Rattle.tree.specs.Slip.{uncounted, counted, place_in, in_slip, right_counts, read_slip, read_edition}
 use Rattle.convert.specs.Table.{named, entry, entries, whole_table, entry_of, type_to, form_to, bit_of, class_of, element_of, alike, fitting, forms_fit, type_fits, types_fit, read_table}
+use Rattle.convert.specs.declared.refusal.AtFault.TheVariants.{Neither, Old, New}
 use Rattle.convert.specs.Conversion.{value_to, converted, Conversion, refused_by, converted_to, or_refused, conversion_between, conversion}
 
 -- A: a root of two forms, a repeat of numbers or a name; the repeat; numbers; names
@@ -130,50 +131,50 @@ outputs =
     converted_to posted
     ∷ converted_to posted
     ∷ converted_to (0 ∷ 0 ∷ 2 ∷ 1 ∷ 9 ∷ 1 ∷ [])
-    ∷ refused_by 0 1 0
-    ∷ refused_by 1 10 0
-    ∷ refused_by 1 11 1
-    ∷ refused_by 2 11 1
-    ∷ refused_by 0 60 0
-    ∷ refused_by 0 60 2
-    ∷ refused_by 0 60 6
-    ∷ refused_by 0 60 3
-    ∷ refused_by 0 60 2
-    ∷ refused_by 0 60 1
-    ∷ refused_by 0 60 5
-    ∷ refused_by 0 60 6
-    ∷ refused_by 0 61 1
-    ∷ refused_by 0 61 2
-    ∷ refused_by 0 61 2
-    ∷ refused_by 0 61 3
-    ∷ refused_by 0 61 2
-    ∷ refused_by 0 61 2
-    ∷ refused_by 0 61 0
-    ∷ refused_by 0 30 0
-    ∷ refused_by 0 34 2
-    ∷ refused_by 0 30 0
+    ∷ refused_by Neither 1 0
+    ∷ refused_by Old 10 0
+    ∷ refused_by Old 11 1
+    ∷ refused_by New 11 1
+    ∷ refused_by Neither 60 0
+    ∷ refused_by Neither 60 2
+    ∷ refused_by Neither 60 6
+    ∷ refused_by Neither 60 3
+    ∷ refused_by Neither 60 2
+    ∷ refused_by Neither 60 1
+    ∷ refused_by Neither 60 5
+    ∷ refused_by Neither 60 6
+    ∷ refused_by Neither 61 1
+    ∷ refused_by Neither 61 2
+    ∷ refused_by Neither 61 2
+    ∷ refused_by Neither 61 3
+    ∷ refused_by Neither 61 2
+    ∷ refused_by Neither 61 2
+    ∷ refused_by Neither 61 0
+    ∷ refused_by Neither 30 0
+    ∷ refused_by Neither 34 2
+    ∷ refused_by Neither 30 0
     ∷ converted_to (0 ∷ 0 ∷ 4 ∷ 1 ∷ 0 ∷ 3 ∷ 2 ∷ 200 ∷ 1 ∷ 1 ∷ 1 ∷ 1 ∷ [])
     ∷ converted_to (0 ∷ 0 ∷ 3 ∷ 1 ∷ 100 ∷ 1 ∷ 1 ∷ 200 ∷ 1 ∷ [])
     ∷ converted_to (0 ∷ 0 ∷ 2 ∷ 1 ∷ 5 ∷ 1 ∷ [])
-    ∷ refused_by 1 4 0
-    ∷ refused_by 2 4 0
-    ∷ refused_by 1 12 1
-    ∷ refused_by 2 12 1
-    ∷ refused_by 0 60 1
-    ∷ refused_by 0 60 4
-    ∷ refused_by 0 61 2
-    ∷ refused_by 0 61 2
-    ∷ refused_by 0 61 2
-    ∷ refused_by 0 61 1
-    ∷ refused_by 0 61 1
-    ∷ refused_by 0 31 2
-    ∷ refused_by 0 31 3
-    ∷ refused_by 0 31 4
-    ∷ refused_by 0 31 6
-    ∷ refused_by 0 32 2
-    ∷ refused_by 0 32 3
-    ∷ refused_by 0 32 1
-    ∷ refused_by 0 33 128
+    ∷ refused_by Old 4 0
+    ∷ refused_by New 4 0
+    ∷ refused_by Old 12 1
+    ∷ refused_by New 12 1
+    ∷ refused_by Neither 60 1
+    ∷ refused_by Neither 60 4
+    ∷ refused_by Neither 61 2
+    ∷ refused_by Neither 61 2
+    ∷ refused_by Neither 61 2
+    ∷ refused_by Neither 61 1
+    ∷ refused_by Neither 61 1
+    ∷ refused_by Neither 31 2
+    ∷ refused_by Neither 31 3
+    ∷ refused_by Neither 31 4
+    ∷ refused_by Neither 31 6
+    ∷ refused_by Neither 32 2
+    ∷ refused_by Neither 32 3
+    ∷ refused_by Neither 32 1
+    ∷ refused_by Neither 33 128
     ∷ []
 
 as_the_papers_say : map run inputs ≡ outputs

@@ -1,117 +1,94 @@
-// The conversion of slips from grammar A to grammar B by a table: both grammars and the table are checked, the slip is read, and written node for node.
+// The conversion of slips from an old grammar to a new one by a table: both grammars and the table are checked, the slip is read, and written node for node.
 #![tactic(auto)]
 
-ghost use Rattle.std.specs.Prelude.{◌≡◌, true, ◌*◌, ◌≤◌, length, take};
+ghost use Rattle.std.specs.Prelude.{◌≡◌, true, ◌*◌, ◌≤◌, length};
 ghost use Rattle.words.specs.Reader.{accepted};
 ghost use Rattle.grammar.specs.Grammar as Grammar;
-ghost use Rattle.tables.specs.Tables.{Tables, read_of};
+ghost use Rattle.tables.specs.Tables.{read_of};
 ghost use Rattle.tree.specs.Limits.{most_slip_words};
-ghost use Rattle.tree.specs.Views.{AreTables};
 ghost use Rattle.convert.specs.Conversion as Conversion;
 ghost use Rattle.convert.specs.Conversion.{Converts};
+ghost use Rattle.convert.specs.Refusals.{passed};
 ghost use Rattle.convert.specs.Views.{ValueMade, TreeConverted, nodes_in, SlipConverted, TableChecked};
 
-use tables::{HEADS, ROWS};
+use side::Side;
+use table::Table;
+use tables::Types;
 use tree::limits::MOST_SLIP_WORDS;
-use words::Check;
+use words::{Fault, Refusal};
 
+pub mod refusal;
+pub mod side;
 pub mod table;
 pub mod tokens;
 
-// How many words were written; or a refusal: the grammar at fault (1 for A, 2 for B, 0 for neither), its number and its position.
-#[derive(Clone, Copy)]
-pub enum Converted {
-    Filled(usize),
-    Refusal(u32, u32, usize),
-}
+pub use refusal::{AtFault, ConversionRefusal};
 
-// A node's value in B.
-fn value_to(heads: &[u32; HEADS], table: &[u32], places: &[usize], t: u32, v: u32) -> u32
-    ensures { ValueMade heads.now table.now places.now t v result }
+// A node's value in the new grammar.
+#[tactic(auto, using(crate::proofs::Writing::value_form, crate::proofs::Writing::value_kept))]
+fn value_to(types: &Types, table: &Table, t: u32, v: u32) -> u32
+    ensures { ValueMade types.now table.now t v result }
 {
-    let k = table::bit(heads, t);
-    if k == 8 {
-        return table::form_to(table, places, t, v);
+    if table::bit(types, t) == 8 {
+        table.form_to(t, v)
+    } else {
+        v
     }
-    v
 }
 
-// Turns the marked tree of n nodes that the result begins with into a slip of B: from its last node on, so that no node is written over before it is read.
-fn convert_marked(heads: &[u32; HEADS], table: &[u32], places: &[usize], n: usize, res: &mut [u32])
+// Turns the marked tree of n nodes that the result begins with into a slip of the new grammar: from its last node on, so that no node is written over before it
+// is read.
+fn convert_marked(types: &Types, table: &Table, n: usize, res: &mut [u32])
     requires { 3 * n ≤ length res.old }
-    ensures { TreeConverted heads.now table.now places.now n res.old res.new }
+    ensures { TreeConverted types.now table.now n res.old res.new }
 {
-    let mut i = n;
-    while 0 < i {
-        i = i - 1;
-        let w = res[2 * i];
-        let t = marks::type_in(w);
-        let m = table::type_to(table, places, t);
-        let v = value_to(heads, table, places, t, res[2 * i + 1]);
-        res[3 * i] = m;
+    for i in (0..n).rev() {
+        let mark = res[2 * i];
+        let t = marks::type_in(mark);
+        let v = value_to(types, table, t, res[2 * i + 1]);
+        res[3 * i] = table.type_to(t);
         res[3 * i + 1] = v;
-        res[3 * i + 2] = marks::size_in(w) as u32;
+        res[3 * i + 2] = marks::size_in(mark) as u32;
     }
 }
 
 // How many nodes the slip has.
+#[tactic(auto, unfolding(crate::specs::Views::nodes_in))]
 fn nodes_in(counted: bool, slip: &[u32]) -> usize
     ensures { result ≡ nodes_in counted (length slip.now) }
 {
     if counted {
-        return slip.len() / 3;
+        slip.len() / 3
+    } else {
+        slip.len() / 2
     }
-    slip.len() / 2
 }
 
-// The slip of A, read into the result and converted there by a table that fits.
+// The slip, read into the result and converted there by a table that fits.
 fn convert_slip(
-    heads: &[u32; HEADS],
-    rows: &[u8; ROWS],
-    table: &[u32],
-    places: &[usize; 64],
-    n: u32,
+    types: &Types,
+    table: &Table,
     slip: &[u32],
     counted: bool,
     res: &mut [u32],
-) -> Converted
-    requires { AreTables heads.now rows.now × (most_slip_words ≤ length res.old) × (n ≤ 64) × (length places.now ≡ 64) }
-    ensures { SlipConverted heads.now rows.now table.now (take n places.now) counted slip.now res.old res.new result }
+) -> Result<usize, ConversionRefusal>
+    requires { most_slip_words ≤ length res.old }
+    ensures { SlipConverted types.now table.now counted slip.now res.old res.new result }
 {
-    let c = slips::read_edition(heads, rows, counted, slip, res);
-    match c {
-        Check::Refused(no, p) => Converted::Refusal(0, no, p),
-        Check::Passed(_) => {
-            let nodes = nodes_in(counted, slip);
-            let all = &places[..];
-            convert_marked(heads, table, &all[..words::wide(n)], nodes, res);
-            Converted::Filled(3 * nodes)
-        }
-    }
+    slips::read_edition(types, counted, slip, res)?;
+    let nodes = nodes_in(counted, slip);
+    convert_marked(types, table, nodes, res);
+    Ok(3 * nodes)
 }
 
-// 60 and 61 between two grammars that pass, of which the old one's tables are given; and the places of the table's types.
-fn check_table(
-    old: &[u32],
-    new: &[u32],
-    heads: &[u32; HEADS],
-    rows: &[u8; ROWS],
-    table: &[u32],
-    places: &mut [usize; 64],
-) -> Check
-    requires { (accepted (Grammar.read_grammar old.now) ≡ true) × (accepted (Grammar.read_grammar new.now) ≡ true) × Tables (read_of (Grammar.read_grammar old.now)) heads.now rows.now × (length places.old ≡ 64) }
-    ensures { TableChecked (read_of (Grammar.read_grammar old.now)) (read_of (Grammar.read_grammar new.now)) table.now places.new result }
+// 60 and 61 for a new grammar that passes.
+fn check_table<'a>(table: &'a [u32], old: &Side, new: &[u32]) -> Result<Table<'a>, Refusal>
+    requires { accepted (Grammar.read_grammar new.now) ≡ true }
+    ensures { TableChecked old.now (read_of (Grammar.read_grammar new.now)) table.now result }
 {
-    let mut bheads = [0u32; HEADS];
-    let mut brows = [0u8; ROWS];
-    tables::fill(new, &mut bheads, &mut brows);
-    let aclasses = tokens::classes(old);
-    let bclasses = tokens::classes(new);
-    let n = words::word(old, 0);
-    let m = words::word(new, 0);
-    table::read_table(
-        heads, rows, &aclasses, &bheads, &brows, &bclasses, n, m, table, places,
-    )
+    let mut side = Side::none();
+    side.fill(new);
+    Table::read(table, old, &side)
 }
 
 // The slip converted between two grammars that pass.
@@ -122,25 +99,44 @@ fn convert_between(
     slip: &[u32],
     counted: bool,
     res: &mut [u32],
-) -> Converted
+) -> Result<usize, ConversionRefusal>
     requires { (accepted (Grammar.read_grammar old.now) ≡ true) × (accepted (Grammar.read_grammar new.now) ≡ true) × (most_slip_words ≤ length res.old) }
     ensures { Converts (Conversion.conversion_between counted (read_of (Grammar.read_grammar old.now)) (read_of (Grammar.read_grammar new.now)) table.now slip.now) res.old res.new result }
 {
-    let mut heads = [0u32; HEADS];
-    let mut rows = [0u8; ROWS];
-    let mut places = [0usize; 64];
-    tables::fill(old, &mut heads, &mut rows);
-    let c = check_table(old, new, &heads, &rows, table, &mut places);
-    match c {
-        Check::Refused(no, p) => Converted::Refusal(0, no, p),
-        Check::Passed(_) => {
-            let n = words::word(old, 0);
-            convert_slip(&heads, &rows, table, &places, n, slip, counted, res)
-        }
+    let mut side = Side::none();
+    side.fill(old);
+    let fitting = check_table(table, &side, new)?;
+    convert_slip(&side.types, &fitting, slip, counted, res)
+}
+
+// 4: is the grammar too long?
+#[tactic(auto, unfolding(grammar::specs::Grammar::grammar_fits))]
+fn check_length(grammar: &[u32], which: AtFault) -> Result<(), ConversionRefusal>
+    ensures { result ≡ passed which (Grammar.grammar_fits grammar.now 0) }
+{
+    if grammar::limits::MOST_WORDS < grammar.len() {
+        return Err(ConversionRefusal {
+            grammar: which,
+            refusal: Refusal::new(Fault::LongGrammar, 0),
+        });
+    }
+    Ok(())
+}
+
+// 10 to 12: the grammar's own check.
+fn check_words(grammar: &[u32], which: AtFault) -> Result<(), ConversionRefusal>
+    ensures { result ≡ passed which (Grammar.read_grammar grammar.now) }
+{
+    match grammar::read_grammar(grammar) {
+        Ok(_) => Ok(()),
+        Err(refusal) => Err(ConversionRefusal {
+            grammar: which,
+            refusal,
+        }),
     }
 }
 
-// THE CONVERSION of a slip, in the three-word edition or else in the two-word one, from the old grammar to the new.
+// THE CONVERSION of a slip, in the three-word edition or else in the two-word one, from the old grammar to the new: how many words were written.
 pub fn convert(
     old: &[u32],
     new: &[u32],
@@ -148,27 +144,15 @@ pub fn convert(
     slip: &[u32],
     counted: bool,
     res: &mut [u32],
-) -> Converted
+) -> Result<usize, ConversionRefusal>
     ensures { Converts (Conversion.conversion counted (length res.old) old.now new.now table.now slip.now) res.old res.new result }
 {
     if res.len() < MOST_SLIP_WORDS {
-        return Converted::Refusal(0, 1, 0);
+        return Err(ConversionRefusal::from(Refusal::new(Fault::ShortResult, 0)));
     }
-    if grammar::limits::MOST_WORDS < old.len() {
-        return Converted::Refusal(1, 4, 0);
-    }
-    if grammar::limits::MOST_WORDS < new.len() {
-        return Converted::Refusal(2, 4, 0);
-    }
-    let a = grammar::read_grammar(old);
-    match a {
-        Check::Refused(no, p) => Converted::Refusal(1, no, p),
-        Check::Passed(_) => {
-            let b = grammar::read_grammar(new);
-            match b {
-                Check::Refused(no, p) => Converted::Refusal(2, no, p),
-                Check::Passed(_) => convert_between(old, new, table, slip, counted, res),
-            }
-        }
-    }
+    check_length(old, AtFault::Old)?;
+    check_length(new, AtFault::New)?;
+    check_words(old, AtFault::Old)?;
+    check_words(new, AtFault::New)?;
+    convert_between(old, new, table, slip, counted, res)
 }

@@ -1,334 +1,212 @@
-// The table by which slips of A become slips of B: its check (60, 61), and the lookups in it.
-//
-// Its words are looked up through `places`: where the word of each type of A stands. Names that begin with a are of A, with b of B.
+// The table by which slips of the old grammar become slips of the new one: its check (60, 61), and the lookups in it.
 ghost use Rattle.std.specs.Prelude.{◌≡◌, ◌*◌, ◌≤◌, ◌<◌, length};
 ghost use Rattle.words.specs.Reader as Reader;
 ghost use Rattle.words.specs.Views.{answer, got};
 ghost use Rattle.grammar.specs.Kinds.{kind_of, forms_of};
-ghost use Rattle.tables.specs.Tables.{InHeads};
-ghost use Rattle.convert.specs.Table as Table;
-ghost use Rattle.convert.specs.Table.{bit_of};
-ghost use Rattle.convert.specs.Views.{side, type_at, form_at, EntryRead, WholeRead, AlikeTested, FormTested, FormsTested, TypeTested, TypesTested, TableRead};
+ghost use Rattle.tables.specs.Types.{OfTypes};
+ghost use Rattle.convert.specs.Table.{named, bit_of};
+ghost use Rattle.convert.specs.Views.{place_at, type_at, form_at, EntryRead, WholeRead, AlikeTested, FormTested, FormsTested, TypeTested, TypesTested, TableRead};
 
-use tables::{HEADS, ROWS};
-use words::{Check, Got};
+use crate::side::Side;
+use tables::Types;
+use words::{Fault, Refusal};
 
 // One number of the table, below n.
-fn named(table: &[u32], n: u32, at: usize) -> Got
-    ensures { result ≡ got (Table.named table.now n at) }
+#[tactic(auto, using(words::proofs::Laws::read_word, words::proofs::Laws::read_bad), unfolding(crate::specs::Table::named))]
+fn named(table: &[u32], n: u32, at: usize) -> Result<(u32, usize), Refusal>
+    ensures { result ≡ got (named table.now n at) }
 {
-    let g = words::read_word(60, table, at);
-    match g {
-        Got::Bad(no, p) => Got::Bad(no, p),
-        Got::Word(w, next) => {
-            if w < n {
-                return Got::Word(w, next);
-            }
-            Got::Bad(60, at)
-        }
+    let (w, next) = words::read_word(Fault::TableWord, table, at)?;
+    if w < n {
+        Ok((w, next))
+    } else {
+        Err(Refusal::new(Fault::TableWord, at))
     }
 }
 
 // k numbers of the table, each below n.
-fn numbers(table: &[u32], n: u32, k: u32, start: usize) -> Check
-    ensures { result ≡ answer (Reader.many k (Table.named table.now n) start) }
+#[tactic(auto, using(words::proofs::Laws::read_word, words::proofs::Laws::read_bad, words::proofs::Laws::answer_done, words::proofs::Laws::answer_stop, words::proofs::Laws::answer_next))]
+fn numbers(table: &[u32], n: u32, k: u32, start: usize) -> Result<usize, Refusal>
+    ensures { result ≡ answer (Reader.many k (named table.now n) start) }
 {
-    let mut left = k;
     let mut at = start;
-    while 0 < left {
-        let g = named(table, n, at);
-        match g {
-            Got::Bad(no, p) => {
-                return Check::Refused(no, p);
-            }
-            Got::Word(w, next) => {
-                at = next;
-                left = left - 1;
-            }
-        }
+    for _ in 0..k {
+        let (_, next) = named(table, n, at)?;
+        at = next;
     }
-    Check::Passed(at)
+    Ok(at)
 }
 
 // How many forms the type has.
-fn form_count(heads: &[u32; HEADS], t: u32) -> u32
-    ensures { InHeads heads.now (λ g. result ≡ length (forms_of (kind_of g t))) }
+#[tactic(auto, using(crate::proofs::Entries::count_forms, crate::proofs::Entries::count_none))]
+fn form_count(types: &Types, t: u32) -> u32
+    ensures { OfTypes types.now (λ g. result ≡ length (forms_of (kind_of g t))) }
 {
-    let m = tables::map_of(heads, t);
-    if m == 8 {
-        return tables::values(heads, t);
+    if types.map_of(t) == 8 {
+        types.values(t)
+    } else {
+        0
     }
-    0
-}
-
-// What the table says of one type with k forms. B has n types.
-fn entry(heads: &[u32; HEADS], n: u32, table: &[u32], k: u32, at: usize) -> Check
-    ensures { EntryRead heads.now n table.now k at result }
-{
-    let g = named(table, n, at);
-    match g {
-        Got::Bad(no, p) => Check::Refused(no, p),
-        Got::Word(t, next) => {
-            let c = form_count(heads, t);
-            numbers(table, c, k, next)
-        }
-    }
-}
-
-// 60: the whole table, and the places of its types.
-fn whole_table(
-    aheads: &[u32; HEADS],
-    bheads: &[u32; HEADS],
-    an: u32,
-    bn: u32,
-    table: &[u32],
-    places: &mut [usize; 64],
-) -> Check
-    requires { (an ≤ 64) × (length places.old ≡ 64) }
-    ensures { WholeRead aheads.now bheads.now an bn table.now places.new result }
-{
-    let mut t: u32 = 0;
-    let mut at: usize = 0;
-    while t < an {
-        places[words::wide(t)] = at;
-        let k = form_count(aheads, t);
-        let c = entry(bheads, bn, table, k, at);
-        match c {
-            Check::Refused(no, p) => {
-                return Check::Refused(no, p);
-            }
-            Check::Passed(next) => {
-                at = next;
-                t = t + 1;
-            }
-        }
-    }
-    if at < table.len() {
-        return Check::Refused(60, at);
-    }
-    Check::Passed(at)
-}
-
-// The type in B of a type.
-pub fn type_to(table: &[u32], places: &[usize], t: u32) -> u32
-    ensures { result ≡ type_at table.now places.now t }
-{
-    let i = words::wide(t);
-    if i < places.len() {
-        return words::word(table, places[i]);
-    }
-    0
-}
-
-// The number in B of a form.
-pub fn form_to(table: &[u32], places: &[usize], t: u32, v: u32) -> u32
-    ensures { result ≡ form_at table.now places.now t v }
-{
-    let i = words::wide(t);
-    if places.len() <= i {
-        return 0;
-    }
-    let p = places[i];
-    if table.len() <= p {
-        return 0;
-    }
-    words::word(table, p + 1 + words::wide(v))
 }
 
 // The bit of a type's kind.
-pub fn bit(heads: &[u32; HEADS], t: u32) -> u32
-    ensures { InHeads heads.now (λ g. result ≡ bit_of (kind_of g t)) }
+#[tactic(auto, using(crate::proofs::Entries::bit_none, crate::proofs::Entries::bit_there))]
+pub fn bit(types: &Types, t: u32) -> u32
+    ensures { OfTypes types.now (λ g. result ≡ bit_of (kind_of g t)) }
 {
-    let m = tables::map_of(heads, t);
-    if m == 0 {
-        return 8;
+    match types.map_of(t) {
+        0 => 8,
+        map => map,
     }
-    m
 }
 
-// The kinds of a type of A and a type of B: the same, of the same class, with the mapped element?
-fn alike(
-    aheads: &[u32; HEADS],
-    arows: &[u8; ROWS],
-    aclasses: &[u32; 64],
-    bheads: &[u32; HEADS],
-    brows: &[u8; ROWS],
-    bclasses: &[u32; 64],
-    table: &[u32],
-    places: &[usize],
-    t: u32,
-    m: u32,
-) -> bool
-    ensures { AlikeTested (side aheads.now arows.now aclasses.now) (side bheads.now brows.now bclasses.now) table.now places.now t m result }
+// What the table says of one type with k forms.
+#[tactic(auto, using(crate::proofs::Entries::entry_bad, crate::proofs::Entries::entry_there))]
+fn entry(new: &Types, table: &[u32], k: u32, at: usize) -> Result<usize, Refusal>
+    ensures { EntryRead new.now table.now k at result }
 {
-    let k = bit(aheads, t);
-    let l = bit(bheads, m);
-    if k != l {
-        return false;
-    }
-    if k == 8 {
-        return true;
-    }
-    if k == 1 {
-        let c = words::word(aclasses, words::wide(t));
-        let d = words::word(bclasses, words::wide(m));
-        return c == d;
-    }
-    let e = tables::child(arows, t, 0, 0);
-    let f = tables::child(brows, m, 0, 0);
-    let to = type_to(table, places, e);
-    to == f
+    let (t, next) = named(table, new.count, at)?;
+    let forms = form_count(new, t);
+    numbers(table, forms, k, next)
 }
 
-// Has form n of B's type m the mapped types of form v of A's type t?
-fn same_form(
-    arows: &[u8; ROWS],
-    brows: &[u8; ROWS],
-    table: &[u32],
-    places: &[usize],
-    t: u32,
-    v: u32,
-    m: u32,
-    n: u32,
-) -> bool
-    ensures { FormTested arows.now brows.now table.now places.now t v m n result }
-{
-    let k = tables::child_count(arows, t, v);
-    let l = tables::child_count(brows, m, n);
-    if k != l {
-        return false;
+// The table's words, with the places of what they say of each old type: their end, where there is no such type.
+#[derive(Drop)]
+pub struct Table<'a> {
+    words: &'a [u32],
+    places: [usize; 64],
+}
+
+impl<'a> Table<'a> {
+    // 60: the whole table.
+    #[tactic(auto, using(crate::proofs::Entries::table_start, crate::proofs::Entries::table_fault, crate::proofs::Entries::table_more, crate::proofs::Entries::table_left, crate::proofs::Entries::table_end))]
+    fn whole(words: &'a [u32], old: &Types, new: &Types) -> Result<Table<'a>, Refusal>
+        ensures { WholeRead old.now new.now words.now result }
+    {
+        let mut places = [words.len(); 64];
+        let mut at: usize = 0;
+        for t in 0..old.count {
+            places[t as usize] = at;
+            let forms = form_count(old, t);
+            at = entry(new, words, forms, at)?;
+        }
+        if at < words.len() {
+            return Err(Refusal::new(Fault::TableWord, at));
+        }
+        Ok(Table { words, places })
     }
-    let mut i: usize = 0;
-    while i < k {
-        let e = tables::child(arows, t, v, i);
-        let f = tables::child(brows, m, n, i);
-        let to = type_to(table, places, e);
-        if to != f {
+
+    // 60, then 61: the table of a conversion.
+    pub fn read(words: &'a [u32], old: &Side, new: &Side) -> Result<Table<'a>, Refusal>
+        ensures { TableRead old.now new.now words.now result }
+    {
+        let table = Table::whole(words, &old.types, &new.types)?;
+        if table.type_to(0) != 0 {
+            return Err(Refusal::new(Fault::TableMisfit, 0));
+        }
+        table.types_fit(old, new)?;
+        Ok(table)
+    }
+
+    // Where the word of a type stands.
+    fn place(&self, t: u32) -> usize
+        ensures { (result ≡ place_at self.now t) × (result ≤ length self.now.words.now) }
+    {
+        let end = self.words.len();
+        self.places.get(t as usize).copied().unwrap_or(end).min(end)
+    }
+
+    // The new type of a type.
+    pub fn type_to(&self, t: u32) -> u32
+        ensures { result ≡ type_at self.now t }
+    {
+        let words = self.words;
+        words::word(words, self.place(t))
+    }
+
+    // The new number of a form.
+    pub fn form_to(&self, t: u32, v: u32) -> u32
+        ensures { result ≡ form_at self.now t v }
+    {
+        let words = self.words;
+        words::word(words, self.place(t) + 1 + v as usize)
+    }
+
+    // The kinds of an old type and a new one: the same, of the same class, with the mapped element?
+    #[tactic(auto, using(crate::proofs::Fitting::alike_not, crate::proofs::Fitting::alike_formed, crate::proofs::Fitting::alike_classed, crate::proofs::Fitting::alike_element))]
+    fn alike(&self, old: &Side, new: &Side, t: u32, m: u32) -> bool
+        ensures { AlikeTested old.now new.now self.now t m result }
+    {
+        let kind = bit(&old.types, t);
+        if kind != bit(&new.types, m) {
             return false;
         }
-        i = i + 1;
-    }
-    true
-}
-
-// The first of the k forms of A's type t that does not fit B's type m; k if all do.
-fn first_misfit(
-    arows: &[u8; ROWS],
-    brows: &[u8; ROWS],
-    table: &[u32],
-    places: &[usize],
-    k: u32,
-    t: u32,
-    m: u32,
-) -> u32
-    ensures { FormsTested arows.now brows.now table.now places.now k t m result }
-{
-    let mut v: u32 = 0;
-    while v < k {
-        let n = form_to(table, places, t, v);
-        let same = same_form(arows, brows, table, places, t, v, m, n);
-        if !same {
-            return v;
-        }
-        v = v + 1;
-    }
-    k
-}
-
-// 61 at the word of A's type t, which stands at `at`, or of its first form that does not fit.
-fn type_fits(
-    aheads: &[u32; HEADS],
-    arows: &[u8; ROWS],
-    aclasses: &[u32; 64],
-    bheads: &[u32; HEADS],
-    brows: &[u8; ROWS],
-    bclasses: &[u32; 64],
-    table: &[u32],
-    places: &[usize],
-    t: u32,
-    at: usize,
-) -> Check
-    requires { (t < 64) × (at ≤ t * 4294967296) }
-    ensures { TypeTested (side aheads.now arows.now aclasses.now) (side bheads.now brows.now bclasses.now) table.now places.now t at result }
-{
-    let m = type_to(table, places, t);
-    let fits = alike(
-        aheads, arows, aclasses, bheads, brows, bclasses, table, places, t, m,
-    );
-    if !fits {
-        return Check::Refused(61, at);
-    }
-    let k = form_count(aheads, t);
-    let v = first_misfit(arows, brows, table, places, k, t, m);
-    if v < k {
-        return Check::Refused(61, at + 1 + words::wide(v));
-    }
-    Check::Passed(at + 1 + words::wide(k))
-}
-
-// 61: the types of A, each with its forms.
-fn types_fit(
-    aheads: &[u32; HEADS],
-    arows: &[u8; ROWS],
-    aclasses: &[u32; 64],
-    bheads: &[u32; HEADS],
-    brows: &[u8; ROWS],
-    bclasses: &[u32; 64],
-    n: u32,
-    table: &[u32],
-    places: &[usize],
-) -> Check
-    requires { n ≤ 64 }
-    ensures { TypesTested (side aheads.now arows.now aclasses.now) (side bheads.now brows.now bclasses.now) n table.now places.now result }
-{
-    let mut t: u32 = 0;
-    let mut at: usize = 0;
-    while t < n {
-        let c = type_fits(
-            aheads, arows, aclasses, bheads, brows, bclasses, table, places, t, at,
-        );
-        match c {
-            Check::Refused(no, p) => {
-                return Check::Refused(no, p);
-            }
-            Check::Passed(next) => {
-                at = next;
-                t = t + 1;
-            }
+        match kind {
+            8 => true,
+            1 => words::word(&old.classes, t as usize) == words::word(&new.classes, m as usize),
+            _ => self.type_to(old.types.child(t, 0, 0)) == new.types.child(m, 0, 0),
         }
     }
-    Check::Passed(at)
-}
 
-// 60, then 61: the table of a conversion, and the places of its types.
-pub fn read_table(
-    aheads: &[u32; HEADS],
-    arows: &[u8; ROWS],
-    aclasses: &[u32; 64],
-    bheads: &[u32; HEADS],
-    brows: &[u8; ROWS],
-    bclasses: &[u32; 64],
-    an: u32,
-    bn: u32,
-    table: &[u32],
-    places: &mut [usize; 64],
-) -> Check
-    requires { (an ≤ 64) × (length places.old ≡ 64) }
-    ensures { TableRead (side aheads.now arows.now aclasses.now) (side bheads.now brows.now bclasses.now) an bn table.now places.new result }
-{
-    let c = whole_table(aheads, bheads, an, bn, table, places);
-    match c {
-        Check::Refused(no, p) => Check::Refused(no, p),
-        Check::Passed(_) => {
-            let all = &places[..];
-            let placed = &all[..words::wide(an)];
-            let root = type_to(table, placed, 0);
-            if root != 0 {
-                return Check::Refused(61, 0);
-            }
-            types_fit(
-                aheads, arows, aclasses, bheads, brows, bclasses, an, table, placed,
-            )
+    // Has form n of the new type m the mapped types of form v of the old type t?
+    #[tactic(auto, using(crate::proofs::Fitting::form_start, crate::proofs::Fitting::form_lengths, crate::proofs::Fitting::form_end, crate::proofs::Fitting::form_differs, crate::proofs::Fitting::form_more))]
+    fn same_form(&self, old: &Types, new: &Types, t: u32, v: u32, m: u32, n: u32) -> bool
+        ensures { FormTested old.now new.now self.now t v m n result }
+    {
+        let count = old.child_count(t, v);
+        if count != new.child_count(m, n) {
+            return false;
         }
+        for i in 0..count {
+            let mapped = self.type_to(old.child(t, v, i));
+            if mapped != new.child(m, n, i) {
+                return false;
+            }
+        }
+        true
+    }
+
+    // The first of the k forms of the old type t that does not fit the new type m; k if all do.
+    #[tactic(auto, using(crate::proofs::Fitting::misfit_start, crate::proofs::Fitting::misfit_end, crate::proofs::Fitting::misfit_found, crate::proofs::Fitting::misfit_more))]
+    fn first_misfit(&self, old: &Types, new: &Types, k: u32, t: u32, m: u32) -> u32
+        ensures { FormsTested old.now new.now self.now k t m result }
+    {
+        for v in 0..k {
+            let n = self.form_to(t, v);
+            if !self.same_form(old, new, t, v, m, n) {
+                return v;
+            }
+        }
+        k
+    }
+
+    // 61 at the word of the old type t, which stands at `at`, or of its first form that does not fit.
+    #[tactic(auto, using(crate::proofs::Fitting::type_unlike, crate::proofs::Fitting::type_misfit, crate::proofs::Fitting::type_whole))]
+    fn type_fits(&self, old: &Side, new: &Side, t: u32, at: usize) -> Result<usize, Refusal>
+        requires { (t < 64) × (at ≤ t * 4294967296) }
+        ensures { TypeTested old.now new.now self.now t at result }
+    {
+        let m = self.type_to(t);
+        if !self.alike(old, new, t, m) {
+            return Err(Refusal::new(Fault::TableMisfit, at));
+        }
+        let k = form_count(&old.types, t);
+        let v = self.first_misfit(&old.types, &new.types, k, t, m);
+        if v < k {
+            return Err(Refusal::new(Fault::TableMisfit, at + 1 + v as usize));
+        }
+        Ok(at + 1 + k as usize)
+    }
+
+    // 61: the old types, each with its forms.
+    #[tactic(auto, using(crate::proofs::Fitting::types_start, crate::proofs::Fitting::types_end, crate::proofs::Fitting::types_misfit, crate::proofs::Fitting::types_more))]
+    fn types_fit(&self, old: &Side, new: &Side) -> Result<usize, Refusal>
+        ensures { TypesTested old.now new.now self.now result }
+    {
+        let mut at: usize = 0;
+        for t in 0..old.types.count {
+            at = self.type_fits(old, new, t, at)?;
+        }
+        Ok(at)
     }
 }

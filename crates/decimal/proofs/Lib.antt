@@ -2,5 +2,6 @@ pub mod Lists
 pub mod Reading
 pub mod Parting
 pub mod Putting
+pub mod Growing
 pub mod Whole
 pub mod Pieces

@@ -1,10 +1,10 @@
 -- Laws of lists. Assumes nothing.
-use Prim.Native.Nat.{ℕ, zero, suc, ◌+◌, ◌-◌, ◌≤◌, min}
+use Prim.Native.Nat.{ℕ, zero, suc, ◌+◌, ◌-◌, ◌≤◌}
 use mathlib.Core.Path.{◌≡◌, refl, sym, ap, ◌∙◌, subst}
 use mathlib.Core.List.{List, [], ◌∷◌, ◌++◌}
 use native.Mathlib.Omega.{arith}
-use lib.ListN.{length, take, drop}
-use lib.Seq.{drop-drop, length-take-le}
+use lib.ListN.{take, drop}
+use lib.Seq.{drop-drop}
 
 -- what is cut off once is cut off
 pub take_again : (n : ℕ) (a b : List ℕ) → take n (take n a ++ b) ≡ take n (a ++ b)
@@ -17,7 +17,3 @@ pub drop_more : (m n : ℕ) (a b : List ℕ) → m ≤ n → drop m a ≡ drop m
 drop_more m n a b h e =
     let k : m + (n - m) ≡ n = omega arith in
     subst (λ (x : ℕ). drop x a ≡ drop x b) k (sym (drop-drop (n - m) m a) ∙ ap (drop (n - m)) e ∙ drop-drop (n - m) m b)
-
--- a part from the start, no longer than the list, is as long as it is cut
-pub part_least : (n m : ℕ) (l : List ℕ) → m ≡ min n (length l) → m ≡ length (take m l)
-part_least n m l e = sym (length-take-le m l (omega arith))

@@ -1,102 +1,65 @@
 -- Laws of the parts of an input, over plain variables. Assumes nothing.
-use Prim.Native.Nat.{ℕ, ◌+◌, ◌-◌, ◌<◌, ◌≤◌}
-use mathlib.Core.Path.{◌≡◌, refl, sym, ap, ◌∙◌}
+use Prim.Native.Nat.{ℕ, ◌<◌, ◌≤◌}
+use mathlib.Core.Path.{◌≡◌, refl, sym, ◌∙◌}
 use mathlib.Core.List.{[], ◌∷◌}
-use mathlib.Core.Bool.{Bool, true, false}
-use mathlib.Core.Option.{Option, none}
+use mathlib.Core.Bool.{true, false}
+use mathlib.Core.Option.{Option, none, some}
 use native.Mathlib.Omega.{arith}
-use native.Mathlib.Numerals.{add-one}
-use lib.ListN.{length, get_or, take, drop, length-drop, drop_of_length-le}
-use lib.Seq.{drop-cons, drop-drop}
-use lib.Dec.{ltb, leb}
-use borrow.Author.Tests.{lt-ltb, le-ltb, le-leb, lt-leb, ltb-true, ltb-false, leb-true}
-use Rattle.words.specs.Reader.{Words, pick, and}
-use Rattle.words.proofs.Laws.{and_both}
+use lib.ListN.{length}
+use borrow.Author.Tests.{le-leb, lt-leb}
+use Rattle.std.specs.Prelude.{Option as Answer, Some, None, MatchOption, ◌==◌}
+use Rattle.std.specs.List.{IsSplitAt}
+use denote.Ref.{Bor}
+use Rattle.words.specs.Reader.{Words}
 use Rattle.meaning.specs.Outcome.{Inputs}
-use Rattle.decimal.specs.Input.{counted, whole, input, length_at, parts_at, most_grammar, most_rules, most_slip, Parted}
-use Rattle.decimal.specs.declared.input.Parts.{Parts}
-use Rattle.decimal.specs.declared.input.Found.{Found}
-use Rattle.decimal.specs.declared.input.Found.TheVariants.{Length, Nothing}
+use Rattle.decimal.specs.Input.{counted, whole, input, most_grammar, most_rules, most_slip, Counted}
 
--- THE LENGTH AT A POSITION
+-- ONE PART
 
-picked : (t : Bool) (a n : ℕ) → pick t (Length a) Nothing ≡ Length n → (t ≡ true) × (a ≡ n)
-picked true a n e = (refl, cc)
-picked false a n e = let z : ◌≡◌ {A = ℕ} 0 1 = cc in absurd (omega arith)
+pub part_empty : (most : ℕ) (ns : Words) → length ns ≡ 0 → {r : Answer (Bor Words × Bor Words)} → r ≡ None → Counted most ns r
+unfolding counted
+part_empty most [] e r f = rw r refl
+part_empty most (n ∷ ns) e r f = absurd (omega arith)
 
-missed : (t : Bool) (a : ℕ) → pick t (Length a) Nothing ≡ Nothing → t ≡ false
-missed true a e = let z : ◌≡◌ {A = ℕ} 0 1 = cc in absurd (omega arith)
-missed false a e = refl
+module _ (most n : ℕ) (ns rest : Words) (first : ns ≡ n ∷ rest) where
+  pub part_over : most < n → Counted most ns None
+  unfolding counted
+  part_over h f = rw (first, lt-leb n most h)
 
-module _ (most : ℕ) (ns : Words) (at : ℕ) where
-  pub length_past : length ns ≤ at → Nothing ≡ length_at most ns at
-  unfolding length_at
-  length_past h = rw (le-ltb at (length ns) h)
-
-  pub length_over : at < length ns → most < get_or ns at 0 → Nothing ≡ length_at most ns at
-  unfolding length_at
-  length_over h o = rw (lt-ltb at (length ns) h, lt-leb (get_or ns at 0) most o)
-
-  pub length_short : at < length ns → get_or ns at 0 ≤ most → length ns - (at + 1) < get_or ns at 0 → Nothing ≡ length_at most ns at
-  unfolding length_at
-  length_short h m s = rw (lt-ltb at (length ns) h, le-leb (get_or ns at 0) most m, lt-leb (get_or ns at 0) (length ns - (at + 1)) s)
-
-  pub length_there : at < length ns → get_or ns at 0 ≤ most → get_or ns at 0 ≤ length ns - (at + 1) → Length (get_or ns at 0) ≡ length_at most ns at
-  unfolding length_at
-  length_there h m s = rw (lt-ltb at (length ns) h, le-leb (get_or ns at 0) most m, le-leb (get_or ns at 0) (length ns - (at + 1)) s)
-
-  -- a length that was found: its words are there
-  pub record Counted (n : ℕ) : Type 0 where
-    pub word : get_or ns at 0 ≡ n
-    pub low : leb n most ≡ true
-    pub there : at + 1 + n ≤ length ns
-
-  pub length_found : (a : Found) → a ≡ length_at most ns at → {n : ℕ} → a ≡ Length n → Counted n
-  unfolding length_at
-  length_found a d {n} e =
-      let p = picked (and (ltb at (length ns)) (and (leb (get_or ns at 0) most) (leb (get_or ns at 0) (length ns - (at + 1))))) (get_or ns at 0) n (sym d ∙ e) in
-      let q = and_both (ltb at (length ns)) (and (leb (get_or ns at 0) most) (leb (get_or ns at 0) (length ns - (at + 1)))) p.0 in
-      let r = and_both (leb (get_or ns at 0) most) (leb (get_or ns at 0) (length ns - (at + 1))) q.1 in
-      record { word = p.1; low = rw p.1 at r.0; there = omega (arith, ltb-true at (length ns) q.0, leb-true (get_or ns at 0) (length ns - (at + 1)) r.1, p.1) }
-
-  module _ (f : Words → Words → Option Inputs) where
-    -- the numbers from here on
-    here : at < length ns → counted most (drop at ns) f ≡ counted most (get_or ns at 0 ∷ drop (at + 1) ns) f
-    here h = ap (λ (l : Words). counted most l f) (rw add-one (drop-cons ns at 0 h))
-
-    pub counted_found : {n : ℕ} → Counted n → counted most (drop at ns) f ≡ f (take n (drop (at + 1) ns)) (drop (at + 1 + n) ns)
-    unfolding counted
-    counted_found {n} x =
-        let l : n ≤ length (drop (at + 1) ns) = omega (arith, x.there, length-drop (at + 1) ns) in
-        here (omega (arith, x.there)) ∙ rw (x.word, x.low, le-leb n (length (drop (at + 1) ns)) l, drop-drop n (at + 1) ns)
-
-    pub counted_none : (a : Found) → a ≡ length_at most ns at → a ≡ Nothing → counted most (drop at ns) f ≡ none
-    unfolding counted length_at
-    counted_none a d e = by (ltb at (length ns)) refl
-      where
-        m : and (ltb at (length ns)) (and (leb (get_or ns at 0) most) (leb (get_or ns at 0) (length ns - (at + 1)))) ≡ false
-        m = missed (and (ltb at (length ns)) (and (leb (get_or ns at 0) most) (leb (get_or ns at 0) (length ns - (at + 1))))) (get_or ns at 0) (sym d ∙ e)
-
-        by : (t : Bool) → ltb at (length ns) ≡ t → counted most (drop at ns) f ≡ none
-        by true h =
-            let z : and (leb (get_or ns at 0) most) (leb (get_or ns at 0) (length ns - (at + 1))) ≡ false = rw h at m in
-            here (ltb-true at (length ns) h) ∙ rw (length-drop, z)
-        by false h = rw (drop_of_length-le ns {i = at} (le h))
-          where
-            le : ltb at (length ns) ≡ false → length ns ≤ at
-            le h = ltb-false at (length ns) h
+  pub part_found : n ≤ most → (r : Answer (Bor Words × Bor Words)) → MatchOption r (length rest < n) (λ p. IsSplitAt rest n p.0.now p.1.now) → Counted most ns r
+  unfolding counted
+  part_found h None e f = rw (first, le-leb n most h, lt-leb n (length rest) e)
+  part_found h (Some p) e f = rw (first, le-leb n most h, le-leb n (length rest) e.0, e.1, e.2) refl
 
 -- THE PARTS
 
-after_budget : (ns : Words) → input ns ≡ counted most_grammar (drop 1 ns) (λ grammar more. counted most_rules more (λ rules more. counted most_slip more (λ slip. whole (record { budget = get_or ns 0 0; grammar = grammar; rules = rules; slip = slip }))))
-unfolding input counted
-after_budget [] = refl
-after_budget (n ∷ ns) = refl
+whole_over : (x : Inputs) (ns : Words) → (length ns == 0) ≡ false → whole x ns ≡ none
+unfolding whole
+whole_over x [] h = absurd (grind (arith, h))
+whole_over x (n ∷ ns) h = refl
 
-module _ (ns : Words) where
+whole_end : (x : Inputs) (ns : Words) → (length ns == 0) ≡ true → whole x ns ≡ some x
+unfolding whole
+whole_end x [] h = refl
+whole_end x (n ∷ ns) h = absurd (grind (arith, h))
+
+-- no number is no input
+pub no_budget : (ns : Words) → length ns ≡ 0 → none ≡ input ns
+unfolding input
+no_budget [] h = refl
+no_budget (n ∷ ns) h = absurd (omega arith)
+
+-- a part that is there, with what follows it; and one that is not
+abbrev Found : ℕ → Words → Words → Words → Type 0
+Found most ns part more = (f : Words → Words → Option Inputs) → counted most ns f ≡ f part more
+
+abbrev Missing : ℕ → Words → Type 0
+Missing most ns = (f : Words → Words → Option Inputs) → counted most ns f ≡ none
+
+module _ {ns rest : Words} {budget : ℕ} (first : ns ≡ budget ∷ rest) where
   -- what is made of each part
   abbrev with_slip : Words → Words → Words → Words → Option Inputs
-  with_slip grammar rules slip = whole (record { budget = get_or ns 0 0; grammar = grammar; rules = rules; slip = slip })
+  with_slip grammar rules slip = whole (record { budget = budget; grammar = grammar; rules = rules; slip = slip })
 
   abbrev with_rules : Words → Words → Words → Option Inputs
   with_rules grammar rules more = counted most_slip more (with_slip grammar rules)
@@ -104,38 +67,33 @@ module _ (ns : Words) where
   abbrev with_grammar : Words → Words → Option Inputs
   with_grammar grammar more = counted most_rules more (with_rules grammar)
 
-  from_grammar : input ns ≡ counted most_grammar (drop 1 ns) with_grammar
-  from_grammar = after_budget ns
+  from_grammar : input ns ≡ counted most_grammar rest with_grammar
+  unfolding input
+  from_grammar = rw first refl
 
-  pub no_grammar : (a : Found) → a ≡ length_at most_grammar ns 1 → a ≡ Nothing → Parted ns Parts.Unread
-  no_grammar a d e = record { same = sym (from_grammar ∙ counted_none most_grammar ns 1 with_grammar a d e); fit = tt }
+  pub no_grammar : Missing most_grammar rest → none ≡ input ns
+  no_grammar m = sym (from_grammar ∙ m with_grammar)
 
-  module _ (g : ℕ) (x : Counted most_grammar ns 1 g) where
-    from_rules : input ns ≡ counted most_rules (drop (2 + g) ns) (with_rules (take g (drop 2 ns)))
-    from_rules = from_grammar ∙ counted_found most_grammar ns 1 with_grammar x
+  module _ {g after : Words} (a : Found most_grammar rest g after) where
+    from_rules : input ns ≡ counted most_rules after (with_rules g)
+    from_rules = from_grammar ∙ a with_grammar
 
-    pub no_rules : (b : Found) → b ≡ length_at most_rules ns (2 + g) → b ≡ Nothing → Parted ns Parts.Unread
-    no_rules b d e = record { same = sym (from_rules ∙ counted_none most_rules ns (2 + g) (with_rules (take g (drop 2 ns))) b d e); fit = tt }
+    pub no_rules : Missing most_rules after → none ≡ input ns
+    no_rules m = sym (from_rules ∙ m (with_rules g))
 
-    module _ (r : ℕ) (y : Counted most_rules ns (2 + g) r) where
-      from_slip : input ns ≡ counted most_slip (drop (3 + g + r) ns) (with_slip (take g (drop 2 ns)) (take r (drop (3 + g) ns)))
-      from_slip =
-          let i : 2 + g + 1 ≡ 3 + g = omega arith in
-          from_rules ∙ rw i at (counted_found most_rules ns (2 + g) (with_rules (take g (drop 2 ns))) y)
+    module _ {r last : Words} (b : Found most_rules after r last) where
+      from_slip : input ns ≡ counted most_slip last (with_slip g r)
+      from_slip = from_rules ∙ b (with_rules g)
 
-      pub no_slip : (q : Found) → q ≡ length_at most_slip ns (3 + g + r) → q ≡ Nothing → Parted ns Parts.Unread
-      no_slip q d e = record { same = sym (from_slip ∙ counted_none most_slip ns (3 + g + r) (with_slip (take g (drop 2 ns)) (take r (drop (3 + g) ns))) q d e); fit = tt }
+      pub no_slip : Missing most_slip last → none ≡ input ns
+      no_slip m = sym (from_slip ∙ m (with_slip g r))
 
-      module _ (t : ℕ) (z : Counted most_slip ns (3 + g + r) t) where
-        from_end : input ns ≡ whole (parts_at ns g r t) (drop (4 + g + r + t) ns)
-        from_end =
-            let i : 3 + g + r + 1 ≡ 4 + g + r = omega arith in
-            from_slip ∙ rw i at (counted_found most_slip ns (3 + g + r) (with_slip (take g (drop 2 ns)) (take r (drop (3 + g) ns))) z)
+      module _ {t over : Words} (d : Found most_slip last t over) where
+        from_end : input ns ≡ with_slip g r t over
+        from_end = from_slip ∙ d (with_slip g r)
 
-        pub left_over : 4 + g + r + t < length ns → Parted ns Parts.Unread
-        unfolding whole
-        left_over h = record { same = sym (from_end ∙ rw (drop-cons ns (4 + g + r + t) 0 h)); fit = tt }
+        pub left_over : (length over == 0) ≡ false → none ≡ input ns
+        left_over h = sym (from_end ∙ whole_over _ over h)
 
-        pub all_parts : length ns ≤ 4 + g + r + t → Parted ns (Parts.Read (record { grammar = g; rules = r; slip = t }))
-        unfolding whole
-        all_parts h = record { same = sym (from_end ∙ rw (drop_of_length-le ns {i = 4 + g + r + t} h)); fit = omega (arith, z.there) }
+        pub all_parts : (length over == 0) ≡ true → some (record { budget = budget; grammar = g; rules = r; slip = t }) ≡ input ns
+        all_parts h = sym (from_end ∙ whole_end _ over h)

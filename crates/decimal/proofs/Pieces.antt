@@ -6,7 +6,7 @@ use mathlib.Core.Bool.{Bool, true, false}
 use mathlib.Core.Option.{Option, none, some}
 use native.Mathlib.Omega.{arith}
 use lib.ListN.{take}
-use lib.IntN.{ℤ, pos, negsuc}
+use Rattle.std.specs.Prelude.{Option as Answer, Some, None}
 use Rattle.words.specs.Reader.{Words, pick}
 use Rattle.decimal.specs.Numbers.{Bytes, Numbers, at, byte_at, bytes, last_at, last, start, numbers, may_be, delivered, more_after, Delivery, read_over, joined, text_of}
 use Rattle.decimal.specs.declared.numbers.Place.{Place}
@@ -26,7 +26,7 @@ module _ (room : ℕ) (s : Numbers) (d : Delivery) where
 
 -- a read that failed
 abbrev failed : Delivery
-failed = record { got = negsuc 0; buffer = [] }
+failed = record { got = None; buffer = [] }
 
 pub over_failed : (room : ℕ) (s : Numbers) → read_over room s (failed ∷ []) ≡ some (at Unread [])
 unfolding read_over delivered more_after
@@ -57,13 +57,13 @@ unfolding text_of read_over joined delivered more_after bytes
 over_text room s [] text e = let z : ◌≡◌ {A = ℕ} 0 1 = cc in absurd (omega arith)
 over_text room s (d ∷ ds) text e = step d.got (text_of ds) (λ t rest h. over_text room t ds rest h) refl e
   where
-    step : (got : ℤ) (others : Option Bytes) → ((t : Numbers) (rest : Bytes) → text_of ds ≡ some rest → read_over room t ds ≡ some (last room (bytes room t rest)))
+    step : (got : Answer ℕ) (others : Option Bytes) → ((t : Numbers) (rest : Bytes) → text_of ds ≡ some rest → read_over room t ds ≡ some (last room (bytes room t rest)))
         → text_of ds ≡ others → joined got d.buffer others ≡ some text
         → pick (more_after got (delivered room s got d.buffer).place) (read_over room (delivered room s got d.buffer) ds) (some (delivered room s got d.buffer)) ≡ some (last room (bytes room s text))
-    step (negsuc k) others over h e = let z : ◌≡◌ {A = ℕ} 0 1 = cc in absurd (omega arith)
-    step (pos zero) others over h e = let i : [] ≡ text = cc in rw (← i)
-    step (pos (suc n)) none over h e = let z : ◌≡◌ {A = ℕ} 0 1 = cc in absurd (omega arith)
-    step (pos (suc n)) (some rest) over h e =
+    step None others over h e = let z : ◌≡◌ {A = ℕ} 0 1 = cc in absurd (omega arith)
+    step (Some zero) others over h e = let i : [] ≡ text = cc in rw (← i)
+    step (Some (suc n)) none over h e = let z : ◌≡◌ {A = ℕ} 0 1 = cc in absurd (omega arith)
+    step (Some (suc n)) (some rest) over h e =
         let t = bytes room s (take (suc n) d.buffer) in
         let i : take (suc n) d.buffer ++ rest ≡ text = cc in
         rw (← i, in_pieces room s (take (suc n) d.buffer) rest)

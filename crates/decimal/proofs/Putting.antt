@@ -1,12 +1,15 @@
 -- Laws of putting a text into bytes, over plain variables. Assumes nothing.
-use Prim.Native.Nat.{ℕ, zero, suc, ◌+◌, ◌-◌, ◌<◌, ◌≤◌, ◌/◌, ◌%◌}
+use Prim.Native.Nat.{ℕ, zero, suc, ◌+◌, ◌<◌, ◌≤◌, ◌/◌, ◌%◌, ◌^◌}
 use mathlib.Core.Path.{◌≡◌, refl, sym, ap, ◌∙◌}
+use mathlib.Core.Bool.{Bool, true, false}
+use lib.Dec.{ltb}
 use mathlib.Core.List.{[], ◌∷◌, ◌++◌, append_assoc, append-nil}
 use native.Mathlib.Omega.{arith}
+use Rattle.std.proofs.Math.Nat.{pow-succ'}
 use native.Mathlib.Numerals.{add-one}
-use lib.ListN.{length, get_or, take, drop, set, length-append, length-take, length-set}
-use lib.Seq.{take_all, take-suc, take-suc-set, drop-set-lt, take-append-le, take-length}
-use borrow.Author.Tests.{lt-ltb, le-ltb}
+use lib.ListN.{length, get_or, take, length-take}
+use lib.Seq.{take_all, take-suc}
+use borrow.Author.Tests.{lt-ltb, le-ltb, ltb-true, ltb-false}
 use Rattle.words.specs.Reader.{Words}
 use Rattle.decimal.proofs.Lists.{take_again, drop_more}
 use Rattle.decimal.specs.Numbers.{Bytes}
@@ -22,30 +25,6 @@ put_nothing w at h = record {
   long = refl;
 }
 
--- one byte, where there is room for it
-pub put_byte : (w : Bytes) (at b : ℕ) → at < length w → Put w at (b ∷ []) (at + 1) (set w at b)
-put_byte w at b h =
-    let l : length (take at w ++ (b ∷ [])) ≤ length w = simp (length-append, length-take) (omega arith) in
-    record {
-      text = rw (take_all (length w) (take at w ++ (b ∷ [])) l, add-one) (take-suc-set w at b h);
-      rest = drop-set-lt (at + 1) w at b (omega arith);
-      more = omega arith;
-      fits = omega arith;
-      long = length-set w at b;
-    }
-
--- and where there is none
-pub put_full : (w : Bytes) (at : ℕ) (t : Bytes) → at ≤ length w → length w ≤ at → Put w at t at w
-put_full w at t h f =
-    let e : at ≡ length w = omega arith in
-    record {
-      text = rw e (rw (take-length w) (sym (take-append-le (length w) w t (omega arith) ∙ take-length w)));
-      rest = refl;
-      more = omega arith;
-      fits = h;
-      long = refl;
-    }
-
 -- one text after another
 pub put_both : {w m v : Bytes} {at p q : ℕ} {s t : Bytes} → Put w at s p m → Put m p t q v → Put w at (s ++ t) q v
 put_both {w} {m} {v} {at} {p} {q} {s} {t} x y =
@@ -60,20 +39,28 @@ put_both {w} {m} {v} {at} {p} {q} {s} {t} x y =
 
 -- THE DIGITS
 
-pub no_digits : (k n : ℕ) → k ≡ 0 → digits k n ≡ []
+pub one_digit : (k n : ℕ) → n < 10 → digits (suc k) n ≡ (48 + n) ∷ []
 unfolding digits
-no_digits zero n e = refl
-no_digits (suc k) n e = absurd (omega arith)
+one_digit k n h = rw (lt-ltb n 10 h)
 
-pub one_digit : (k n : ℕ) → (k ≡ 0 → ⊥) → n < 10 → digits k n ≡ (48 + n) ∷ []
+last_digit : (k n : ℕ) → 10 ≤ n → digits (suc k) n ≡ digits k (n / 10) ++ ((48 + n % 10) ∷ [])
 unfolding digits
-one_digit zero n e h = absurd (e refl)
-one_digit (suc k) n e h = rw (lt-ltb n 10 h)
+last_digit k n h = rw (le-ltb n 10 h)
 
-pub more_digits : (k n : ℕ) → (k ≡ 0 → ⊥) → 10 ≤ n → digits k n ≡ digits (k - 1) (n / 10) ++ ((48 + n % 10) ∷ [])
-unfolding digits
-more_digits zero n e h = absurd (e refl)
-more_digits (suc k) n e h = let i : suc k - 1 ≡ k = omega arith in rw (le-ltb n 10 h, i)
+-- as many digits as the number has are enough
+enough : (k n : ℕ) → n < 10 ^ suc k → digits (suc (suc k)) n ≡ digits (suc k) n
+enough zero n h = one_digit 1 n h ∙ sym (one_digit 0 n h)
+enough (suc k) n h = by (ltb n 10) refl (λ l. enough k (n / 10) l)
+  where
+    by : (t : Bool) → ltb n 10 ≡ t → (n / 10 < 10 ^ suc k → digits (suc (suc k)) (n / 10) ≡ digits (suc k) (n / 10)) → digits (suc (suc (suc k))) n ≡ digits (suc (suc k)) n
+    by true e more = let l = ltb-true n 10 e in one_digit (suc (suc k)) n l ∙ sym (one_digit (suc k) n l)
+    by false e more =
+        let l = ltb-false n 10 e in
+        let d : n / 10 < 10 ^ suc k = omega (arith, h, pow-succ' 10 (suc k)) in
+        rw (last_digit (suc (suc k)) n l, last_digit (suc k) n l, more d) refl
+
+pub more_digits : (n : ℕ) → n < 18446744073709551616 → 10 ≤ n → decimal n ≡ decimal (n / 10) ++ ((48 + n % 10) ∷ [])
+more_digits n f h = last_digit 19 n h ∙ ap (λ (ds : Bytes). ds ++ ((48 + n % 10) ∷ [])) (sym (enough 18 (n / 10) (omega arith)))
 
 -- A ROW OF NUMBERS
 
@@ -85,19 +72,7 @@ spaced_snoc (v ∷ ws) w = ap (λ (l : Bytes). spaced v ++ l) (spaced_snoc ws w)
 pub spaced_next : (ws : Words) (i : ℕ) → i < length ws → all_spaced (take i ws) ++ spaced (get_or ws i 0) ≡ all_spaced (take (i + 1) ws)
 spaced_next ws i h = sym (rw (add-one, take-suc ws i 0 h) (spaced_snoc (take i ws) (get_or ws i 0)))
 
-pub text_next : (t : Bytes) (i : ℕ) → i < length t → take i t ++ (get_or t i 0 ∷ []) ≡ take (i + 1) t
-text_next t i h = rw add-one (sym (take-suc t i 0 h))
-
 pub line_empty : (ws : Words) → length ws ≡ 0 → line ws ≡ line_end
 unfolding line
 line_empty [] e = refl
 line_empty (w ∷ ws) e = absurd (omega arith)
-
-pub line_some : (ws : Words) → (length ws ≡ 0 → ⊥) → line ws ≡ decimal (get_or ws 0 0) ++ (all_spaced (drop 1 ws) ++ line_end)
-unfolding line
-line_some [] e = absurd (e refl)
-line_some (w ∷ ws) e = refl
-
-pub put_none : (w : Bytes) (at : ℕ) (ws : Words) → at ≤ length w → Put w at (all_spaced (take 0 ws)) at w
-unfolding all_spaced
-put_none w at ws h = put_nothing w at h

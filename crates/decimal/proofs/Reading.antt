@@ -1,73 +1,27 @@
 -- Laws of the reading of numbers, over plain variables. Assumes nothing.
 use Prim.Native.Nat.{ℕ, zero, suc, ◌+◌, ◌*◌, ◌-◌, ◌<◌, ◌≤◌, min}
-use mathlib.Core.Path.{◌≡◌, refl, sym, ap, ◌∙◌, subst}
+use mathlib.Core.Path.{◌≡◌, refl, sym, ap, ◌∙◌}
 use mathlib.Core.List.{[], ◌∷◌, ◌++◌}
 use mathlib.Core.Bool.{Bool, true, false}
 use native.Mathlib.Omega.{arith}
-use native.Mathlib.Nat.{lt_of_le_of_lt}
 use native.Mathlib.Numerals.{add-one, unary_clauses}
 use lib.ListN.{length, get_or, take, drop, set, length-append, take-append-drop, drop_of_length-le}
 use lib.Seq.{length-take-le, take-nil, drop-cons, append_snoc, set_split, take-append_seam, drop-append_seam}
-use lib.Dec.{T, ltb, leb, lit<}
-use lib.IntN.{ℤ, pos, negsuc, nat_abs}
-use lib.Signed.{lt_z, non_neg, nat_abs-le}
-use mir.Syntax.{w64}
-use mir.Val.{Fits, SFits, to_z, of_z}
-use mir.ValLaws.{to_z-of_z}
-use borrow.Author.Tests.{lt-ltb, le-ltb, le-leb, lt-leb, eq-eqb, ne_eqb, leb-true, ltb-true}
+use lib.Dec.{ltb}
+use Rattle.std.specs.Prelude.{Some, None}
+use borrow.Author.Tests.{lt-ltb, le-ltb}
 use Rattle.words.specs.Reader.{Words, pick}
-use Rattle.words.proofs.Laws.{and_both}
 use Rattle.decimal.proofs.Lists.{drop_more}
-use Rattle.decimal.specs.Numbers.{Bytes, is_digit, is_white, most_word, Numbers, at, grown, outside, added, byte_at, byte, bytes, last_at, last, delivered, more_after, may_be, said, Stands, Delivers}
+use Rattle.decimal.specs.Numbers.{Bytes, is_digit, is_white, Numbers, at, grown, added, byte_at, byte, bytes, last, delivered, more_after, may_be, said, Stands, Delivers}
 use Rattle.decimal.specs.declared.numbers.Place.{Place}
 use Rattle.decimal.specs.declared.numbers.Place.TheVariants.{Unread, Between, Within}
 use Rattle.decimal.specs.declared.numbers.Reading.{Reading}
 use Rattle.decimal.specs.declared.numbers.Piece.{Piece}
 
--- THE CLASSES OF BYTES
-
-pub digit_low : (b : ℕ) → b < 48 → false ≡ is_digit b
-digit_low b h = rw (lt-leb 48 b h)
-
-pub digit_high : (b : ℕ) → 48 ≤ b → leb b 57 ≡ is_digit b
-digit_high b h = rw (le-leb 48 b h)
-
-pub digit_least : (b : ℕ) → is_digit b ≡ true → 48 ≤ b
-digit_least b e = leb-true 48 b (and_both (leb 48 b) (leb b 57) e).0
-
-pub white_blank : (b : ℕ) → b ≡ 32 → true ≡ is_white b
-white_blank b h = rw (eq-eqb b 32 h)
-
-pub white_low : (b : ℕ) → (b ≡ 32 → ⊥) → b < 9 → false ≡ is_white b
-white_low b n h = rw (ne_eqb b 32 n, lt-leb 9 b h)
-
-pub white_high : (b : ℕ) → (b ≡ 32 → ⊥) → 9 ≤ b → leb b 13 ≡ is_white b
-white_high b n h = rw (ne_eqb b 32 n, le-leb 9 b h)
-
 -- ONE BYTE
 
 abbrev reading : Place → ℕ → Reading
 reading p n = record { place = p; count = n }
-
-pub grown_word : (v : ℕ) → v ≤ most_word → Within v ≡ grown v
-unfolding grown
-grown_word v h = rw (le-leb v most_word h)
-
-pub grown_over : (v : ℕ) → most_word < v → Unread ≡ grown v
-unfolding grown
-grown_over v h = rw (lt-leb v most_word h)
-
-pub outside_digit : (b : ℕ) → is_digit b ≡ true → grown (10 * 0 + (b - 48)) ≡ outside b
-unfolding outside
-outside_digit b d = let z : 10 * 0 + (b - 48) ≡ b - 48 = omega arith in rw (z, d)
-
-pub outside_white : (b : ℕ) → is_digit b ≡ false → is_white b ≡ true → Between ≡ outside b
-unfolding outside
-outside_white b d w = rw (d, w)
-
-pub outside_other : (b : ℕ) → is_digit b ≡ false → is_white b ≡ false → Unread ≡ outside b
-unfolding outside
-outside_other b d w = rw (d, w)
 
 -- nothing is found
 pub stands_same : (w : Words) (p : Place) (count : ℕ) → count ≤ length w → Stands (at p (take count w)) w (reading p count) w
@@ -88,27 +42,6 @@ add_full w count v h f =
     let n : length (take count w) ≡ count = length-take-le count w h in
     rw (n, le-ltb count (length w) f)
     (stands_same w Unread count h)
-
-module _ (w : Words) (count b : ℕ) where
-  pub byte_unread : count ≤ length w → {p : Place} → p ≡ Unread → Stands (byte_at (length w) p (take count w) b) w (reading Unread count) w
-  unfolding byte_at
-  byte_unread h e = rw e (stands_same w Unread count h)
-
-  pub byte_between : count ≤ length w → {p : Place} → p ≡ Between → {q : Place} → q ≡ outside b → Stands (byte_at (length w) p (take count w) b) w (reading q count) w
-  unfolding byte_at
-  byte_between h e f = rw (e, f) (stands_same w (outside b) count h)
-
-  pub byte_digit : count ≤ length w → {p : Place} {v : ℕ} → p ≡ Within v → is_digit b ≡ true → {q : Place} → q ≡ grown (10 * v + (b - 48)) → Stands (byte_at (length w) p (take count w) b) w (reading q count) w
-  unfolding byte_at
-  byte_digit h {p} {v} e d f = rw (e, f, d) (stands_same w (grown (10 * v + (b - 48))) count h)
-
-  pub byte_white : {p : Place} {v : ℕ} → p ≡ Within v → is_digit b ≡ false → is_white b ≡ true → (r : Reading) (w' : Words) → Stands (added (length w) (take count w) v) w r w' → Stands (byte_at (length w) p (take count w) b) w r w'
-  unfolding byte_at
-  byte_white e d s r w' x = rw (e, d, s) x
-
-  pub byte_other : count ≤ length w → {p : Place} {v : ℕ} → p ≡ Within v → is_digit b ≡ false → is_white b ≡ false → Stands (byte_at (length w) p (take count w) b) w (reading Unread count) w
-  unfolding byte_at
-  byte_other h e d s = rw (e, d, s) (stands_same w Unread count h)
 
 -- THE BYTES ONE AFTER THE OTHER
 
@@ -184,41 +117,7 @@ count_all (x ∷ w) (suc n) = simp unary_clauses (ap (λ (l : Words). x ∷ l) (
 pub said_all : (w : Words) (p : Place) (n m : ℕ) → m ≡ min n (length w) → at p (take m w) ≡ at p (take n w)
 said_all w p n m e = rw (e, count_all)
 
--- THE TEXT ENDS
-
-module _ (w : Words) (n count : ℕ) (e : count ≡ min n (length w)) where
-  least_fits : count ≤ length w
-  least_fits = omega arith
-
-  pub end_unread : {p : Place} → p ≡ Unread → Stands (last_at (length w) p (take n w)) w (reading Unread count) w
-  unfolding last_at
-  end_unread q = rw (q, ← count_all w n, ← e) (stands_same w Unread count least_fits)
-
-  pub end_between : {p : Place} → p ≡ Between → Stands (last_at (length w) p (take n w)) w (reading Between count) w
-  unfolding last_at
-  end_between q = rw (q, ← count_all w n, ← e) (stands_same w Between count least_fits)
-
-  pub end_within : {p : Place} {v : ℕ} → p ≡ Within v → (r : Reading) (w' : Words) → Stands (added (length w) (take count w) v) w r w' → Stands (last_at (length w) p (take n w)) w r w'
-  unfolding last_at
-  end_within q r w' x = rw (q, ← count_all w n, ← e) x
-
 -- A PIECE OF A TEXT
-
--- a signed number, as the machine reads it back from its bits, is the number
-pub signed : (z : ℤ) (t : Bool) → SFits w64 z → lt_z (to_z w64 (of_z w64 z)) (pos 0) ≡ t → lt_z z (pos 0) ≡ t
-signed z t f e = subst (λ (y : ℤ). lt_z y (pos 0) ≡ t) (to_z-of_z w64 z f) e
-
-pub signed_count : (z : ℤ) (n m : ℕ) → SFits w64 z → n ≡ min (nat_abs (to_z w64 (of_z w64 z))) m → n ≡ min (nat_abs z) m
-signed_count z n m f e = subst (λ (y : ℤ). n ≡ min (nat_abs y) m) (to_z-of_z w64 z f) e
-
-not_negative : (z : ℤ) → lt_z z (pos 0) ≡ false → T (non_neg z)
-not_negative (pos n) e = tt
-not_negative (negsuc n) e = let z : ◌≡◌ {A = ℕ} 0 1 = cc in absurd (omega arith)
-
--- so it can be cast to one without sign
-pub cast_fits : (z : ℤ) → SFits w64 z → lt_z (to_z w64 (of_z w64 z)) (pos 0) ≡ false → T (non_neg (to_z w64 (of_z w64 z))) × Fits w64 (nat_abs (to_z w64 (of_z w64 z)))
-cast_fits z f e =
-    (not_negative (to_z w64 (of_z w64 z)) e, subst (λ (y : ℤ). Fits w64 (nat_abs y)) (sym (to_z-of_z w64 z f)) (record { fits = lt_of_le_of_lt (nat_abs-le z f.sfits) (lit< tt) }))
 
 abbrev piece : Reading → Bool → Piece
 piece r more = record { read = r; more = more }
@@ -228,23 +127,20 @@ none_counted zero e = refl
 none_counted (suc n) e = let z : ◌≡◌ {A = ℕ} 0 1 = cc in absurd (omega arith)
 
 module _ (room : ℕ) (s : Numbers) (buffer : Bytes) (w : Words) where
-  pub piece_failed : (got : ℤ) (r : Reading) → lt_z got (pos 0) ≡ true → ((ws : Words) → said r ws ≡ at Unread []) → Delivers got (delivered room s got buffer) w (piece r false) w
+  pub piece_failed : (r : Reading) → ((ws : Words) → said r ws ≡ at Unread []) → Delivers None (delivered room s None buffer) w (piece r false) w
   unfolding delivered more_after
-  piece_failed (negsuc k) r e u = record { read = record { place = ap (λ (x : Numbers). x.place) (u []); count = none_counted r.count (ap (λ (x : Numbers). x.found) (u (0 ∷ []))); words = refl }; more = refl }
-  piece_failed (pos k) r e u = absurd (omega (arith, ltb-true k 0 e))
+  piece_failed r u = record { read = record { place = ap (λ (x : Numbers). x.place) (u []); count = none_counted r.count (ap (λ (x : Numbers). x.found) (u (0 ∷ []))); words = refl }; more = refl }
 
-  pub piece_last : (got : ℤ) (r : Reading) (w' : Words) → lt_z got (pos 0) ≡ false → of_z w64 got ≡ 0 → Stands (last room s) w r w' → Delivers got (delivered room s got buffer) w (piece r false) w'
+  pub piece_last : (n : ℕ) (r : Reading) (w' : Words) → n ≡ 0 → Stands (last room s) w r w' → Delivers (Some n) (delivered room s (Some n) buffer) w (piece r false) w'
   unfolding delivered more_after
-  piece_last (pos zero) r w' e z x = record { read = x; more = refl }
-  piece_last (pos (suc k)) r w' e z x = absurd (omega arith)
-  piece_last (negsuc k) r w' e z x = let z : ◌≡◌ {A = ℕ} 0 1 = cc in absurd (omega arith)
+  piece_last zero r w' e x = record { read = x; more = refl }
+  piece_last (suc n) r w' e x = absurd (omega arith)
 
-  pub piece_bytes : (got : ℤ) (n : ℕ) (r : Reading) (more : Bool) (w' : Words) → lt_z got (pos 0) ≡ false → (of_z w64 got ≡ 0 → ⊥) → n ≡ min (nat_abs got) (length buffer)
-      → Stands (bytes room s (take n buffer)) w r w' → more ≡ may_be r.place → Delivers got (delivered room s got buffer) w (piece r more) w'
+  pub piece_bytes : (n m : ℕ) (r : Reading) (more : Bool) (w' : Words) → (n ≡ 0 → ⊥) → m ≡ min n (length buffer)
+      → Stands (bytes room s (take m buffer)) w r w' → more ≡ may_be r.place → Delivers (Some n) (delivered room s (Some n) buffer) w (piece r more) w'
   unfolding delivered more_after
-  piece_bytes (pos zero) n r more w' e z m x g = absurd (z refl)
-  piece_bytes (pos (suc k)) n r more w' e z m x g =
-      let t : take n buffer ≡ take (suc k) buffer = rw (m, count_all) in
+  piece_bytes zero m r more w' z e x g = absurd (z refl)
+  piece_bytes (suc k) m r more w' z e x g =
+      let t : take m buffer ≡ take (suc k) buffer = rw (e, count_all) in
       let y : Stands (bytes room s (take (suc k) buffer)) w r w' = rw t at x in
       record { read = y; more = g ∙ ap may_be y.place }
-  piece_bytes (negsuc k) n r more w' e z m x g = let z : ◌≡◌ {A = ℕ} 0 1 = cc in absurd (omega arith)

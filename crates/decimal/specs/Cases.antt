@@ -1,5 +1,6 @@
 -- Texts, the inputs that they are, and what is printed: tables, each with one proof. Texts are written as bytes. Assumes nothing.
-use Rattle.std.specs.Prelude.{ℕ, ◌≡◌, refl, List, [], ◌∷◌, ◌++◌, map, ℤ, pos, negsuc, replicate}
+use Rattle.std.specs.Prelude.{ℕ, ◌≡◌, refl, List, [], ◌∷◌, ◌++◌, map, replicate}
+use Rattle.std.specs.Prelude.{Option as Answer, Some, None}
 use Rattle.std.proofs.Math.Option.{Option, none, some}
 use Rattle.words.specs.Reader.{Words}
 use Rattle.meaning.specs.Meaning.{done, stopped}
@@ -61,19 +62,19 @@ texts_read = refl
 
 -- A TEXT IN PIECES, with room for four
 
-abbrev piece : ℤ → Bytes → Delivery
+abbrev piece : Answer ℕ → Bytes → Delivery
 piece got buffer = record { got = got; buffer = buffer }
 
 pieces : List (List Delivery)
 pieces =
     -- "1", "2 3" in a longer buffer, the end: "12 3"
-    (piece (pos 1) (49 ∷ []) ∷ piece (pos 3) (50 ∷ 32 ∷ 51 ∷ 57 ∷ []) ∷ piece (pos 0) [] ∷ [])
+    (piece (Some 1) (49 ∷ []) ∷ piece (Some 3) (50 ∷ 32 ∷ 51 ∷ 57 ∷ []) ∷ piece (Some 0) [] ∷ [])
     -- the end at once
-    ∷ (piece (pos 0) (49 ∷ []) ∷ [])
+    ∷ (piece (Some 0) (49 ∷ []) ∷ [])
     -- a read that fails, after "1 "; a wrong byte, and no end; "1", and no end
-    ∷ (piece (pos 2) (49 ∷ 32 ∷ []) ∷ piece (negsuc 0) [] ∷ [])
-    ∷ (piece (pos 3) (49 ∷ 32 ∷ 45 ∷ []) ∷ [])
-    ∷ (piece (pos 1) (49 ∷ []) ∷ [])
+    ∷ (piece (Some 2) (49 ∷ 32 ∷ []) ∷ piece None [] ∷ [])
+    ∷ (piece (Some 3) (49 ∷ 32 ∷ 45 ∷ []) ∷ [])
+    ∷ (piece (Some 1) (49 ∷ []) ∷ [])
     ∷ []
 
 pieces_read : map (read_over 4 start) pieces ≡ (some (at Between (12 ∷ 3 ∷ [])) ∷ some (at Between []) ∷ some (at Unread []) ∷ some (at Unread (1 ∷ [])) ∷ none ∷ [])

@@ -1,14 +1,14 @@
 -- THE PARTS OF AN INPUT, from its numbers: "budget, then length and words of grammar, book and slip". Assumes nothing: these are definitions.
-use Rattle.std.specs.Prelude.{ℕ, ◌+◌, ◌-◌, ◌≡◌, [], ◌∷◌, length, get_or, take, drop, ltb, leb}
+use Rattle.std.specs.Prelude.{ℕ, ◌≡◌, [], ◌∷◌, length, take, drop, leb}
 use Rattle.std.proofs.Math.Option.{Option, none, some}
+use Rattle.std.specs.Prelude.{Option as Answer, Some, None}
+use denote.Ref.{Bor}
 use Rattle.words.specs.Reader.{Words, pick, and}
 use Rattle.meaning.specs.Outcome.{Inputs}
 use Rattle.decimal.specs.Numbers.{Bytes, Numbers, numbers}
 use Rattle.decimal.specs.declared.numbers.Place.{Place}
 use Rattle.decimal.specs.declared.numbers.Place.TheVariants.{Unread, Between, Within}
 use Rattle.decimal.specs.declared.input.Parts.{Parts}
-use Rattle.decimal.specs.declared.input.Found.{Found}
-use Rattle.decimal.specs.declared.input.Found.TheVariants.{Length, Nothing}
 
 -- "a length more than one past its limit" is other input: the most words of a grammar, a rule book and a slip, and one more
 abbrev pub most_grammar : ℕ
@@ -61,25 +61,20 @@ input_from text = input_of (numbers most_numbers text)
 
 -- WHAT THE CODE PROMISES
 
--- the length at a position
-unfoldable pub length_at : ℕ → Words → ℕ → Found
-length_at most ns at = pick (and (ltb at (length ns)) (and (leb (get_or ns at 0) most) (leb (get_or ns at 0) (length ns - (at + 1))))) (Length (get_or ns at 0)) Nothing
+-- the input that parts are
+abbrev pub inputs_of : Parts → Inputs
+inputs_of p = record { budget = p.budget; grammar = p.grammar.now; rules = p.rules.now; slip = p.slip.now }
 
--- the parts at the places that the lengths give
-abbrev pub parts_at : Words → ℕ → ℕ → ℕ → Inputs
-parts_at ns g r s = record { budget = get_or ns 0 0; grammar = take g (drop 2 ns); rules = take r (drop (3 + g) ns); slip = take s (drop (4 + g + r) ns) }
+-- and that an answer says
+abbrev pub said : Answer Parts → Option Inputs
+said None = none
+said (Some p) = some (inputs_of p)
 
--- the input by its lengths
-abbrev pub said : Parts → Words → Option Inputs
-said Parts.Unread ns = none
-said (Parts.Read l) ns = some (parts_at ns l.grammar l.rules l.slip)
+-- what is made of a part and of the numbers after it, if they were found
+abbrev pub made : Answer (Bor Words × Bor Words) → (Words → Words → Option Inputs) → Option Inputs
+made None f = none
+made (Some p) f = f p.0.now p.1.now
 
--- the parts are all the numbers
-abbrev pub Fit : Parts → Words → Type 0
-Fit Parts.Unread ns = Unit {0}
-Fit (Parts.Read l) ns = 4 + l.grammar + l.rules + l.slip ≡ length ns
-
--- the parts are those of the input
-pub record Parted (ns : Words) (r : Parts) : Type 0 where
-  pub same : said r ns ≡ input ns
-  pub fit : Fit r ns
+-- a part, as it is counted
+abbrev pub Counted : ℕ → Words → Answer (Bor Words × Bor Words) → Type 0
+Counted most ns r = (f : Words → Words → Option Inputs) → counted most ns f ≡ made r f

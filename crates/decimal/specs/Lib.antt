@@ -1,4 +1,5 @@
 pub mod Numbers
 pub mod Input
 pub mod Printed
+pub mod Texts
 pub mod Cases

@@ -1,5 +1,6 @@
 -- THE NUMBERS OF A TEXT, from its bytes: "reads decimal numbers from standard input". Assumes nothing: these are definitions.
-use Rattle.std.specs.Prelude.{ℕ, zero, suc, ◌+◌, ◌*◌, ◌-◌, ◌≡◌, List, [], ◌∷◌, ◌++◌, Bool, true, false, length, take, drop, ltb, leb, eqb, ℤ, pos, negsuc}
+use Rattle.std.specs.Prelude.{ℕ, zero, suc, ◌+◌, ◌*◌, ◌-◌, ◌≡◌, List, [], ◌∷◌, ◌++◌, Bool, true, false, length, take, drop, ltb, leb, eqb}
+use Rattle.std.specs.Prelude.{Option as Answer, Some, None}
 use Rattle.std.proofs.Math.Option.{Option, none, some}
 use Rattle.words.specs.Reader.{Words, pick, or, between}
 use Rattle.decimal.specs.declared.numbers.Place.{Place}
@@ -83,23 +84,23 @@ may_be Unread = false
 may_be Between = true
 may_be (Within v) = true
 
--- IN PIECES, as the system's `read` delivers them: it answers a count and puts so many bytes at the start of a buffer
+-- IN PIECES, as the system's `read` delivers them: it answers a count and puts so many bytes at the start of a buffer, or it fails and answers none
 
 -- the reading after one: a read that failed leaves a text unread, no bytes are its end
-unfoldable pub delivered : ℕ → Numbers → ℤ → Bytes → Numbers
-delivered room s (negsuc k) buffer = at Unread []
-delivered room s (pos zero) buffer = last room s
-delivered room s (pos (suc n)) buffer = bytes room s (take (suc n) buffer)
+unfoldable pub delivered : ℕ → Numbers → Answer ℕ → Bytes → Numbers
+delivered room s None buffer = at Unread []
+delivered room s (Some zero) buffer = last room s
+delivered room s (Some (suc n)) buffer = bytes room s (take (suc n) buffer)
 
 -- may there be more, where a reading stands after it?
-unfoldable pub more_after : ℤ → Place → Bool
-more_after (negsuc k) p = false
-more_after (pos zero) p = false
-more_after (pos (suc n)) p = may_be p
+unfoldable pub more_after : Answer ℕ → Place → Bool
+more_after None p = false
+more_after (Some zero) p = false
+more_after (Some (suc n)) p = may_be p
 
 -- one answer of `read`
 pub record Delivery : Type 0 where
-  pub got : ℤ
+  pub got : Answer ℕ
   pub buffer : Bytes
 
 -- the reading over deliveries, one after the other, up to where there is no more; none if there may still be more
@@ -110,11 +111,11 @@ read_over room s (d ∷ ds) =
     pick (more_after d.got t.place) (read_over room t ds) (some t)
 
 -- the bytes of one, and the text that the others bring
-unfoldable pub joined : ℤ → Bytes → Option Bytes → Option Bytes
-joined (negsuc k) buffer rest = none
-joined (pos zero) buffer rest = some []
-joined (pos (suc n)) buffer none = none
-joined (pos (suc n)) buffer (some rest) = some (take (suc n) buffer ++ rest)
+unfoldable pub joined : Answer ℕ → Bytes → Option Bytes → Option Bytes
+joined None buffer rest = none
+joined (Some zero) buffer rest = some []
+joined (Some (suc n)) buffer none = none
+joined (Some (suc n)) buffer (some rest) = some (take (suc n) buffer ++ rest)
 
 -- the text that deliveries bring; none if a read failed, or if its end did not come
 unfoldable pub text_of : List Delivery → Option Bytes
@@ -134,6 +135,6 @@ pub record Stands (s : Numbers) (before : Words) (r : Reading) (after : Words) :
   pub words : after ≡ s.found ++ drop (length s.found) before
 
 -- the answer to a piece: the reading, the words afterwards, and whether there may be more
-pub record Delivers (got : ℤ) (s : Numbers) (before : Words) (r : Piece) (after : Words) : Type 0 where
+pub record Delivers (got : Answer ℕ) (s : Numbers) (before : Words) (r : Piece) (after : Words) : Type 0 where
   pub read : Stands s before r.read after
   pub more : r.more ≡ more_after got s.place

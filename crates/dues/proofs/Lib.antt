@@ -1,3 +1,3 @@
-pub mod Stack
-pub mod Pairs
+pub mod Standing
+pub mod Row
 pub mod Tokens

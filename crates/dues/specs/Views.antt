@@ -1,26 +1,25 @@
--- What the code that meets a pair keeps and hands back: the variables, the stack of what is due, and what a pair leaves. Assumes nothing: these are definitions.
-use Rattle.std.specs.Prelude.{ℕ, zero, suc, ◌+◌, ◌*◌, ◌≤◌, ◌<◌, ◌≡◌, List, [], ◌∷◌, ◌++◌, map, Bool, true, false, length, get_or, take, drop, ltb, leb, eqb}
+-- What the code that meets a pair keeps and hands back: what a pair leaves, and what it passes over. Assumes nothing: these are definitions.
+use Rattle.std.specs.Prelude.{ℕ, zero, suc, ◌+◌, ◌≤◌, ◌<◌, ◌≡◌, List, [], ◌∷◌, ◌++◌, map, Bool, true, false, length, get_or, drop, ltb, eqb, Option, None, Some, Result, Ok, Err}
 use Rattle.words.specs.Reader.{Words, pick, and, Read, value, refused, Reader, ◌>>◌}
 use Rattle.grammar.specs.Grammar.{Grammar}
 use Rattle.grammar.specs.Kinds.{children, is_sequence}
-use Rattle.tables.specs.Tables.{is_token, Rows}
+use Rattle.tables.specs.Tables.{is_token}
+use Rattle.tables.specs.Types.{OfTypes}
+use Rattle.tables.specs.declared.types.Types.{Types}
 use Rattle.tree.specs.Limits.{most_nesting}
 use Rattle.tree.specs.Tree.{levels}
 use Rattle.tree.specs.Dues.{Next, second_word, leaves, pairs}
-use Rattle.tree.specs.Reading.{tree, dues_of}
-use Rattle.tree.specs.Views.{InTables, level}
+use Rattle.tree.specs.Reading.{dues_of}
+use Rattle.tree.specs.Views.{level}
 use Rattle.rules.specs.Rules.{Rules}
 use Rattle.rules.specs.Layout.{bit}
 use Rattle.rules.specs.declared.Strategy.{Strategy}
 use Rattle.rules.specs.declared.Strategy.TheVariants.{RootOnly, FirstMatch, Exhaustive, OnePass}
-use Rattle.judgement.specs.Wanted.{Wanted, exactly, a_number, to_join, a_sequence, anything}
+use Rattle.judgement.specs.Wanted.{Wanted, exactly}
 use Rattle.judgement.specs.Typing as Typing
-use Rattle.judgement.specs.Typing.{Due, a_tree, a_chain, application_count, application, argument, Context, in_pattern, in_replacement, in_condition, may_stand, meets}
+use Rattle.judgement.specs.Typing.{Due, a_tree, argument, Context, in_pattern, in_replacement, in_condition, may_stand, meets}
 use Rattle.dues.specs.declared.Place.{Place}
 use Rattle.dues.specs.declared.Place.TheVariants.{Pattern, Replacement, Condition}
-use Rattle.dues.specs.declared.Ctx.{Ctx}
-use Rattle.dues.specs.declared.Met.{Met}
-use Rattle.dues.specs.declared.Met.TheVariants.{Bad, Top, New}
 
 -- the place, as the typing has it
 abbrev pub place_as : Place → Typing.Place
@@ -28,38 +27,7 @@ place_as Pattern = in_pattern
 place_as Replacement = in_replacement
 place_as Condition = in_condition
 
--- the types of the variables that are there
-abbrev pub context_of : Ctx → Context
-context_of c = take c.n c.types
-
--- the types of n variables lie in an array with room for 16
-abbrev pub Known : Words → ℕ → Type 0
-Known ts n = (length ts ≡ 16) × (n ≤ 16)
-
--- THE STACK
-
--- what is wanted as an argument, by its two words on the stack
-unfoldable pub wanted_of : ℕ → ℕ → Wanted
-wanted_of a b = pick (eqb a 103) (exactly b) (pick (eqb a 104) a_number (pick (eqb a 105) (to_join b) (pick (eqb a 106) a_sequence anything)))
-
--- a due, by its two words on the stack
-unfoldable pub due_of : ℕ → ℕ → Due
-due_of a b =
-    pick (leb a 65) (a_tree (tree a b)) (pick (eqb a 100) a_chain (pick (eqb a 101) (application_count b) (pick (eqb a 102) (application b) (argument (wanted_of a b)))))
-
--- the due at a height of the stack
-abbrev pub due_at : Words → ℕ → Due
-due_at st k = due_of (get_or st (2 * k) 0) (get_or st (2 * k + 1) 0)
-
--- the stack's dues; the top is the last
-unfoldable pub stack_of : Words → ℕ → List Due
-stack_of st zero = []
-stack_of st (suc k) = due_at st k ∷ stack_of st k
-
--- the dues stand on top of what the stack held before
-pub record Pushed (st : Words) (sp : ℕ) (st' : Words) (sp' : ℕ) (ds : List Due) : Type 0 where
-  pub stack : stack_of st' sp' ≡ ds ++ stack_of st sp
-  pub size : sp' ≡ length ds + sp
+-- WHAT IS MADE DUE
 
 -- children of these types, all at one nesting
 abbrev pub children_due : ℕ → List ℕ → List Due
@@ -78,29 +46,29 @@ words_at ws at (suc k) = get_or ws at 0 ∷ words_at ws (at + 1) k
 abbrev pub parameters_due : Words → ℕ → ℕ → List Due
 parameters_due ws at k = map argument (map exactly (words_at ws at k))
 
--- the tables of children are those of a grammar
-abbrev pub AreRows : Words → Type 0
-AreRows rows = (g : Grammar) × Rows g rows
+-- the type of variable v, or 22 at the second word of the pair that names it
+abbrev pub variable_at : Context → ℕ → ℕ → Result ℕ (ℕ × ℕ)
+variable_at Γ v at = pick (ltb v (length Γ)) (Ok (get_or Γ v 0)) (Err (22, at + 1))
 
 -- WHAT A PAIR LEAVES
 
--- the reading passes: these variables are there then, and what it makes due stands on the stack, up to the top
-pub record Left (Γ : Context) (st : Words) (sp : ℕ) (st' : Words) (top : ℕ) (q : Read (Next Due Context)) : Type 0 where
+-- the reading passes: these variables are there then, and what it makes due stands on the stack
+pub record Left (Γ : Context) (ds ds' : List Due) (q : Read (Next Due Context)) : Type 0 where
   pub dues : List Due
   pub next : ℕ
   pub read : q ≡ value (record { known = Γ; dues = dues }) next
-  pub pushed : Pushed st sp st' top dues
-  pub most : top ≤ sp + 8
+  pub pushed : ds' ≡ dues ++ ds
+  pub few : length dues ≤ 8
 
--- what a pair comes to, where the variables Γ are there, says what its reading is
-abbrev pub Says : Met → Context → Words → ℕ → Words → Read (Next Due Context) → Type 0
-Says (Bad n p) Γ st sp st' q = q ≡ refused n p
-Says (Top top) Γ st sp st' q = Left Γ st sp st' top q
-Says (New d) Γ st sp st' q = (length Γ < 16) × Left (Γ ++ d ∷ []) st sp st' sp q
+-- what a pair comes to, where the variables Γ are there and the dues ds on the stack, says what its reading is: a refusal, a new variable, or dues
+abbrev pub Says : Result (Option ℕ) (ℕ × ℕ) → Context → List Due → List Due → Read (Next Due Context) → Type 0
+Says (Err x) Γ ds ds' q = q ≡ refused x.0 x.1
+Says (Ok None) Γ ds ds' q = Left Γ ds ds' q
+Says (Ok (Some d)) Γ ds ds' q = (length Γ < 16) × Left (Γ ++ d ∷ []) ds ds' q
 
 -- .. as a record, so that a law can infer what it is of
-pub record Meets (m : Met) (Γ : Context) (st : Words) (sp : ℕ) (st' : Words) (q : Read (Next Due Context)) : Type 0 where
-  pub says : Says m Γ st sp st' q
+pub record Meets (m : Result (Option ℕ) (ℕ × ℕ)) (Γ : Context) (ds ds' : List Due) (q : Read (Next Due Context)) : Type 0 where
+  pub says : Says m Γ ds ds' q
 
 -- THE TOKENS OF A SEQUENCE
 
@@ -108,12 +76,12 @@ pub record Meets (m : Met) (Γ : Context) (st : Words) (sp : ℕ) (st' : Words) 
 unfoldable pub tokens_due : Grammar → Typing.Place → ℕ → ℕ → Bool
 tokens_due g here n d = and (ltb n most_nesting) (and (is_sequence g d) (and (is_token g (get_or (children g d 0) 0 0)) (may_stand here d d)))
 
--- where (a, b) is due on top, the pairs from r on leave what those from `from` on leave
-pub record TokensPassed (heads rows : Words) (here : Typing.Place) (a b : ℕ) (ps : Words) (from r : ℕ) : Type 0 where
+-- where this is due on top, the pairs from r on leave what those from `from` on leave
+pub record TokensPassed (types : Types) (here : Typing.Place) (due : Due) (ps : Words) (from r : ℕ) : Type 0 where
   pub later : from ≤ r
   pub within : r ≤ length ps
-  pub same : InTables heads rows (λ g. (rules : Rules) (ds : List Due) (Γ : Context) (start : ℕ)
-      → pairs (meets g rules here) 23 (drop from ps) (due_of a b ∷ ds) Γ (start + from) ≡ pairs (meets g rules here) 23 (drop r ps) (due_of a b ∷ ds) Γ (start + r))
+  pub same : OfTypes types (λ g. (rules : Rules) (ds : List Due) (Γ : Context) (start : ℕ)
+      → pairs (meets g rules here) 23 (drop from ps) (due ∷ ds) Γ (start + from) ≡ pairs (meets g rules here) 23 (drop r ps) (due ∷ ds) Γ (start + r))
 
 -- WHAT IS APPLIED
 

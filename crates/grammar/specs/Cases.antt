@@ -1,13 +1,11 @@
 -- The single check of a grammar, run on document 01's grammars, their near misses and damaged ones; the values of tokens at their limits: a table and a proof each. Assumes nothing.
-use Rattle.std.specs.Prelude.{◌≡◌, refl, List, [], ◌∷◌, ◌++◌, map, Bool, true, false, replicate}
+use Rattle.std.specs.Prelude.{◌≡◌, refl, List, [], ◌∷◌, ◌++◌, map, Bool, true, false, replicate, ℕ, Result, Ok, Err}
 use Rattle.words.specs.Reader.{Words, word, word_in, many, end}
-use Rattle.words.specs.declared.Check.{Check}
-use Rattle.words.specs.declared.Check.TheVariants.{Passed, Refused}
 use Rattle.words.specs.Views.{answer}
 use Rattle.grammar.specs.Grammar.{token, types_of, field, element, form, kind, grammar, all_known, any_form_known, finishes, round, rounds, finite, finite_records, read_grammar, grammar_fits, check_grammar}
 use Rattle.grammar.specs.Kinds.{allows}
 
-run : Words → Check
+run : Words → (Result ℕ (ℕ × ℕ))
 run ws = answer (check_grammar ws)
 
 inputs : List Words
@@ -66,50 +64,50 @@ inputs =
     ∷ (3 ∷ 8 ∷ 1 ∷ 1 ∷ 1 ∷ 8 ∷ 1 ∷ 1 ∷ 2 ∷ 8 ∷ 1 ∷ 0 ∷ [])
     ∷ []
 
-outputs : List Check
+outputs : List (Result ℕ (ℕ × ℕ))
 outputs =
-    Passed 9
-    ∷ Refused 10 0
-    ∷ Refused 10 1
-    ∷ Refused 10 2
-    ∷ Refused 10 3
-    ∷ Refused 10 4
-    ∷ Refused 10 6
-    ∷ Refused 10 8
-    ∷ Refused 10 9
-    ∷ Passed 9
-    ∷ Refused 10 6
-    ∷ Refused 11 0
-    ∷ Refused 11 0
-    ∷ Refused 11 1
-    ∷ Refused 11 1
-    ∷ Refused 11 1
-    ∷ Refused 11 1
-    ∷ Refused 11 1
-    ∷ Refused 11 2
-    ∷ Passed 3
-    ∷ Passed 3
-    ∷ Refused 11 2
-    ∷ Refused 11 2
-    ∷ Refused 11 2
-    ∷ Refused 11 2
-    ∷ Refused 11 2
-    ∷ Passed 3
-    ∷ Passed 3
-    ∷ Passed 3
-    ∷ Refused 11 2
-    ∷ Refused 11 2
-    ∷ Passed 4
-    ∷ Refused 11 3
-    ∷ Passed 19
-    ∷ Passed 6
-    ∷ Refused 11 5
-    ∷ Refused 11 4
-    ∷ Refused 12 1
-    ∷ Refused 12 3
-    ∷ Refused 12 3
-    ∷ Refused 10 5
-    ∷ Passed 12
+    Ok 9
+    ∷ Err (10, 0)
+    ∷ Err (10, 1)
+    ∷ Err (10, 2)
+    ∷ Err (10, 3)
+    ∷ Err (10, 4)
+    ∷ Err (10, 6)
+    ∷ Err (10, 8)
+    ∷ Err (10, 9)
+    ∷ Ok 9
+    ∷ Err (10, 6)
+    ∷ Err (11, 0)
+    ∷ Err (11, 0)
+    ∷ Err (11, 1)
+    ∷ Err (11, 1)
+    ∷ Err (11, 1)
+    ∷ Err (11, 1)
+    ∷ Err (11, 1)
+    ∷ Err (11, 2)
+    ∷ Ok 3
+    ∷ Ok 3
+    ∷ Err (11, 2)
+    ∷ Err (11, 2)
+    ∷ Err (11, 2)
+    ∷ Err (11, 2)
+    ∷ Err (11, 2)
+    ∷ Ok 3
+    ∷ Ok 3
+    ∷ Ok 3
+    ∷ Err (11, 2)
+    ∷ Err (11, 2)
+    ∷ Ok 4
+    ∷ Err (11, 3)
+    ∷ Ok 19
+    ∷ Ok 6
+    ∷ Err (11, 5)
+    ∷ Err (11, 4)
+    ∷ Err (12, 1)
+    ∷ Err (12, 3)
+    ∷ Err (12, 3)
+    ∷ Err (10, 5)
+    ∷ Ok 12
     ∷ []
 
 right : map run inputs ≡ outputs

@@ -1,42 +1,33 @@
 -- What the code hands back of a reading. Assumes nothing: these are definitions.
-use Rattle.std.specs.Prelude.{ℕ, zero, suc, List, Bool, true, false, get_or, replicate}
+use Rattle.std.specs.Prelude.{ℕ, zero, suc, List, Bool, true, false, get_or, replicate, Result}
+use Rattle.words.specs.Views.{shown}
 use Rattle.std.proofs.lemmas.List.Edits.{sets}
 use Rattle.words.specs.Reader.{pick, and, or, Read, value, refused}
 use Rattle.grammar.specs.Grammar.{Kind, Grammar, all_known, any_form_known, finishes, round, types_of, is_literal}
-use Rattle.words.specs.declared.Got.{Got}
-use Rattle.words.specs.declared.Got.TheVariants.{Word, Bad}
-use Rattle.grammar.specs.declared.Seen.{Seen}
-use Rattle.grammar.specs.declared.Seen.TheVariants.{Whole, Fault}
 
--- the next position, and whether what was read can be finished with the types known; `acc` is what was found before
-abbrev pub seen_element : List Bool → Read ℕ → Seen
-seen_element known (value e next) = Whole next (pick (is_literal e) true (get_or known e false))
-seen_element known (refused n p) = Fault n p
+-- can an element be finished with the types known? A literal always can
+abbrev pub element_finishes : List Bool → ℕ → Bool
+element_finishes known e = pick (is_literal e) true (get_or known e false)
 
--- elements that were read, after others
-abbrev pub seen_elements : List Bool → Bool → Read (List ℕ) → Seen
-seen_elements known acc (value es next) = Whole next (and acc (all_known known (types_of es)))
-seen_elements known acc (refused n p) = Fault n p
+-- can what was read be finished with the types known, and the next position
+abbrev pub seen_element : List Bool → Read ℕ → Result (Bool × ℕ) (ℕ × ℕ)
+seen_element known = shown (element_finishes known)
+
+-- elements that were read, after others; `acc` is what was found before
+abbrev pub seen_elements : List Bool → Bool → Read (List ℕ) → Result (Bool × ℕ) (ℕ × ℕ)
+seen_elements known acc = shown (λ es. and acc (all_known known (types_of es)))
 
 -- a form that was read
-abbrev pub seen_form : List Bool → Read (List ℕ) → Seen
-seen_form known (value ts next) = Whole next (all_known known ts)
-seen_form known (refused n p) = Fault n p
+abbrev pub seen_form : List Bool → Read (List ℕ) → Result (Bool × ℕ) (ℕ × ℕ)
+seen_form known = shown (all_known known)
 
 -- forms that were read, after others
-abbrev pub seen_forms : List Bool → Bool → Read (List (List ℕ)) → Seen
-seen_forms known acc (value fs next) = Whole next (or acc (any_form_known known fs))
-seen_forms known acc (refused n p) = Fault n p
+abbrev pub seen_forms : List Bool → Bool → Read (List (List ℕ)) → Result (Bool × ℕ) (ℕ × ℕ)
+seen_forms known acc = shown (λ fs. or acc (any_form_known known fs))
 
 -- a kind that was read
-abbrev pub seen_kind : List Bool → Read Kind → Seen
-seen_kind known (value k next) = Whole next (finishes known k)
-seen_kind known (refused n p) = Fault n p
-
--- a record of one field, whose trees can always be finished
-abbrev pub closed_of : Got → Seen
-closed_of (Word w next) = Whole next true
-closed_of (Bad n p) = Fault n p
+abbrev pub seen_kind : List Bool → Read Kind → Result (Bool × ℕ) (ℕ × ℕ)
+seen_kind known = shown (finishes known)
 
 -- a round's flags, from type t on put into an array
 abbrev pub filled : List Bool → List Bool → ℕ → Read Grammar → List Bool

@@ -1,18 +1,17 @@
--- The loop that looks for a blank in a marked tree. Assumes nothing.
-use Prim.Native.Nat.{ℕ, suc, ◌+◌, ◌*◌, ◌<◌, ◌≤◌}
-use mathlib.Core.Path.{◌≡◌, refl, sym, ap, ap₂, ◌∙◌}
+-- The search for a blank in a marked tree, pair by pair. Assumes nothing.
+use Prim.Native.Nat.{ℕ, zero, suc, ◌+◌, ◌-◌, ◌*◌, ◌<◌, ◌≤◌}
+use mathlib.Core.Path.{◌≡◌, refl, sym, ap, ap₂, subst, ◌∙◌}
 use mathlib.Core.List.{List, [], ◌∷◌}
 use mathlib.Core.Bool.{Bool, true, false}
 use native.Mathlib.Omega.{arith}
 use native.Mathlib.Numerals.{add-one}
-use lib.ListN.{length, get_or, take, drop, drop_of_length-le}
-use lib.Seq.{get_or-take}
-use borrow.Author.Tests.{eq-eqb, ne_eqb}
+use lib.ListN.{length, get_or, take, drop, length-take}
+use lib.Seq.{get_or-take, get_or-drop}
 use Rattle.words.specs.Reader.{Words, or}
-use Rattle.words.proofs.Stretches.{drop_pair}
+use Rattle.words.proofs.Laws.{or_true}
 use Rattle.grammar.specs.Grammar.{Grammar}
-use Rattle.grammar.specs.Kinds.{is_text}
-use Rattle.tables.specs.Tables.{InHeads, Heads}
+use Rattle.tables.specs.Types.{OfTypes, TypesOf}
+use Rattle.tables.specs.declared.types.Types.{Types}
 use Rattle.tree.specs.Tree.{Trees, size, first_tree}
 use Rattle.tree.specs.Blanks.{is_blank, holds_blank}
 use Rattle.tree.proofs.Trees.{split, trees_even, first_even}
@@ -21,6 +20,16 @@ use Rattle.marks.specs.Post.{HoldsBlank}
 use Rattle.marks.proofs.Marks.{unmarked_type, unmarked_value, marked_length}
 use Rattle.marks.proofs.Spans.{first_size}
 use Rattle.marks.proofs.Same.{unmark, marked_first, part_size}
+use denote.Param.Members.{Mut, Called}
+use denote.Ref.{Bor}
+use Rattle.std.specs.Bool.{IsTrue, MatchBool}
+use Rattle.std.specs.List.{slice_get}
+use Rattle.std.specs.Option.{IsSomeAnd, IfSome}
+use Rattle.std.specs.declared.option.Option.{Option}
+use Rattle.std.specs.declared.option.Option.TheVariants.{Some, None}
+use Rattle.std.specs.Slice.Iter.{chunks_exact_rest, chunks_exact_size, chunks_exact_steps}
+use Rattle.std.specs.Iterator.Runs.{YieldsRun, EveryRun, SomeRun, IsChunksExactRun, Run, CallKeepsClosure, AnyItemGives, AllItemsGive}
+use Rattle.std.specs.declared.slice.ChunksExact.{ChunksExact}
 
 -- the first tree of n nodes, as its marked words show it
 record Shown (g : Grammar) (part tree : Words) (n : ℕ) : Type 0 where
@@ -44,60 +53,82 @@ shown {g} {t} {ts} part ws w n l e r k ew en =
           ap₂ (λ x j. get_or x j 0) (sym bare) (add-one i) ∙ unmarked_value (take (2 * n) part) half i h (omega arith) ∙ get_or-take (2 * n) part (suc i) 0 (omega arith) ∙ ap (λ j. get_or part j 0) (sym (add-one i));
     }
 
--- of the first tree's nodes those before i are no blanks
-pub record BlankLoop (heads part : Words) (i : ℕ) : Type 0 where
-  half : ℕ
-  even : i ≡ 2 * half
-  same : (g : Grammar) (ws : Words) (t : ℕ) (ts : List ℕ) → Heads g heads → part ≡ marked g ws → Trees g (t ∷ ts) ws → size ws ≤ 2048 → holds_blank g (first_tree g ws) ≡ holds_blank g (drop i (first_tree g ws))
+-- a tree with a blank, and one of n nodes of which none is a blank
+blank_there : (g : Grammar) (tree : Words) (k i : ℕ) → i ≡ 2 * k → i + 2 ≤ length tree → is_blank g (get_or tree i 0) (get_or tree (suc i) 0) ≡ true → holds_blank g tree ≡ true
+unfolding holds_blank
+blank_there g [] k i e l b = absurd (omega arith)
+blank_there g (t ∷ []) k i e l b = absurd (omega arith)
+blank_there g (t ∷ v ∷ ws) k zero e l b = ap (λ x. or x (holds_blank g ws)) b
+blank_there g (t ∷ v ∷ ws) k (suc zero) e l b = absurd (omega arith)
+blank_there g (t ∷ v ∷ ws) k (suc (suc i)) e l b = ap (or (is_blank g t v)) (blank_there g ws (k - 1) i (omega arith) (omega arith) b) ∙ or_true (is_blank g t v)
 
-pub blank_start : (heads part : Words) → BlankLoop heads part 0
-blank_start heads part = record { half = 0; even = omega arith; same = λ g ws t ts hs e r k. refl }
+blank_nowhere : (g : Grammar) (tree : Words) (n : ℕ) → length tree ≡ 2 * n → ((k i : ℕ) → i ≡ 2 * k → k < n → is_blank g (get_or tree i 0) (get_or tree (suc i) 0) ≡ false) → holds_blank g tree ≡ false
+unfolding holds_blank
+blank_nowhere g [] n e none = refl
+blank_nowhere g (t ∷ []) n e none = refl
+blank_nowhere g (t ∷ v ∷ ws) zero e none = absurd (omega arith)
+blank_nowhere g (t ∷ v ∷ ws) (suc n) e none = ap (λ x. or x (holds_blank g ws)) (none 0 0 refl (omega arith)) ∙ blank_nowhere g ws n (omega arith) (λ k i m h. none (suc k) (suc (suc i)) (omega arith) (omega arith))
 
-pub pair_inside : {heads part : Words} {i : ℕ} (n : ℕ) → BlankLoop heads part i → i < 2 * n → i + 2 ≤ 2 * n
-pair_inside n l h = omega (arith, l.even)
+-- what an option holds, of which two things are known
+held : {A : Type 0} {P Q : A → Type 0} (o : Option A) → IsSomeAnd o P → IfSome o Q → (x : A) × P x × Q x
+held None p q = absurd p
+held (Some x) p q = (x, p, q)
 
-module _ (heads part : Words) (w n : ℕ) (ew : w ≡ get_or part 0 0) (en : n ≡ size_in w) where
-  pub blank_short : length part < 2 * n → HoldsBlank heads part false
-  blank_short h g ws t ts hs e r k = absurd (omega (arith, (shown part ws w n hs.types e r k ew en).inside))
+-- a run has an item at each place below its length
+item_in : {A : Type 0} (P : A → Type 0) (xs : List A) (k : ℕ) → k < length xs → IfSome (slice_get xs k) P → IsSomeAnd (slice_get xs k) P
+item_in P [] k h q = absurd (omega arith)
+item_in P (x ∷ xs) zero h q = q
+item_in P (x ∷ xs) (suc k) h q = item_in P xs k (omega arith) q
 
-  module _ (i : ℕ) (l : BlankLoop heads part i) where
-    pub blank_end : 2 * n ≤ i → HoldsBlank heads part false
-    unfolding holds_blank
-    blank_end h g ws t ts hs e r k =
-        let s = shown part ws w n hs.types e r k ew en in
-        sym (l.same g ws t ts hs e r k ∙ ap (holds_blank g) (drop_of_length-le (first_tree g ws) {i = i} (omega (arith, s.long))))
+item : {S A : Type 0} {steps : S → Option A → S → Type 0} (P : A → Type 0) (p : Run steps) (k : ℕ) → k < p.len → IfSome (p.at k) P → IsSomeAnd (p.at k) P
+unfolding YieldsRun
+item P p k h q = subst (λ o. IsSomeAnd o P) (sym (p.gave.1 k)) (item_in P p.items k (omega (arith, p.long)) (subst (λ o. IfSome o P) (p.gave.1 k) q))
 
-    module _ (h : i < 2 * n) where
-      -- the node at i
-      here : (g : Grammar) (ws : Words) (t : ℕ) (ts : List ℕ) → Heads g heads → part ≡ marked g ws → Trees g (t ∷ ts) ws → size ws ≤ 2048
-          → holds_blank g (first_tree g ws) ≡ or (is_blank g (type_in (get_or part i 0)) (get_or part (i + 1) 0)) (holds_blank g (drop (i + 2) (first_tree g ws)))
-      unfolding holds_blank
-      here g ws t ts hs e r k =
-          let s = shown part ws w n hs.types e r k ew en in
-          l.same g ws t ts hs e r k ∙ ap (holds_blank g) (drop_pair (first_tree g ws) i (omega (arith, s.long, l.even)))
-          ∙ ap₂ (λ x y. or (is_blank g x y) (holds_blank g (drop (i + 2) (first_tree g ws)))) (s.type l.half i l.even h) (s.value l.half i l.even h)
+-- a pair of the first 2 n words
+pair_words : (part x : Words) (n k i : ℕ) → i ≡ 2 * k → k < n → x ≡ take 2 (drop (k * 2) (take (2 * n) part)) → (get_or x 0 0 ≡ get_or part i 0) × (get_or x 1 0 ≡ get_or part (i + 1) 0)
+pair_words part x n k i e h is = (word 0 i (omega arith) (omega arith), word 1 (i + 1) (omega arith) (omega arith))
+  where
+    word : (j m : ℕ) → j < 2 → m ≡ k * 2 + j → get_or x j 0 ≡ get_or part m 0
+    word j m l em = ap (λ y. get_or y j 0) is ∙ get_or-take 2 (drop (k * 2) (take (2 * n) part)) j 0 l ∙ get_or-drop (k * 2) (take (2 * n) part) j 0 ∙ get_or-take (2 * n) part (k * 2 + j) 0 (omega arith) ∙ ap (λ y. get_or part y 0) (sym em)
 
-      -- .. is no blank
-      on : ((g : Grammar) → Heads g heads → is_blank g (type_in (get_or part i 0)) (get_or part (i + 1) 0) ≡ false) → BlankLoop heads part (i + 2)
-      on none = record {
-        half = l.half + 1;
-        even = omega (arith, l.even);
-        same = λ g ws t ts hs e r k. here g ws t ts hs e r k ∙ ap (λ x. or x (holds_blank g (drop (i + 2) (first_tree g ws)))) (none g hs);
-      }
+module _ (types : Types) (part : Words) (w n : ℕ) (ew : w ≡ get_or part 0 0) (en : n ≡ size_in w) where
+  pub blank_short : length part < 2 * n → HoldsBlank types part false
+  blank_short h g ws t ts hs e r k = absurd (omega (arith, (shown part ws w n hs.heads_of.types e r k ew en).inside))
 
-      module _ (t : ℕ) (et : t ≡ type_in (get_or part i 0)) (text : Bool) (told : InHeads heads (λ g. text ≡ is_text g t)) where
-        -- what was told, as the definition asks
-        text_is : (g : Grammar) → Heads g heads → is_text g (type_in (get_or part i 0)) ≡ text
-        text_is g hs = ap (is_text g) (sym et) ∙ sym (told g hs)
+  module _ (g : Grammar) (ws : Words) (t : ℕ) (ts : List ℕ) (hs : TypesOf g types) (e : part ≡ marked g ws) (r : Trees g (t ∷ ts) ws) (few : size ws ≤ 2048) where
+    -- what is told of its pair is so of the node
+    node_is : (x : Words) (b : Bool) (k i : ℕ) → i ≡ 2 * k → k < n → x ≡ take 2 (drop (k * 2) (take (2 * n) part)) → is_blank g (type_in (get_or x 0 0)) (get_or x 1 0) ≡ b
+        → is_blank g (get_or (first_tree g ws) i 0) (get_or (first_tree g ws) (suc i) 0) ≡ b
+    node_is x b k i ei h is told =
+        let s = shown part ws w n hs.heads_of.types e r few ew en in
+        let words = pair_words part x n k i ei h is in
+        ap₂ (is_blank g) (s.type k i ei (omega arith) ∙ ap type_in (sym words.0)) (ap (λ j. get_or (first_tree g ws) j 0) (sym (add-one i)) ∙ s.value k i ei (omega arith) ∙ sym words.1) ∙ told
 
-        pub blank_other : text ≡ false → BlankLoop heads part (i + 2)
-        unfolding is_blank
-        blank_other e = on (λ g hs. rw (text_is g hs, e))
+  -- the pairs of the tree, each of which is asked until one is a blank
+  module _ (room : 2 * n ≤ length part) {F : Type 0} {ask : Mut F (Bor Words × Unit {0}) Bool} {f : F} {s : ChunksExact ℕ} (rest : chunks_exact_rest s ≡ take (2 * n) part) (two : chunks_exact_size s ≡ 2)
+      (runs : EveryRun (chunks_exact_steps {A = ℕ}) (λ p. 0 < chunks_exact_size p.from → IsChunksExactRun p (chunks_exact_size p.from) (chunks_exact_rest p.from)))
+      (keeps : CallKeepsClosure ask f)
+      (yes : (x : Bor Words) → Called ask f (x, tt) true f → OfTypes types (λ g. is_blank g (type_in (get_or x.now 0 0)) (get_or x.now 1 0) ≡ true))
+      (no : (x : Bor Words) → Called ask f (x, tt) false f → OfTypes types (λ g. is_blank g (type_in (get_or x.now 0 0)) (get_or x.now 1 0) ≡ false)) where
+    -- a run asks pairs of the tree
+    cut : (p : Run (chunks_exact_steps {A = ℕ})) → p.from ≡ s → IsChunksExactRun p 2 (take (2 * n) part)
+    cut p from =
+        let a : chunks_exact_size p.from ≡ 2 = ap chunks_exact_size from ∙ two in
+        let b : chunks_exact_rest p.from ≡ take (2 * n) part = ap chunks_exact_rest from ∙ rest in
+        rw (a, b) at (runs p p.seen (omega arith))
 
-        pub blank_filled : text ≡ true → (get_or part (i + 1) 0 ≡ 0 → ⊥) → BlankLoop heads part (i + 2)
-        unfolding is_blank
-        blank_filled e v = on (λ g hs. rw (text_is g hs, e, ne_eqb (get_or part (i + 1) 0) 0 v))
-
-        pub blank_found : text ≡ true → get_or part (i + 1) 0 ≡ 0 → HoldsBlank heads part true
-        unfolding is_blank
-        blank_found e v g ws u us hs m r k = sym (here g ws u us hs m r k ∙ rw (text_is g hs, e, eq-eqb (get_or part (i + 1) 0) 0 v))
+    pub blanks_asked : (r : Bool) → SomeRun (chunks_exact_steps {A = ℕ}) s (λ p. MatchBool r (AnyItemGives p ask f true) (IsTrue p.whole × AllItemsGive p ask f false)) → HoldsBlank types part r
+    blanks_asked true run g ws t ts hs e r k =
+        let s = shown part ws w n hs.heads_of.types e r k ew en in
+        let pairs = cut run.0 run.1 in
+        let found = run.2 keeps in
+        let x = held (run.0.at found.0) found.2 (pairs.2 found.0) in
+        let here : found.0 < n = omega (arith, x.2, length-take (2 * n) part) in
+        sym (blank_there g (first_tree g ws) found.0 (2 * found.0) refl (omega (arith, s.long)) (node_is g ws t ts hs e r k x.0.now true found.0 (2 * found.0) refl here x.2.2.0 (yes x.0 x.1 g hs)))
+    blanks_asked false run g ws t ts hs e r k =
+        let s = shown part ws w n hs.heads_of.types e r k ew en in
+        let pairs = cut run.0 run.1 in
+        let all : run.0.len ≡ n = omega (arith, pairs.1 run.2.0, length-take (2 * n) part) in
+        sym (blank_nowhere g (first_tree g ws) n s.long (λ j i ei h.
+        let x = held (run.0.at j) (item _ run.0 j (omega arith) (run.2.1 keeps j)) (pairs.2 j) in
+        node_is g ws t ts hs e r k x.0.now false j i ei h x.2.2.0 (no x.0 x.1 g hs)))

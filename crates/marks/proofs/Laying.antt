@@ -5,6 +5,7 @@ use mathlib.Core.List.{List, [], ◌∷◌, ◌++◌, append_assoc, append-nil}
 use native.Mathlib.Omega.{arith}
 use lib.ListN.{length, get_or, length-append, drop_of_length-le, get_or-append}
 use lib.Seq.{drop_at, take_all, get_or-append-add, set-get_or}
+use Rattle.tables.specs.declared.types.Types.{Types}
 use Rattle.words.specs.Reader.{Words}
 use Rattle.grammar.specs.Grammar.{Grammar}
 use Rattle.grammar.specs.Kinds.{children}
@@ -91,19 +92,19 @@ under_right {g} few (copied {u = u} {l} {ws} s p) r h q e i n = go (length u - q
 
 -- THE LOOP
 
-abbrev pub TreeLoop : Words → Words → Words → Words → ℕ → ℕ → ℕ → Type 0
-TreeLoop heads rows w₀ w base top p = MarkLoop (λ g ws. UnderWay g (span w₀ base top) ws) heads rows w₀ w base top top p
+abbrev pub TreeLoop : Types → Words → Words → ℕ → ℕ → ℕ → Type 0
+TreeLoop types w₀ w base top p = MarkLoop (λ g ws. UnderWay g (span w₀ base top) ws) types w₀ w base top top p
 
-module _ (heads rows w₀ w : Words) (base top p : ℕ) (i : TreeLoop heads rows w₀ w base top p) (room : top ≤ length w₀) where
+module _ (types : Types) (w₀ w : Words) (base top p : ℕ) (i : TreeLoop types w₀ w base top p) (room : top ≤ length w₀) where
   -- the node before p has a mark
-  pub tree_skip : 2 ≤ p - base → (q : ℕ) → q ≡ p - 2 → (size_in (get_or w q 0) ≡ 0 → ⊥) → TreeLoop heads rows w₀ w base top q
+  pub tree_skip : 2 ≤ p - base → (q : ℕ) → q ≡ p - 2 → (size_in (get_or w q 0) ≡ 0 → ⊥) → TreeLoop types w₀ w base top q
   tree_skip two q eq n =
-      rw (set-get_or w q 0) at (mark_step (λ g ws. UnderWay g (span w₀ base top) ws) heads rows w₀ w base top top p i (omega arith) room two q eq (get_or w q 0) (λ g t ws tb r s f k.
-      let h = f.half - (i.half + 1) in
-      let even : q - base ≡ 2 * h = omega (arith, f.even, i.even, i.high, i.low) in
+      rw (set-get_or w q 0) at (mark_step (λ g ws. UnderWay g (span w₀ base top) ws) types w₀ w base top top p i (omega arith) room two q eq (get_or w q 0) (λ g t ws tb r s f k.
+      let h = i.half - 1 in
+      let even : q - base ≡ 2 * h = omega (arith, i.even) in
       let back : base + (q - base) ≡ q = omega arith in
       let is : get_or w q 0 ≡ get_or (span w₀ base top) (q - base) 0 = same_below w w₀ p q (omega arith) i.kept ∙ ap (λ n. get_or w₀ n 0) (sym back) ∙ sym (span_word w₀ base top (q - base) (omega (arith, i.high))) in
-      is ∙ under_right tb.rows_of_lem.types k r h (q - base) even (omega (arith, f.long, i.high)) (λ z. n (ap size_in is ∙ z)) ∙ marked_drop g ws h (q - base) even))
+      is ∙ under_right tb.heads_of.types k r h (q - base) even (omega (arith, f.long, i.high)) (λ z. n (ap size_in is ∙ z)) ∙ marked_drop g ws h (q - base) even))
 
   unfinished : {g : Grammar} {t : ℕ} {ws : Words} → length g ≤ 64 → Trees g (t ∷ []) ws → UnderWay g (span w₀ base top) ws → Unfinished g w₀ base top top ws
   unfolding marked
@@ -118,8 +119,8 @@ module _ (heads rows w₀ w : Words) (base top p : ℕ) (i : TreeLoop heads rows
         back = rw (z, drop_of_length-le ws {i = top - base} (omega arith));
       }
 
-  pub tree_end : p - base < 2 → TreeMarked heads rows w₀ w base top
-  tree_end few = record {
+  pub tree_end : p ≡ base → TreeMarked types w₀ w base top
+  tree_end e = record {
     long = i.long;
-    marks = λ g t ws tb r s u. mark_all (λ g ws. UnderWay g (span w₀ base top) ws) heads rows w₀ w base top top p i (omega arith) room few g t ws tb r s (unfinished tb.rows_of_lem.types r u) u;
+    marks = λ g t ws tb r s u. mark_all (λ g ws. UnderWay g (span w₀ base top) ws) types w₀ w base top top p i (omega arith) room e g t ws tb r s (unfinished tb.heads_of.types r u) u;
   }

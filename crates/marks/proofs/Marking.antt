@@ -8,11 +8,12 @@ use native.Mathlib.Numerals.{add-one}
 use lib.ListN.{length, get_or, drop, length-drop}
 use lib.Seq.{drop-cons, drop-drop}
 use lib.Dec.{eqb, ltb}
-use borrow.Author.Tests.{ne_eqb, ltb-true}
+use borrow.Author.Tests.{ltb-true}
 use Rattle.words.specs.Reader.{Words, pick, and}
 use Rattle.grammar.specs.Grammar.{Kind, token, opt, sequence, forms, Grammar}
 use Rattle.grammar.specs.Kinds.{kind_of, allows, allowed, children_of, children, is_sequence_kind, is_sequence}
-use Rattle.tables.specs.Tables.{Tables, Counted, InHeads}
+use Rattle.tables.specs.Types.{OfTypes, TypesOf, Counted}
+use Rattle.tables.specs.declared.types.Types.{Types}
 use Rattle.tables.proofs.Lookups.{no_kind}
 use Rattle.tree.specs.Tree.{Trees, size, levels_of, levels, nesting_from, nesting, first, after, first_tree}
 use Rattle.tree.proofs.Trees.{tells, split, first_none, first_even, after_drop, levels_length, nesting_append, size_append}
@@ -183,46 +184,37 @@ unfolding mark
 small_mark t n k h l j = omega arith
 
 -- the loop, for every grammar whose tables these are
-pub record Marking (heads rows : Words) (t v : ℕ) (below : Words) (n k at i : ℕ) : Type 0 where
+pub record Marking (types : Types) (t v : ℕ) (below : Words) (n k at i : ℕ) : Type 0 where
   pub small : n ≤ 1 + 4096 * i
   pub low : k ≤ 16384
   pub near : at ≤ 8192 * i
-  run : (g : Grammar) (ws : Words) (ts : List ℕ) → Tables g heads rows → below ≡ marked g ws → Trees g (children g t v ++ ts) ws → size (first_tree g (t ∷ v ∷ ws)) ≤ 2048 → Run g t v ws ts n k at i
+  run : (g : Grammar) (ws : Words) (ts : List ℕ) → TypesOf g types → below ≡ marked g ws → Trees g (children g t v ++ ts) ws → size (first_tree g (t ∷ v ∷ ws)) ≤ 2048 → Run g t v ws ts n k at i
 
-pub marking_start : (heads rows : Words) (t v : ℕ) (below : Words) → Marking heads rows t v below 1 1 0 0
-marking_start heads rows t v below = record { small = omega arith; low = omega arith; near = omega arith; run = λ g ws ts tb e r s. run_start g t v ws ts r }
+pub marking_start : (types : Types) (t v : ℕ) (below : Words) → Marking types t v below 1 1 0 0
+marking_start types t v below = record { small = omega arith; low = omega arith; near = omega arith; run = λ g ws ts tb e r s. run_start g t v ws ts r }
 
-module _ (heads rows : Words) (t v : ℕ) (below : Words) (n k at i : ℕ) (m : Marking heads rows t v below n k at i) (count : ℕ) (seq : Bool) (counted : Counted rows t v count) (is : InHeads heads (λ g. seq ≡ is_sequence g t)) where
+module _ (types : Types) (t v : ℕ) (below : Words) (n k at i : ℕ) (m : Marking types t v below n k at i) (count : ℕ) (seq : Bool) (counted : Counted types t v count) (is : OfTypes types (λ g. seq ≡ is_sequence g t)) where
   pub marking_more : i < count → (w n' k' d top : ℕ) → w ≡ get_or below at 0 → (n' ≡ size_in w) × (n' < 4096) → (k' ≡ nesting_in w) × (k' < 16384) → d ≡ pick (and seq (eqb i 1)) 0 1 → d ≤ 1 → top ≡ max k (k' + d)
-      → Marking heads rows t v below (n + n') top (at + 2 * n') (i + 1)
+      → Marking types t v below (n + n') top (at + 2 * n') (i + 1)
   marking_more h w n' k' d top ew en ek ed ld et = record {
     small = omega (arith, m.small, en.1);
     low = omega (arith, m.low, ek.1);
     near = omega (arith, m.near, en.1);
     run = λ g ws ts tb e r s.
-        let z = run_step g t v ws ts n k at i w d (m.run g ws ts tb e r s) (omega (arith, counted.count g tb.rows_of_lem)) tb.rows_of_lem.types s (ew ∙ rw e) (ed ∙ rw (is g tb.heads_of)) in
+        let z = run_step g t v ws ts n k at i w d (m.run g ws ts tb e r s) (omega (arith, counted.count g tb)) tb.heads_of.types s (ew ∙ rw e) (ed ∙ rw (is g tb)) in
         rw (en.0, et, ek.0) z;
   }
 
-  pub marking_end : count ≤ i → (r : ℕ) → (mark t n k < 2 ^ 32 → r ≡ mark t n k) → MarkMade heads rows t v below r
+  pub marking_end : count ≤ i → (r : ℕ) → (mark t n k < 2 ^ 32 → r ≡ mark t n k) → MarkMade types t v below r
   marking_end h r f g ws ts tb e trees a s =
       let z = m.run g ws ts tb e trees s in
-      let over : length (drop i (children g t v)) ≡ 0 = omega (arith, length-drop i (children g t v), counted.count g tb.rows_of_lem) in
+      let over : length (drop i (children g t v)) ≡ 0 = omega (arith, length-drop i (children g t v), counted.count g tb) in
       made g t v ws n k r (end_size g t v ws n at (length (drop i (children g t v))) over z.sizes) (end_nest g t v ws k at (length (drop i (children g t v))) (drop i (levels g t v 1)) over z.nests)
-      (f (small_mark t n k (omega (arith, type_there g t v a, tb.rows_of_lem.types)) (omega (arith, end_size g t v ws n at (length (drop i (children g t v))) over z.sizes))
+      (f (small_mark t n k (omega (arith, type_there g t v a, tb.heads_of.types)) (omega (arith, end_size g t v ws n at (length (drop i (children g t v))) over z.sizes))
       (omega (arith, end_nest g t v ws k at (length (drop i (children g t v))) (drop i (levels g t v 1)) over z.nests, nesting_size g (first_tree g (t ∷ v ∷ ws))))))
 
 -- THE SMALL FUNCTIONS
 
-pub level_rest : (s : Bool) (i : ℕ) → s ≡ true → i ≡ 1 → ◌≡◌ {A = ℕ} 0 (pick (and s (eqb i 1)) 0 1)
-level_rest s i e h = rw (e, h)
-
-pub level_other : (s : Bool) (i : ℕ) → s ≡ true → (i ≡ 1 → ⊥) → ◌≡◌ {A = ℕ} 1 (pick (and s (eqb i 1)) 0 1)
-level_other s i e h = rw (e, ne_eqb i 1 h)
-
-pub level_plain : (s : Bool) (i : ℕ) → s ≡ false → ◌≡◌ {A = ℕ} 1 (pick (and s (eqb i 1)) 0 1)
-level_plain s i e = rw e
-
-pub packed : (t x n k w : ℕ) → x ≡ t → w ≡ (x + 64 * n + 262144 * k) % 4294967296 → mark t n k < 2 ^ 32 → w ≡ mark t n k
+pub packed : (t n k w : ℕ) → w ≡ (t + 64 * n + 262144 * k) % 4294967296 → mark t n k < 2 ^ 32 → w ≡ mark t n k
 unfolding mark
-packed t x n k w e f h = omega arith
+packed t n k w f h = omega arith

@@ -5,6 +5,7 @@ use mathlib.Core.List.{List, [], ◌∷◌, ◌++◌}
 use native.Mathlib.Omega.{arith}
 use lib.ListN.{length, get_or, take, drop, length-append, length-drop, take-append-drop}
 use lib.Seq.{paste, length-paste, take-paste, drop-paste, take_at, drop_at, take-take, take-add, drop-drop, take-nil, length-take-le}
+use Rattle.tables.specs.declared.types.Types.{Types}
 use Rattle.words.specs.Reader.{Words}
 use Rattle.grammar.specs.Grammar.{Grammar}
 use Rattle.tree.specs.Tree.{Trees, size, nesting, after, first_tree, put}
@@ -269,16 +270,16 @@ module _ (g : Grammar) (w : Words) (base place end from n t : ℕ) (scope ws : W
 
 -- IN PLACE
 
-module _ (heads rows w : Words) (base place end from n : ℕ) (low : base ≤ place) (two : place < end) (high : end ≤ from) (room : from + n + (end - place) ≤ length w) where
-  pub put_done : (p rest : ℕ) (w₂ w₃ : Words) → p ≡ place + 2 * size_in (get_or w place 0) → p ≤ end → rest ≡ end - p → w₂ ≡ moved w place p from n rest → AboveMarked heads rows w₂ w₃ base place (place + (n + rest))
-      → InPlace heads rows w w₃ base place end from n
+module _ (types : Types) (w : Words) (base place end from n : ℕ) (low : base ≤ place) (two : place < end) (high : end ≤ from) (room : from + n + (end - place) ≤ length w) where
+  pub put_done : (p rest : ℕ) (w₂ w₃ : Words) → p ≡ place + 2 * size_in (get_or w place 0) → p ≤ end → rest ≡ end - p → w₂ ≡ moved w place p from n rest → AboveMarked types w₂ w₃ base place (place + (n + rest))
+      → InPlace types w w₃ base place end from n
   put_done p rest w₂ w₃ e inside er e₂ m = record {
     long = m.long ∙ ap length e₂ ∙ moved_long w place p end from n rest (omega arith) (omega arith) high (omega arith);
     in_place = λ g t scope ws tb r.
         let front : take place w₂ ≡ take place w = ap (take place) e₂ ∙ moved_front w place p end from n rest (omega arith) (omega arith) high (omega arith) in
         let middle : take (n + rest) (drop place w₂) ≡ span w from (from + n) ++ span w p end = ap (λ l. take (n + rest) (drop place l)) e₂ ∙ moved_middle w place p end from n rest (omega arith) (omega arith) high (omega arith) in
-        let u = unfinished g w base place end from n t scope ws tb.rows_of_lem.types r low two (omega arith) p rest w₂ e (omega arith) front middle in
-        let k = kept g w base place end from n t scope ws tb.rows_of_lem.types r low two (omega arith) w₂ front in
+        let u = unfinished g w base place end from n t scope ws tb.heads_of.types r low two (omega arith) p rest w₂ e (omega arith) front middle in
+        let k = kept g w base place end from n t scope ws tb.heads_of.types r low two (omega arith) w₂ front in
         let is = m.marks g t (put g scope (place - base) ws) tb r.fits r.small u k in
         let lb : length (take base w₂) ≡ base = length-take-le base w₂ (omega (arith, ap length e₂, moved_long w place p end from n rest (omega arith) (omega arith) high (omega arith))) in
         let top : base + length (put g scope (place - base) ws) - base ≡ length (marked g (put g scope (place - base) ws)) = omega (arith, marked_length g (put g scope (place - base) ws)) in (
@@ -290,7 +291,7 @@ module _ (heads rows w : Words) (base place end from n : ℕ) (low : base ≤ pl
   }
 
   pub put_resized : (p rest : ℕ) (w₂ w₃ : Words) (was will : ℕ) → p ≡ place + 2 * size_in (get_or w place 0) → p ≤ end → rest ≡ end - p → w₂ ≡ moved w place p from n rest
-      → was ≡ size_in (get_or w place 0) → will ≡ size_in (get_or w from 0) → nesting_in (get_or w place 0) ≡ nesting_in (get_or w from 0) → Resized w₂ w₃ base place was will → InPlace heads rows w w₃ base place end from n
+      → was ≡ size_in (get_or w place 0) → will ≡ size_in (get_or w from 0) → nesting_in (get_or w place 0) ≡ nesting_in (get_or w from 0) → Resized w₂ w₃ base place was will → InPlace types w w₃ base place end from n
   put_resized p rest w₂ w₃ was will e inside er e₂ ew ev flat m =
       let front : take place w₂ ≡ take place w = ap (take place) e₂ ∙ moved_front w place p end from n rest (omega arith) (omega arith) high (omega arith) in
       let middle : take (n + rest) (drop place w₂) ≡ span w from (from + n) ++ span w p end = ap (λ l. take (n + rest) (drop place l)) e₂ ∙ moved_middle w place p end from n rest (omega arith) (omega arith) high (omega arith) in
@@ -298,12 +299,12 @@ module _ (heads rows w : Words) (base place end from n : ℕ) (low : base ≤ pl
         long = m.long ∙ ap length e₂ ∙ moved_long w place p end from n rest (omega arith) (omega arith) high (omega arith);
         in_place = λ g t scope ws tb r. (
           m.below ∙ sym (take-take base place w₂ low) ∙ ap (take base) front ∙ take-take base place w low,
-          resized_stands g w base place end from n t scope ws tb.rows_of_lem.types r low two (omega arith) p rest w₂ w₃ e (omega arith) front middle flat (rw (ew, ev) at m),
+          resized_stands g w base place end from n t scope ws tb.heads_of.types r low two (omega arith) p rest w₂ w₃ e (omega arith) front middle flat (rw (ew, ev) at m),
         );
       }
 
   -- the first words are the same: what follows the tree stays, and so does each mark before it
-  pub put_same : (w₂ : Words) → get_or w from 0 ≡ get_or w place 0 → w₂ ≡ paste w place (drop from w) n → InPlace heads rows w w₂ base place end from n
+  pub put_same : (w₂ : Words) → get_or w from 0 ≡ get_or w place 0 → w₂ ≡ paste w place (drop from w) n → InPlace types w w₂ base place end from n
   put_same w₂ alike e =
       let ld : n ≤ length (drop from w) = omega (arith, length-drop from w) in
       let front : take place w₂ ≡ take place w = ap (take place) e ∙ paste_front w place (drop from w) n (omega arith) ld in
@@ -311,10 +312,10 @@ module _ (heads rows w : Words) (base place end from n : ℕ) (low : base ≤ pl
         long = ap length e ∙ length-paste w place (drop from w) n (omega arith) ld;
         in_place = λ g t scope ws tb r. (
           sym (take-take base place w₂ low) ∙ ap (take base) front ∙ take-take base place w low,
-          same_stands g w base place end from n t scope ws tb.rows_of_lem.types r low two (omega arith) alike w₂ e (omega arith) front,
+          same_stands g w base place end from n t scope ws tb.heads_of.types r low two (omega arith) alike w₂ e (omega arith) front,
         );
       }
 
   -- the node's tree ends inside the scope, so there is no other way
-  pub put_not : end < place + 2 * size_in (get_or w place 0) → InPlace heads rows w w base place end from n
-  put_not over = record { long = refl; in_place = λ g t scope ws tb r. absurd (omega (arith, after_inside g w base place end from n t scope ws tb.rows_of_lem.types r low two (omega arith))) }
+  pub put_not : end < place + 2 * size_in (get_or w place 0) → InPlace types w w base place end from n
+  put_not over = record { long = refl; in_place = λ g t scope ws tb r. absurd (omega (arith, after_inside g w base place end from n t scope ws tb.heads_of.types r low two (omega arith))) }

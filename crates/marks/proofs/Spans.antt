@@ -1,5 +1,5 @@
 -- Stretches of work memory, and the loop that marks the nodes of a tree from its last to its first. Assumes nothing.
-use Prim.Native.Nat.{ℕ, zero, suc, ◌+◌, ◌-◌, ◌*◌, ◌<◌, ◌≤◌}
+use Prim.Native.Nat.{ℕ, zero, suc, ◌+◌, ◌-◌, ◌*◌, ◌/◌, ◌<◌, ◌≤◌}
 use mathlib.Core.Path.{◌≡◌, refl, sym, ap, ap₂, subst, ◌∙◌}
 use mathlib.Core.List.{List, [], ◌∷◌, ◌++◌}
 use mathlib.Core.Bool.{true}
@@ -11,7 +11,8 @@ use Rattle.words.specs.Reader.{Words}
 use Rattle.words.proofs.Stretches.{drop_pair}
 use Rattle.grammar.specs.Grammar.{Grammar}
 use Rattle.grammar.specs.Kinds.{allowed, children}
-use Rattle.tables.specs.Tables.{Tables}
+use Rattle.tables.specs.Types.{TypesOf}
+use Rattle.tables.specs.declared.types.Types.{Types}
 use Rattle.tree.specs.Tree.{Trees, size, first, after}
 use Rattle.tree.proofs.Trees.{tells, first_after, first_even, size_append}
 use Rattle.marks.specs.Marked.{type_in, marked}
@@ -93,30 +94,28 @@ first_size g ws n = omega (arith, size_append (first g ws n) (after g ws n) (fir
 -- THE LOOP
 
 -- so it is for every unfinished tree with its grammar's tables, and with what is given besides
-abbrev pub Each : (Grammar → Words → Type 0) → Words → Words → Words → ℕ → ℕ → ℕ → (Grammar → Words → Type 0) → Type 0
-Each Given heads rows w base place top P =
-    (g : Grammar) (t : ℕ) (ws : Words) → Tables g heads rows → Trees g (t ∷ []) ws → size ws ≤ 2048 → Unfinished g w base place top ws → Given g ws → P g ws
+abbrev pub Each : (Grammar → Words → Type 0) → Types → Words → ℕ → ℕ → ℕ → (Grammar → Words → Type 0) → Type 0
+Each Given types w base place top P =
+    (g : Grammar) (t : ℕ) (ws : Words) → TypesOf g types → Trees g (t ∷ []) ws → size ws ≤ 2048 → Unfinished g w base place top ws → Given g ws → P g ws
 
-pub record MarkLoop (Given : Grammar → Words → Type 0) (heads rows w₀ w : Words) (base place top p : ℕ) : Type 0 where
-  pub low : base ≤ p
+pub record MarkLoop (Given : Grammar → Words → Type 0) (types : Types) (w₀ w : Words) (base place top p : ℕ) : Type 0 where
   pub high : p ≤ place
   pub half : ℕ
-  pub even : p + 2 * half ≡ place
+  pub even : p ≡ base + 2 * half
   pub long : length w ≡ length w₀
   pub kept : take p w ≡ take p w₀
   pub above : drop top w ≡ drop top w₀
-  run : Each Given heads rows w₀ base place top (λ g ws. span w p top ≡ marked g (drop (p - base) ws))
+  run : Each Given types w₀ base place top (λ g ws. span w p top ≡ marked g (drop (p - base) ws))
 
-pub mark_start : (Given : Grammar → Words → Type 0) (heads rows w : Words) (base place top : ℕ) → base ≤ place → MarkLoop Given heads rows w w base place top place
-mark_start Given heads rows w base place top h = record {
-  low = h;
+pub mark_start : (Given : Grammar → Words → Type 0) (types : Types) (w : Words) (base place top : ℕ) → base ≤ place → MarkLoop Given types w w base place top (base + 2 * ((place - base) / 2))
+mark_start Given types w base place top h = record {
   high = omega arith;
-  half = 0;
-  even = omega arith;
+  half = (place - base) / 2;
+  even = refl;
   long = refl;
   kept = refl;
   above = refl;
-  run = λ g t ws tb r s u k. u.back;
+  run = λ g t ws tb r s u k. let all : base + 2 * ((place - base) / 2) ≡ place = omega (arith, u.even) in rw all u.back;
 }
 
 pub same_below : (w w₀ : Words) (n i : ℕ) → i < n → take n w ≡ take n w₀ → get_or w i 0 ≡ get_or w₀ i 0
@@ -130,8 +129,8 @@ marked_pair g t v m x y em ey = rw (em, ey)
 pub span_word : (w : Words) (base top i : ℕ) → i < top - base → get_or (span w base top) i 0 ≡ get_or w (base + i) 0
 span_word w base top i h = get_or-take (top - base) (drop base w) i 0 h ∙ get_or-drop base w i 0
 
-pub node_marked : (heads rows w : Words) (p top t m : ℕ) → t ≡ type_in (get_or w p 0) → MarkMade heads rows t (get_or w (p + 1) 0) (span w (p + 2) top) m → NodeMarked heads rows w (set w p m) p top
-node_marked heads rows w p top t m e made = record { word = m; made = subst (λ k. MarkMade heads rows k (get_or w (p + 1) 0) (span w (p + 2) top) m) e made; stored = refl }
+pub node_marked : (types : Types) (w : Words) (p top t m : ℕ) → t ≡ type_in (get_or w p 0) → MarkMade types t (get_or w (p + 1) 0) (span w (p + 2) top) m → NodeMarked types w (set w p m) p top
+node_marked types w p top t m e made = record { word = m; made = subst (λ k. MarkMade types k (get_or w (p + 1) 0) (span w (p + 2) top) m) e made; stored = refl }
 
 -- the node at q of a tree that is not all marked
 module _ (g : Grammar) (w : Words) (base place top : ℕ) (ws : Words) (u : Unfinished g w base place top ws) (room : top ≤ length w) (q h : ℕ) (low : base ≤ q) (two : q + 2 ≤ place) (high : place ≤ top) (e : q - base ≡ 2 * h) where
@@ -154,26 +153,25 @@ module _ (g : Grammar) (w : Words) (base place top : ℕ) (ws : Words) (u : Unfi
       let up : q - base + 2 ≡ q + 2 - base = omega arith in
       drop_pair ws (q - base) (omega (arith, u.long)) ∙ ap₂ (λ a b. a ∷ b) node_type (ap₂ (λ a b. a ∷ b) node_value (ap (λ n. drop n ws) up))
 
-module _ (Given : Grammar → Words → Type 0) (heads rows w₀ w : Words) (base place top p : ℕ) (i : MarkLoop Given heads rows w₀ w base place top p) (up : place ≤ top) (room : top ≤ length w₀) where
+module _ (Given : Grammar → Words → Type 0) (types : Types) (w₀ w : Words) (base place top p : ℕ) (i : MarkLoop Given types w₀ w base place top p) (up : place ≤ top) (room : top ≤ length w₀) where
   -- the node before p
   module _ (two : 2 ≤ p - base) (q : ℕ) (eq : q ≡ p - 2) where
-    left : (g : Grammar) (ws : Words) → Unfinished g w₀ base place top ws → (h : ℕ) × (q - base ≡ 2 * h)
-    left g ws f = (f.half - (i.half + 1), omega (arith, f.even, i.even, i.high, i.low))
+    left : (h : ℕ) × (q - base ≡ 2 * h)
+    left = (i.half - 1, omega (arith, i.even))
 
     pair : (g : Grammar) (ws : Words) → Unfinished g w₀ base place top ws → drop (q - base) ws ≡ type_in (get_or w q 0) ∷ get_or w (q + 1) 0 ∷ drop (q + 2 - base) ws
     pair g ws f =
-        node_pair g w₀ base place top ws f room q (left g ws f).0 (omega arith) (omega (arith, i.high)) up (left g ws f).1
+        node_pair g w₀ base place top ws f room q left.0 (omega arith) (omega (arith, i.high)) up left.1
         ∙ ap₂ (λ a b. type_in a ∷ b ∷ drop (q + 2 - base) ws) (sym (same_below w w₀ p q (omega arith) i.kept)) (sym (same_below w w₀ p (q + 1) (omega arith) i.kept))
 
-    done : Each Given heads rows w₀ base place top (λ g ws. span w (q + 2) top ≡ marked g (drop (q + 2 - base) ws))
+    done : Each Given types w₀ base place top (λ g ws. span w (q + 2) top ≡ marked g (drop (q + 2 - base) ws))
     done g t ws tb r s f k = let next : q + 2 ≡ p = omega arith in rw next (i.run g t ws tb r s f k)
 
     -- its mark is stored
-    pub mark_step : (m : ℕ) → Each Given heads rows w₀ base place top (λ g ws. m ≡ get_or (marked g (drop (q - base) ws)) 0 0) → MarkLoop Given heads rows w₀ (set w q m) base place top q
+    pub mark_step : (m : ℕ) → Each Given types w₀ base place top (λ g ws. m ≡ get_or (marked g (drop (q - base) ws)) 0 0) → MarkLoop Given types w₀ (set w q m) base place top q
     mark_step m is = record {
-      low = omega arith;
       high = omega (arith, i.high);
-      half = i.half + 1;
+      half = i.half - 1;
       even = omega (arith, i.even);
       long = length-set w q m ∙ i.long;
       kept = take-set-le q w q m (omega arith) ∙ sym (take-take q p w (omega arith)) ∙ ap (take q) i.kept ∙ take-take q p w₀ (omega arith);
@@ -193,31 +191,29 @@ module _ (Given : Grammar → Words → Type 0) (heads rows w₀ w : Words) (bas
             (ap₂ (λ a b. a ∷ b) (get_or-set_other w q (q + 1) m 0 (λ e. omega arith)) (ap (take (top - (q + 2))) (drop-set-lt (q + 2) w q m (omega arith))))
 
     -- it is marked
-    pub mark_more : (w' : Words) → NodeMarked heads rows w w' q top → MarkLoop Given heads rows w₀ w' base place top q
+    pub mark_more : (w' : Words) → NodeMarked types w w' q top → MarkLoop Given types w₀ w' base place top q
     unfolding marked
     mark_more w' n = rw n.stored (mark_step n.word made)
       where
-        made : Each Given heads rows w₀ base place top (λ g ws. n.word ≡ get_or (marked g (drop (q - base) ws)) 0 0)
+        made : Each Given types w₀ base place top (λ g ws. n.word ≡ get_or (marked g (drop (q - base) ws)) 0 0)
         made g u ws tb r s f k =
             let t = type_in (get_or w q 0) in
             let v = get_or w (q + 1) 0 in
             let x = drop (q + 2 - base) ws in
             let e = pair g ws f in
-            let h = left g ws f in
-            let suffix = suffix_trees ws r h.0 (q - base) h.1 (omega (arith, f.long, i.high)) in
+            let suffix = suffix_trees ws r left.0 (q - base) left.1 (omega (arith, f.long, i.high)) in
             let there = node_of suffix.0 t v x (rw e at suffix.1) in
             let a = first_size g (t ∷ v ∷ x) 1 in
-            let b = suffix_size ws h.0 (q - base) h.1 in
+            let b = suffix_size ws left.0 (q - base) left.1 in
             let c : size (drop (q - base) ws) ≡ size (t ∷ v ∷ x) = ap size e in
             n.made g x there.rest tb (done g u ws tb r s f k) there.below there.fine (omega arith) ∙ ap (λ l. get_or (marked g l) 0 0) (sym e)
 
   -- all before p are marked
-  pub mark_all : p - base < 2 → Each Given heads rows w₀ base place top (λ g ws. w ≡ take base w₀ ++ (marked g ws ++ drop top w₀))
-  mark_all few g t ws tb r s f k =
-      let e : p ≡ base = omega (arith, f.even, i.even, i.high, i.low) in
+  pub mark_all : p ≡ base → Each Given types w₀ base place top (λ g ws. w ≡ take base w₀ ++ (marked g ws ++ drop top w₀))
+  mark_all e g t ws tb r s f k =
       let front : take base w ≡ take base w₀ = rw e at i.kept in
       let z : base - base ≡ 0 = omega arith in
       let m : span w base top ≡ marked g ws = rw (e, z) at (i.run g t ws tb r s f k) in
-      let b : base + (top - base) ≡ top = omega (arith, i.low, i.high) in
+      let b : base + (top - base) ≡ top = omega (arith, i.even, i.high) in
       let d : drop (top - base) (drop base w) ≡ drop top w₀ = drop-drop (top - base) base w ∙ ap (λ n. drop n w) b ∙ i.above in
       sym (take-append-drop base w) ∙ ap₂ (λ a b. a ++ b) front (sym (take-append-drop (top - base) (drop base w)) ∙ ap₂ (λ a b. a ++ b) m d)

@@ -3,7 +3,8 @@ use Rattle.std.specs.Prelude.{ℕ, ◌+◌, ◌-◌, ◌*◌, ◌≤◌, ◌≡�
 use Rattle.words.specs.Reader.{Words}
 use Rattle.grammar.specs.Grammar.{Grammar}
 use Rattle.grammar.specs.Kinds.{allowed, children}
-use Rattle.tables.specs.Tables.{Heads, Tables}
+use Rattle.tables.specs.Types.{TypesOf}
+use Rattle.tables.specs.declared.types.Types.{Types}
 use Rattle.tree.specs.Limits.{most_nodes}
 use Rattle.tree.specs.Tree.{Trees, size, nesting, node_nesting, first_tree, put}
 use Rattle.tree.specs.Blanks.{holds_blank}
@@ -12,8 +13,8 @@ use Rattle.grammar.specs.Limits.{most_types}
 use Rattle.marks.specs.Marked.{type_in, mark_of, marked, unmarked, Stands, UnderWay}
 
 -- r is the mark of a node (t, v), whose children's marked trees the words below begin with
-abbrev pub MarkMade : Words → Words → ℕ → ℕ → Words → ℕ → Type 0
-MarkMade heads rows t v below r = (g : Grammar) (ws : Words) (ts : List ℕ) → Tables g heads rows → below ≡ marked g ws → Trees g (children g t v ++ ts) ws
+abbrev pub MarkMade : Types → ℕ → ℕ → Words → ℕ → Type 0
+MarkMade types t v below r = (g : Grammar) (ws : Words) (ts : List ℕ) → TypesOf g types → below ≡ marked g ws → Trees g (children g t v ++ ts) ws
     → allowed g t v ≡ true → size (first_tree g (t ∷ v ∷ ws)) ≤ most_nodes → r ≡ mark_of g t v ws
 
 -- the words from base to top
@@ -21,15 +22,15 @@ abbrev pub span : Words → ℕ → ℕ → Words
 span w base top = take (top - base) (drop base w)
 
 -- the node at p is marked, whose children's marked trees the words from there to top begin with; no other word is changed
-pub record NodeMarked (heads rows w w' : Words) (p top : ℕ) : Type 0 where
+pub record NodeMarked (types : Types) (w w' : Words) (p top : ℕ) : Type 0 where
   pub word : ℕ
-  pub made : MarkMade heads rows (type_in (get_or w p 0)) (get_or w (p + 1) 0) (span w (p + 2) top) word
+  pub made : MarkMade types (type_in (get_or w p 0)) (get_or w (p + 1) 0) (span w (p + 2) top) word
   pub stored : w' ≡ set w p word
 
 -- the tree under way from base to top is marked, and nothing else is changed
-pub record TreeMarked (heads rows w w' : Words) (base top : ℕ) : Type 0 where
+pub record TreeMarked (types : Types) (w w' : Words) (base top : ℕ) : Type 0 where
   pub long : length w' ≡ length w
-  pub marks : (g : Grammar) (t : ℕ) (ws : Words) → Tables g heads rows → Trees g (t ∷ []) ws → size ws ≤ most_nodes → UnderWay g (span w base top) ws → w' ≡ take base w ++ (marked g ws ++ drop top w)
+  pub marks : (g : Grammar) (t : ℕ) (ws : Words) → TypesOf g types → Trees g (t ∷ []) ws → size ws ≤ most_nodes → UnderWay g (span w base top) ws → w' ≡ take base w ++ (marked g ws ++ drop top w)
 
 -- a tree stands from base to top: its words before the place are marked wrongly or not at all, those from there on rightly
 pub record Unfinished (g : Grammar) (w : Words) (base place top : ℕ) (ws : Words) : Type 0 where
@@ -50,9 +51,9 @@ pub record Kept (g : Grammar) (w : Words) (base place : ℕ) (ws : Words) : Type
   pub stands : span w base place ≡ take (place - base) (marked g old)
 
 -- .. then marking the nodes above the place is enough
-pub record AboveMarked (heads rows w w' : Words) (base place top : ℕ) : Type 0 where
+pub record AboveMarked (types : Types) (w w' : Words) (base place top : ℕ) : Type 0 where
   pub long : length w' ≡ length w
-  pub marks : (g : Grammar) (t : ℕ) (ws : Words) → Tables g heads rows → Trees g (t ∷ []) ws → size ws ≤ most_nodes → Unfinished g w base place top ws → Kept g w base place ws
+  pub marks : (g : Grammar) (t : ℕ) (ws : Words) → TypesOf g types → Trees g (t ∷ []) ws → size ws ≤ most_nodes → Unfinished g w base place top ws → Kept g w base place ws
       → w' ≡ take base w ++ (marked g ws ++ drop top w)
 
 -- marked, the words a stand from base to the place: a tree begins with them and goes on with the tree u, of `was` nodes, and the words x. The tree u', of
@@ -88,8 +89,8 @@ SameTree arena start part r = (g : Grammar) (u ws : Words) (t : ℕ) (ts : List 
     → r ≡ equal_words u (first_tree g ws)
 
 -- r says whether the first tree of the part holds a blank
-abbrev pub HoldsBlank : Words → Words → Bool → Type 0
-HoldsBlank heads part r = (g : Grammar) (ws : Words) (t : ℕ) (ts : List ℕ) → Heads g heads → part ≡ marked g ws → Trees g (t ∷ ts) ws → size ws ≤ most_nodes → r ≡ holds_blank g (first_tree g ws)
+abbrev pub HoldsBlank : Types → Words → Bool → Type 0
+HoldsBlank types part r = (g : Grammar) (ws : Words) (t : ℕ) (ts : List ℕ) → TypesOf g types → part ≡ marked g ws → Trees g (t ∷ ts) ws → size ws ≤ most_nodes → r ≡ holds_blank g (first_tree g ws)
 
 -- a scope stands from base to end, with a node at the place; above it, from `from` on, stands a tree of n words that gives a tree when put in the node's place
 pub record Ready (g : Grammar) (w : Words) (base place end from n t : ℕ) (scope ws : Words) : Type 0 where
@@ -107,11 +108,11 @@ pub record Ready (g : Grammar) (w : Words) (base place end from n t : ℕ) (scop
   pub small : size (put g scope (place - base) ws) ≤ most_nodes
 
 -- it is put there: the scope stands at base as it is then, and what is below is unchanged
-pub record InPlace (heads rows w w' : Words) (base place end from n : ℕ) : Type 0 where
+pub record InPlace (types : Types) (w w' : Words) (base place end from n : ℕ) : Type 0 where
   pub long : length w' ≡ length w
-  pub in_place : (g : Grammar) (t : ℕ) (scope ws : Words) → Tables g heads rows → Ready g w base place end from n t scope ws
+  pub in_place : (g : Grammar) (t : ℕ) (scope ws : Words) → TypesOf g types → Ready g w base place end from n t scope ws
       → (take base w' ≡ take base w) × (span w' base (base + length (put g scope (place - base) ws)) ≡ marked g (put g scope (place - base) ws))
 
 -- r is the nesting of the node at q in the marked tree that the part is
-abbrev pub NestingOf : Words → Words → ℕ → ℕ → Type 0
-NestingOf heads part q r = (g : Grammar) (t : ℕ) (ws : Words) (half : ℕ) → Heads g heads → Trees g (t ∷ []) ws → size ws ≤ most_nodes → part ≡ marked g ws → q ≡ 2 * half → r ≡ node_nesting g ws (1 ∷ []) q
+abbrev pub NestingOf : Types → Words → ℕ → ℕ → Type 0
+NestingOf types part q r = (g : Grammar) (t : ℕ) (ws : Words) (half : ℕ) → TypesOf g types → Trees g (t ∷ []) ws → size ws ≤ most_nodes → part ≡ marked g ws → q ≡ 2 * half → r ≡ node_nesting g ws (1 ∷ []) q

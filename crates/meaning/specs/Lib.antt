@@ -1,3 +1,5 @@
+pub mod Stops
+pub mod Halts
 pub mod Limits
 pub mod Computation
 pub mod Rounding

@@ -2,7 +2,7 @@
 use Prim.Native.Nat.{ℕ, ◌+◌, ◌-◌, ◌/◌, ◌%◌, ◌≤◌, ◌<◌}
 use mathlib.Core.Path.{◌≡◌}
 use native.Mathlib.Omega.{arith}
-use native.Mathlib.Nat.{mod-lt, div-add-mod', mul-le-mul_left}
+use native.Mathlib.Nat.{mod-lt}
 use Rattle.meaning.specs.Rounding.{half_even}
 use Rattle.meaning.proofs.Rounding.{half_under, half_at, half_over}
 
@@ -20,6 +20,3 @@ module _ (n d : ℕ) (some : 0 < d) where
   module _ (far : d - n % d ≤ n % d) where
     pub nearer_above : (n % d ≡ d - n % d → ⊥) → n / d + 1 ≡ half_even n d
     nearer_above h = half_over n d (omega (arith, rest_fits))
-
-    pub next_small : n / d + 1 ≤ n
-    next_small = omega (arith, mod-lt n some, div-add-mod' n d, mul-le-mul_left {m = 1} {n = d} (n / d) some)

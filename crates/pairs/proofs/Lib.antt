@@ -1,3 +1,3 @@
+pub mod Heads
 pub mod Loop
-pub mod Book
 pub mod Stretch

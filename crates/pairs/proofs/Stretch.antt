@@ -15,8 +15,8 @@ use Rattle.rules.specs.Limits.{most_pairs}
 use Rattle.rules.specs.Rules.{Rules}
 use Rattle.rules.specs.Layout.{stretch, field, pairs}
 use Rattle.judgement.specs.Typing.{Place, Due, Context, meets, typed}
-use Rattle.pairs.specs.declared.Typed.{Typed}
-use Rattle.pairs.specs.Views.{TypedAs}
+use Rattle.std.specs.Prelude.{Result}
+use Rattle.pairs.specs.Views.{typed_as}
 
 -- A STRETCH OF PAIRS
 
@@ -53,8 +53,8 @@ stretch_length ws at n s = length-take (2 * get_or ws at 0) (drop (at + 1) ws) �
 pub stretch_few : {ws : Words} {at n w : ℕ} → Stretch ws at n → w ≡ get_or ws at 0 → length (take (at + 1 + 2 * w - (at + 1)) (drop (at + 1) ws)) ≤ 256
 stretch_few {ws} {at} {n} {w} s e = omega (arith, s.few, length-take (at + 1 + 2 * w - (at + 1)) (drop (at + 1) ws))
 
-pub stretch_typed : (g : Grammar) (rules : Rules) (ws : Words) (here : Place) (d : Due) (Γ : Context) (at w : ℕ) {r : Typed} → w ≡ get_or ws at 0
-    → TypedAs r (whole (meets g rules here) 23 (take (at + 1 + 2 * w - (at + 1)) (drop (at + 1) ws)) (d ∷ []) Γ (at + 1)) → TypedAs r (typed g rules ws here d Γ at)
+pub stretch_typed : (g : Grammar) (rules : Rules) (ws : Words) (here : Place) (d : Due) (Γ : Context) (at w : ℕ) {r : Result (Context × ℕ) (ℕ × ℕ)} → w ≡ get_or ws at 0
+    → r ≡ typed_as (whole (meets g rules here) 23 (take (at + 1 + 2 * w - (at + 1)) (drop (at + 1) ws)) (d ∷ []) Γ (at + 1)) → r ≡ typed_as (typed g rules ws here d Γ at)
 unfolding typed stretch
 stretch_typed g rules ws here d Γ at w e t =
     let y : suc at ≡ at + 1 = omega arith in

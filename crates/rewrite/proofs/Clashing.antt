@@ -8,7 +8,8 @@ use native.Mathlib.Nat.{add-zero}
 use lib.ListN.{length, get_or, take, drop}
 use lib.Seq.{drop-drop, take-take}
 use lib.Dec.{ltb}
-use borrow.Author.Tests.{ltb-true, ltb-false}
+use borrow.Author.Tests.{ltb-true, ltb-false, eqb-true, eqb-false}
+use Rattle.tables.specs.declared.types.Types.{Types}
 use Rattle.words.specs.Reader.{Words}
 use Rattle.meaning.specs.declared.State.{State}
 use Rattle.marks.specs.Marked.{type_in, size_in}
@@ -16,71 +17,73 @@ use Rattle.marks.specs.Post.{span}
 use Rattle.marks.proofs.Spans.{span_length, span_word, drop_take}
 use Rattle.rewrite.specs.Vars.{Vars, Sound, bound}
 use Rattle.rewrite.specs.Matching.{Match, MatchAnswers}
-use Rattle.rewrite.specs.Candidates.{BeginsWithNode, FirstOf, Begun, Clashes, unspent, Passed, Next, OtherValue, NextStart, ClashesAt, NextCandidate}
+use Rattle.std.specs.Prelude.{Option, Some, None}
+use Rattle.rewrite.specs.Candidates.{BeginsWithNode, FirstValue, FirstOf, Begun, Clashes, unspent, Passed, Next, allowed, OtherValue, NextStart, ClashesAt, NextCandidate}
 use Rattle.rewrite.specs.declared.candidates.Candidate.{Candidate}
 use Rattle.rewrite.specs.declared.candidates.First.{First}
 use Rattle.rewrite.specs.declared.Verdict.TheVariants.{Differs}
+use Rattle.rules.proofs.Laid.{no_true}
 use Rattle.rewrite.proofs.Matcher.{Going, going_start, going_type, going_value, going_node, new_other, new_past, new_taken}
 
 -- A PATTERN THAT MUST DIFFER
 
 -- the matcher differs with these variables
-abbrev Differing : Words → Words → Words → Words → ℕ → Vars → ℕ → Type 0
-Differing heads pairs arena part at vars live = (m : Match) × (m.verdict ≡ Differs) × MatchAnswers heads pairs arena part at vars live m
+abbrev Differing : Types → Words → Words → Words → ℕ → Vars → ℕ → Type 0
+Differing types pairs arena part at vars live = (m : Match) × (m.verdict ≡ Differs) × MatchAnswers types pairs arena part at vars live m
 
 -- the matcher's loop would be here with some variables, unless it has differed before
 pub record Clashing (pairs part : Words) (live total i p : ℕ) : Type 0 where
   pub read : i ≤ length pairs
   pub near : p ≤ 8192 * i
   pub fits : total ≤ 6144
-  so_far : (heads arena : Words) (at : ℕ) (vars : Vars) → Sound vars → ((env : Vars) × Going heads pairs arena part at vars live env total i p) ⊎ Differing heads pairs arena part at vars live
+  so_far : (types : Types) (arena : Words) (at : ℕ) (vars : Vars) → Sound vars → ((env : Vars) × Going types pairs arena part at vars live env total i p) ⊎ Differing types pairs arena part at vars live
 
 pub clashing_start : (pairs part : Words) (live : ℕ) → live ≤ 6144 → Clashing pairs part live live 0 0
-clashing_start pairs part live h = record { read = omega arith; near = omega arith; fits = h; so_far = λ heads arena at vars s. inl (vars, going_start heads pairs arena part at vars live s h) }
+clashing_start pairs part live h = record { read = omega arith; near = omega arith; fits = h; so_far = λ types arena at vars s. inl (vars, going_start types pairs arena part at vars live s h) }
 
 module _ (pairs part : Words) (live total i p : ℕ) (cl : Clashing pairs part live total i p) (two : 2 ≤ length pairs - i) (more : p + 2 ≤ length part) (w : ℕ) (ew : w ≡ get_or part p 0) where
   -- a difference at this pair, wherever the matcher's loop is
-  differ : ((heads arena : Words) (at : ℕ) (vars env : Vars) → Going heads pairs arena part at vars live env total i p → MatchAnswers heads pairs arena part at vars live (record { verdict = Differs; vars = env; live = total })) → Clashes pairs part live
-  differ f = record { clash = λ heads arena at vars s. ⊎_elim (λ x. (record { verdict = Differs; vars = x.0; live = total }, refl, f heads arena at vars x.0 x.1)) (λ d. d) (cl.so_far heads arena at vars s) }
+  differ : ((types : Types) (arena : Words) (at : ℕ) (vars env : Vars) → Going types pairs arena part at vars live env total i p → MatchAnswers types pairs arena part at vars live (record { verdict = Differs; vars = env; live = total })) → Clashes pairs part live
+  differ f = record { clash = λ types arena at vars s. ⊎_elim (λ x. (record { verdict = Differs; vars = x.0; live = total }, refl, f types arena at vars x.0 x.1)) (λ d. d) (cl.so_far types arena at vars s) }
 
   -- one pair on
   on : (total' p' : ℕ) → total' ≤ 6144 → p' ≤ p + 8192
-      → ((heads arena : Words) (at : ℕ) (vars env : Vars) → Going heads pairs arena part at vars live env total i p → ((env' : Vars) × Going heads pairs arena part at vars live env' total' (i + 2) p') ⊎ Differing heads pairs arena part at vars live)
+      → ((types : Types) (arena : Words) (at : ℕ) (vars env : Vars) → Going types pairs arena part at vars live env total i p → ((env' : Vars) × Going types pairs arena part at vars live env' total' (i + 2) p') ⊎ Differing types pairs arena part at vars live)
       → Clashing pairs part live total' (i + 2) p'
   on total' p' h k f = record {
     read = omega (arith, cl.read);
     near = omega (arith, cl.near);
     fits = h;
-    so_far = λ heads arena at vars s. ⊎_elim (λ x. f heads arena at vars x.0 x.1) inr (cl.so_far heads arena at vars s);
+    so_far = λ types arena at vars s. ⊎_elim (λ x. f types arena at vars x.0 x.1) inr (cl.so_far types arena at vars s);
   }
 
   module _ (not_new : get_or pairs i 0 ≡ 64 → ⊥) (not_same : get_or pairs i 0 ≡ 65 → ⊥) where
     pub clashing_type : (type_in w ≡ get_or pairs i 0 → ⊥) → Clashes pairs part live
-    clashing_type h = differ (λ heads arena at vars env go. going_type heads pairs arena part at vars live env total i p go two more w ew not_new not_same h)
+    clashing_type h = differ (λ types arena at vars env go. going_type types pairs arena part at vars live env total i p go two more w ew not_new not_same h)
 
     pub clashing_value : (y : ℕ) → y ≡ get_or part (p + 1) 0 → type_in w ≡ get_or pairs i 0 → (y ≡ get_or pairs (i + 1) 0 → ⊥) → Clashes pairs part live
-    clashing_value y ey et h = differ (λ heads arena at vars env go. going_value heads pairs arena part at vars live env total i p go two more w ew not_new not_same y ey et h)
+    clashing_value y ey et h = differ (λ types arena at vars env go. going_value types pairs arena part at vars live env total i p go two more w ew not_new not_same y ey et h)
 
     pub clashing_node : (y : ℕ) → y ≡ get_or part (p + 1) 0 → type_in w ≡ get_or pairs i 0 → y ≡ get_or pairs (i + 1) 0 → Clashing pairs part live total (i + 2) (p + 2)
     clashing_node y ey et ev = on total (p + 2) cl.fits (omega arith)
-        (λ heads arena at vars env go. inl (env, going_node heads pairs arena part at vars live env total i p go two more w ew not_new not_same y ey et ev))
+        (λ types arena at vars env go. inl (env, going_node types pairs arena part at vars live env total i p go two more w ew not_new not_same y ey et ev))
 
   module _ (is : get_or pairs i 0 ≡ 64) where
     pub clashing_other : (type_in w ≡ get_or pairs (i + 1) 0 → ⊥) → Clashes pairs part live
-    clashing_other h = differ (λ heads arena at vars env go. new_other heads pairs arena part at vars live env total i p go two more w ew is (at + p) refl h)
+    clashing_other h = differ (λ types arena at vars env go. new_other types pairs arena part at vars live env total i p go two more w ew is (at + p) refl h)
 
     pub clashing_new : type_in w ≡ get_or pairs (i + 1) 0 → (n : ℕ) → n ≡ size_in w → n < 4096 → total + n ≤ 6144 → Clashing pairs part live (total + n) (i + 2) (p + 2 * n)
-    clashing_new t n en small h = on (total + n) (p + 2 * n) h (omega arith) (λ heads arena at vars env go. bind heads arena at vars env go (ltb env.n 16) refl)
+    clashing_new t n en small h = on (total + n) (p + 2 * n) h (omega arith) (λ types arena at vars env go. bind types arena at vars env go (ltb env.n 16) refl)
       where
-        bind : (heads arena : Words) (at : ℕ) (vars env : Vars) → Going heads pairs arena part at vars live env total i p → (b : Bool) → ltb env.n 16 ≡ b
-            → ((env' : Vars) × Going heads pairs arena part at vars live env' (total + n) (i + 2) (p + 2 * n)) ⊎ Differing heads pairs arena part at vars live
-        bind heads arena at vars env go true e =
-            inl (bound env (at + p), rw en (new_taken heads pairs arena part at vars live env total i p go two more w ew is (at + p) refl t (omega arith) (ltb-true env.n 16 e)))
-        bind heads arena at vars env go false e =
+        bind : (types : Types) (arena : Words) (at : ℕ) (vars env : Vars) → Going types pairs arena part at vars live env total i p → (b : Bool) → ltb env.n 16 ≡ b
+            → ((env' : Vars) × Going types pairs arena part at vars live env' (total + n) (i + 2) (p + 2 * n)) ⊎ Differing types pairs arena part at vars live
+        bind types arena at vars env go true e =
+            inl (bound env (at + p), rw en (new_taken types pairs arena part at vars live env total i p go two more w ew is (at + p) refl t (omega arith) (ltb-true env.n 16 e)))
+        bind types arena at vars env go false e =
             inr (
               record { verdict = Differs; vars = env; live = total },
               refl,
-              new_past heads pairs arena part at vars live env total i p go two more w ew is (at + p) refl t (omega arith) (ltb-false env.n 16 e),
+              new_past types pairs arena part at vars live env total i p go two more w ew is (at + p) refl t (omega arith) (ltb-false env.n 16 e),
             )
 
 -- a pattern whose first pair is a node, at a part that begins with a node of its type
@@ -154,9 +157,9 @@ module _ (fails : ℕ → Type 0) (w : Words) (target base from last : ℕ) (lef
     passing_on r x = rw x.node_is (on_by x.passed r.left x.inside x.nodes)
 
 -- the loop over the nodes ends at one of the target's type, with the value that is due there
-pub start_found : (w : Words) (target : ℕ) (fixed : Bool) (value base from last : ℕ) (left : State) (i : ℕ) (fuel : State) → Passing (OtherValue w fixed value) w target base from last left i fuel → (i < last → type_in (get_or w (base + 2 * i) 0) ≡ target)
-    → (i < last → 0 < fuel.attempts → fixed ≡ true → get_or w (base + 2 * i + 1) 0 ≡ value) → NextStart w target fixed value base from last left (record { node = i; left = fuel })
-start_found w target fixed value base from last left i fuel pa t v = record { next = passing_done (OtherValue w fixed value) w target base from last left i fuel pa t; valued = v }
+pub start_found : (w : Words) (target : ℕ) (value : Option ℕ) (base from last : ℕ) (left : State) (i : ℕ) (fuel : State) → Passing (OtherValue w value) w target base from last left i fuel → (i < last → type_in (get_or w (base + 2 * i) 0) ≡ target)
+    → (i < last → 0 < fuel.attempts → allowed value (get_or w (base + 2 * i + 1) 0) ≡ true) → NextStart w target value base from last left (record { node = i; left = fuel })
+start_found w target value base from last left i fuel pa t v = record { next = passing_done (OtherValue w value) w target base from last left i fuel pa t; valued = v }
 
 -- a part of work memory that begins with a node of the target's type
 part_begins : (pairs w : Words) (target base end last : ℕ) → (0 < last → (base + 2 * last ≤ end) × (end ≤ length w)) → (n : ℕ) → n < last → type_in (get_or w (base + 2 * n) 0) ≡ target → BeginsWithNode pairs target
@@ -167,24 +170,35 @@ part_begins pairs w target base end last room n l t b =
     let first : get_or (span w (base + 2 * n) end) 0 0 ≡ get_or w (base + 2 * n) 0 = span_word w (base + 2 * n) end 0 (omega (arith, r.0)) ∙ ap (λ x. get_or w x 0) (add-zero (base + 2 * n)) in
     (omega (arith, long, r.0), (b.0, b.1 ∙ sym t ∙ sym (ap type_in first)), span_word w (base + 2 * n) end 1 (omega (arith, r.0)))
 
+-- the value that is due is another than is found
+other_due : (pairs : Words) (target found : ℕ) (value : Option ℕ) → FirstValue pairs target value → allowed value found ≡ false → BeginsWithNode pairs target × (found ≡ get_or pairs 1 0 → ⊥)
+other_due pairs target found (Some v) k o = (k.0, λ e. eqb-false found v o (e ∙ k.1))
+other_due pairs target found None k o = no_true (sym o)
+
 -- the search goes from node i to the start that is found, for a pattern of which this is known
 module _ (pairs w : Words) (target base end from last live : ℕ) (left : State) (first : First) (known : FirstOf pairs target first) (h : live ≤ 6144) (room : 0 < last → (base + 2 * last ≤ end) × (end ≤ length w))
     (i : ℕ) (fuel : State) (pa : Passing (ClashesAt pairs w end live) w target base from last left i fuel) (r : Candidate)
-    (found : NextStart w target first.fixed first.value base i last fuel r) where
-  other_clashes : (n : ℕ) → n < last → type_in (get_or w (base + 2 * n) 0) ≡ target → OtherValue w first.fixed first.value (base + 2 * n) → ClashesAt pairs w end live (base + 2 * n)
+    (found : NextStart w target first.value base i last fuel r) where
+  other_clashes : (n : ℕ) → n < last → type_in (get_or w (base + 2 * n) 0) ≡ target → OtherValue w first.value (base + 2 * n) → ClashesAt pairs w end live (base + 2 * n)
   other_clashes n l t o =
-      let k = part_begins pairs w target base end last room n l t (known.begins o.0) in
-      clashing_first pairs (span w (base + 2 * n) end) live h k.0 k.1 (λ e. o.1 (sym k.2 ∙ e ∙ sym known.value_is))
+      let f = other_due pairs target _ first.value known.value_is o in
+      let k = part_begins pairs w target base end last room n l t f.0 in
+      clashing_first pairs (span w (base + 2 * n) end) live h k.0 k.1 (λ e. f.1 (sym k.2 ∙ e))
 
   moved : Passing (ClashesAt pairs w end live) w target base from last left r.node r.left
-  moved = passing_on (ClashesAt pairs w end live) w target base from last left (OtherValue w first.fixed first.value) other_clashes i fuel pa r found.next
+  moved = passing_on (ClashesAt pairs w end live) w target base from last left (OtherValue w first.value) other_clashes i fuel pa r found.next
 
   pub candidate_found : NextCandidate pairs w target base end from last live left r
   candidate_found = passing_done (ClashesAt pairs w end live) w target base from last left r.node r.left moved found.next.typed
 
   module _ (l : r.node < last) where
-    pub candidate_begun : first.fixed ≡ true → 0 < r.left.attempts → Begun pairs (span w (base + 2 * r.node) end)
-    candidate_begun f some = let k = part_begins pairs w target base end last room r.node l (found.next.typed l) (known.begins f) in (k.0, k.1, k.2 ∙ found.valued l some f ∙ known.value_is)
+    pub candidate_begun : first.further ≡ true → 0 < r.left.attempts → Begun pairs (span w (base + 2 * r.node) end)
+    candidate_begun e some =
+        let v = known.given e in
+        let f : FirstValue pairs target (Some v.0) = rw v.1 at known.value_is in
+        let a : allowed (Some v.0) (get_or w (base + 2 * r.node + 1) 0) ≡ true = rw v.1 at (found.valued l some) in
+        let k = part_begins pairs w target base end last room r.node l (found.next.typed l) f.0 in
+        (k.0, k.1, k.2 ∙ eqb-true (get_or w (base + 2 * r.node + 1) 0) v.0 a ∙ sym f.1)
 
     pub candidate_fails : (now : State) → r.left.attempts ≡ suc now.attempts → Clashes pairs (span w (base + 2 * r.node) end) live → Passing (ClashesAt pairs w end live) w target base from last left (r.node + 1) now
     candidate_fails now z x = passing_fail (ClashesAt pairs w end live) w target base from last left r.node r.left moved l _ refl (found.next.typed l) now z x

@@ -5,9 +5,8 @@ use mathlib.Core.List.{List, [], ◌∷◌, ◌++◌, append_assoc, append-nil}
 use mathlib.Core.Option.{Option, none, some}
 use native.Mathlib.Omega.{arith}
 use native.Mathlib.Numerals.{add-one}
-use lib.ListN.{length, get_or, take, drop, set, get_elem?, length-set, length-take, take-append-drop}
+use lib.ListN.{length, get_or, take, drop, set, get_elem?, length-take, take-append-drop}
 use lib.Seq.{sets-eq, drop-drop, get_or-drop, get_or-take}
-use borrow.Author.Tests.{le-leb, lt-leb}
 use Rattle.words.specs.Reader.{Words}
 use Rattle.grammar.specs.Grammar.{Grammar}
 use Rattle.grammar.specs.Limits.{most_types}
@@ -16,15 +15,14 @@ use Rattle.tree.specs.Tree.{size}
 use Rattle.tree.proofs.Trees.{trees_even, tree_some}
 use Rattle.rules.specs.Rules.{arguments}
 use Rattle.meaning.specs.declared.State.{State}
-use Rattle.meaning.specs.Computation.{Result, ok, stop, stuck, then_of, present, return}
+use Rattle.meaning.specs.Computation as Computation
+use Rattle.meaning.specs.Computation.{ok, stop, stuck, then_of, present, return}
 use Rattle.meaning.specs.Meaning.{Env, total, variable, variables}
-use Rattle.operations.specs.declared.Number.{Number}
-use Rattle.operations.specs.declared.Number.TheVariants.{Is, OutOfRange}
-use Rattle.operations.specs.Operating.{Operated}
+use Rattle.std.specs.Prelude.{min}
 use Rattle.marks.specs.Marked.{size_in, Stands}
 use Rattle.marks.proofs.Same.{stands_size}
 use Rattle.rewrite.specs.Vars.{Vars, EnvAt, starts_of, bound, start_at, Sound}
-use Rattle.rewrite.specs.Arena.{NodesAt, over_by, Gathered, Computed}
+use Rattle.rewrite.specs.Arena.{NodesAt, Gathered}
 use Rattle.rewrite.proofs.Matcher.{env_length, env_more, env_get, env_as, stands_as, total_more, starts_length, starts_more, sound_more, start_is}
 
 -- THE NODES OF A TREE
@@ -38,25 +36,17 @@ stands_below g w start top ws l s =
     let k : start + 2 * size ws ≤ top = omega (arith, s.inside, length-take top w) in
     (stands_size g (take top w) start ws (get_or w start 0) l s (sym (get_or-take top w start 0 (omega arith))), n, k)
 
-module _ (w : Words) (start top : ℕ) {x n : ℕ} (ex : x ≡ get_or w start 0) (en : n ≡ size_in x) where
-  nodes_none : ((m : ℕ) → n ≡ m → 0 < m → start + 2 * m ≤ top → m ≤ most_nodes → ⊥) → NodesAt w start top 0
+module _ (w : Words) (start top : ℕ) {n : ℕ} (en : n ≡ size_in (get_or w start 0)) where
+  -- too many for a tree, or past the top
+  pub nodes_none : (n ≤ most_nodes → start + 2 * n ≤ top → ⊥) → NodesAt w start top 0
   nodes_none h = record {
     small = omega arith;
     inside = λ z. absurd (omega arith);
-    stands = λ g ws l s. let t = stands_below g w start top ws l s in absurd (h (size ws) (en ∙ ap size_in ex ∙ t.0) t.1 t.2 s.tree.nodes);
+    stands = λ g ws l s. let t = stands_below g w start top ws l s in absurd (rw (en ∙ t.0) at h s.tree.nodes t.2);
   }
 
-  pub nodes_many : most_nodes < n → NodesAt w start top 0
-  nodes_many h = nodes_none (λ m e p i k. omega arith)
-
-  pub nodes_before : top < start → NodesAt w start top 0
-  nodes_before h = nodes_none (λ m e p i k. omega arith)
-
-  pub nodes_past : top - start < 2 * n → NodesAt w start top 0
-  nodes_past h = nodes_none (λ m e p i k. omega arith)
-
-  pub nodes_there : n ≤ most_nodes → start ≤ top → 2 * n ≤ top - start → NodesAt w start top n
-  nodes_there l h i = record { small = l; inside = λ z. omega arith; stands = λ g ws k s. en ∙ ap size_in ex ∙ (stands_below g w start top ws k s).0 }
+  pub nodes_there : n ≤ most_nodes → start + 2 * n ≤ top → NodesAt w start top n
+  nodes_there l h = record { small = l; inside = λ z. h; stands = λ g ws k s. en ∙ (stands_below g w start top ws k s).0 }
 
 -- WHAT IS PUSHED
 
@@ -73,18 +63,6 @@ pushed_tree w w' start to n e = e ∙ append_assoc (take to w) (take (2 * n) (dr
 pub pushed_node : (w : Words) (to t v : ℕ) → to + 2 ≤ length w → set (set w to t) (to + 1) v ≡ take to w ++ (t ∷ v ∷ drop (to + 2) w)
 pushed_node w to t v h = rw (add-one to) (sets-eq (t ∷ v ∷ []) w to h ∙ append_assoc (take to w) (t ∷ v ∷ []) (drop (to + 2) w))
 
--- THE LIMITS
-
-module _ (n live : ℕ) where
-  pub over_nodes : 2048 < n → 42 ≡ over_by n live
-  over_nodes h = rw (lt-leb n 2048 h)
-
-  pub over_live : n ≤ 2048 → 6144 < live → 44 ≡ over_by n live
-  over_live h l = rw (le-leb n 2048 h, lt-leb live 6144 l)
-
-  pub over_none : n ≤ 2048 → live ≤ 6144 → 0 ≡ over_by n live
-  over_none h l = rw (le-leb n 2048 h, le-leb live 6144 l)
-
 -- THE FIRST ARGUMENT
 
 pub value_there : (w pairs : Words) (at : ℕ) (vars : Vars) {x start r : ℕ} → r ≡ get_or w (start + 1) 0 → start ≡ start_at vars x → x ≡ get_or pairs at 0 → r ≡ get_or w (start_at vars (get_or pairs at 0) + 1) 0
@@ -100,7 +78,7 @@ variables_more env x xs left whole e = go (get_elem? env x) refl e
     clash : {A : Type 0} → ◌≡◌ {A = ℕ} 0 1 → A
     clash z = absurd (omega (arith, z))
 
-    first : (u : Words) (m : Result Env) → then_of m (λ ts. return (u ∷ ts)) ≡ ok whole left → (rest : Env) × (m ≡ ok rest left) × (whole ≡ u ∷ rest)
+    first : (u : Words) (m : Computation.Result Env) → then_of m (λ ts. return (u ∷ ts)) ≡ ok whole left → (rest : Env) × (m ≡ ok rest left) × (whole ≡ u ∷ rest)
     first u (ok ts l) f = (ts, cc, cc)
     first u (stop n l) f = clash cc
     first u stuck f = clash cc
@@ -171,26 +149,23 @@ gathering_start w pairs at n vars starts l = record {
 }
 
 module _ (w pairs : Words) (at n : ℕ) (vars args : Vars) (count i : ℕ) (go : Gathering w pairs at n vars args count i) where
-  -- n is more than 16
-  pub gathering_over : 16 ≤ i → i < n → Gathered w pairs at n vars (record { vars = args; total = count })
-  gathering_over h l = record { sound = go.sound; small = omega (arith, go.small, go.few); stands = λ g top env whole left k e m v. absurd (omega arith) }
-
-  pub gathering_end : n ≤ i → Gathered w pairs at n vars (record { vars = args; total = count })
+  -- all are gathered, or n is more than 16
+  pub gathering_end : min n 16 ≤ i → Gathered w pairs at n vars (record { vars = args; total = count })
   gathering_end h = record {
     sound = go.sound;
     small = omega (arith, go.small, go.few);
-    stands = λ g top env whole left k e m v. ended (go.run g top env whole left k e v);
+    stands = λ g top env whole left k e m v. ended (omega arith) (go.run g top env whole left k e v);
   }
     where
-      ended : {g : Grammar} {top : ℕ} {env whole : Env} {left : State} → Run w pairs at n args count i g top env whole left → EnvAt g (take top w) (starts_of args) whole × (count ≡ total whole)
-      ended {g} {top} {env} {whole} {left} r =
+      ended : {g : Grammar} {top : ℕ} {env whole : Env} {left : State} → n ≤ i → Run w pairs at n args count i g top env whole left → EnvAt g (take top w) (starts_of args) whole × (count ≡ total whole)
+      ended {g} {top} {env} {whole} {left} l r =
           let none_due = ap (λ xs. variables env xs left) (sym (arguments_none (n - i) (drop (at + 2 * i) pairs) (omega arith))) ∙ r.due in
           let all : whole ≡ r.done = r.joined ∙ ap (λ x. r.done ++ x) (variables_none env left r.rest none_due) ∙ append-nil r.done in
           rw all (r.stands, r.counted)
 
-  pub gathering_more : Sound vars → i < n → i < 16 → {x start y m : ℕ} {args' : Vars} → x ≡ get_or pairs (at + 2 * i + 1) 0 → start ≡ start_at vars x → args' ≡ bound args start
-      → y ≡ get_or w start 0 → m ≡ size_in y → m < 4096 → Gathering w pairs at n vars args' (count + m) (i + 1)
-  gathering_more s h l {x} {start} {y} {m} {args'} ex es ea ey em few = rw ea (record {
+  pub gathering_more : Sound vars → i < min n 16 → {x start m : ℕ} {args' : Vars} → x ≡ get_or pairs (at + 2 * i + 1) 0 → start ≡ start_at vars x → args' ≡ bound args start
+      → m ≡ size_in (get_or w start 0) → m < 4096 → Gathering w pairs at n vars args' (count + m) (i + 1)
+  gathering_more s h {x} {start} {m} {args'} ex es ea em few = rw ea (record {
     sound = sound_more args start go.sound (omega (arith, go.bound_to));
     bound_to = omega (arith, go.bound_to);
     few = omega arith;
@@ -212,7 +187,7 @@ module _ (w pairs : Words) (at n : ℕ) (vars args : Vars) (count i : ℕ) (go :
           let t = variables_more env x (arguments (n - (i + 1)) (drop (at + 2 * (i + 1)) pairs)) left r.rest (ap (λ xs. variables env xs left) (sym pairs_more) ∙ r.due) in
           let u = t.0 in
           let here : Stands g (take top w) start u = stands_as es (variable_stands g (take top w) vars env x u s e t.2) in
-          let nodes : m ≡ size u = em ∙ ap size_in ey ∙ (stands_below g w start top u k here).0 in
+          let nodes : m ≡ size u = em ∙ (stands_below g w start top u k here).0 in
           record {
             done = r.done ++ u ∷ [];
             rest = t.1;
@@ -221,12 +196,3 @@ module _ (w pairs : Words) (at n : ℕ) (vars args : Vars) (count i : ℕ) (go :
             counted = omega (arith, r.counted, nodes, total_more r.done u);
             due = t.3;
           }
-
--- WHAT AN OPERATION WRITES
-
-module _ (w : Words) (base op b a : ℕ) (r : Number) (ea : a ≡ get_or w (base + 1) 0) (f : Operated op a b r) where
-  pub computed_is : (v : ℕ) → r ≡ Is v → Computed w (set w (base + 1) v) base op b 0
-  computed_is v e = record { long = length-set w (base + 1) v; computed = λ o left eo ns. (v, (rw (ea, e) at f) o left eo ns, refl) }
-
-  pub computed_out : r ≡ OutOfRange → Computed w w base op b 45
-  computed_out e = record { long = refl; computed = λ o left eo ns. ((rw (ea, e) at f) o left eo ns, refl) }

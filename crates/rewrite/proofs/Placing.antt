@@ -8,9 +8,11 @@ use lib.ListN.{length, get_or, take, drop, take-append-drop}
 use lib.Seq.{get_or-drop, get_or-take, length-take-le}
 use lib.Dec.{leb, ltb}
 use borrow.Author.Tests.{le-leb, lt-leb, leb-true, leb-false, lt-ltb, le-ltb, ltb-true, ltb-false}
+use Rattle.std.specs.Prelude.{Result, Ok, Err}
 use Rattle.words.specs.Reader.{Words}
 use Rattle.grammar.specs.Grammar.{Grammar}
-use Rattle.tables.specs.Tables.{Heads, Tables}
+use Rattle.tables.specs.Types.{TypesOf}
+use Rattle.tables.specs.declared.types.Types.{Types}
 use Rattle.tree.specs.Tree.{Trees, Tree, size, nesting_from, nesting, node_nesting, after, first_tree, put}
 use Rattle.tree.proofs.Trees.{tells, trees_even, first_after}
 use Rattle.tree.proofs.Places.{node_at, spliced, subtree_size, splice_trees, splice_size, splice_nesting, node_nested}
@@ -113,24 +115,24 @@ ltb_as a b m n e = go (leb b n) refl
     go true h = le-ltb m a (leb-true a m (e ∙ h)) ∙ sym (le-ltb n b (leb-true b n h))
     go false h = lt-ltb m a (leb-false a m (e ∙ h)) ∙ sym (lt-ltb n b (leb-false b n h))
 
-module _ (heads w : Words) (base n i from deepest : ℕ) (inside : i < n) (ed : deepest ≡ nesting_in (get_or w from 0)) where
+module _ (types : Types) (w : Words) (base n i from deepest : ℕ) (inside : i < n) (ed : deepest ≡ nesting_in (get_or w from 0)) where
   -- the new tree nests as deep as its mark says
-  new_nests : (g : Grammar) (target m : ℕ) (ws : Words) → Heads g heads → Standing g w from m target ws → deepest ≡ nesting g ws
+  new_nests : (g : Grammar) (target m : ℕ) (ws : Words) → TypesOf g types → Standing g w from m target ws → deepest ≡ nesting g ws
   new_nests g target m ws hs x =
       let few = x.tree.nodes in
-      ed ∙ nesting_there w ws from m hs.types x.tree.typed x.nodes (omega (arith, x.nodes)) x.words
+      ed ∙ nesting_there w ws from m hs.heads_of.types x.tree.typed x.nodes (omega (arith, x.nodes)) x.words
 
   -- no deeper than the old one
-  pub deep_not : (before : ℕ) → before ≡ nesting_in (get_or w (base + 2 * i) 0) → deepest ≤ before → TooDeep heads w base n i from false
+  pub deep_not : (before : ℕ) → before ≡ nesting_in (get_or w (base + 2 * i) 0) → deepest ≤ before → TooDeep types w base n i from false
   deep_not before eb less g t target m scope ws hs s x o =
       let few = s.tree.nodes in
       let in_scope : i < size scope = omega (arith, s.nodes) in
-      let old = child_there g t i scope in_scope s.tree.typed w base n hs.types s.nodes (omega (arith, s.nodes)) s.words in
+      let old = child_there g t i scope in_scope s.tree.typed w base n hs.heads_of.types s.nodes (omega (arith, s.nodes)) s.words in
       sym (le-ltb 64 (nesting g (put g scope (2 * i) ws)) (put_flat g t target i scope ws in_scope s.tree.typed o.typed x.tree.typed 64 s.tree.nested
       (omega (arith, new_nests g target m ws hs x, eb, old.2.nested))))
 
   -- by the node's nesting
-  pub deep_by : (above : ℕ) → NestingOf heads (span w base (base + 2 * n)) (base + 2 * i - base) above → TooDeep heads w base n i from (ltb 65 (above + deepest))
+  pub deep_by : (above : ℕ) → NestingOf types (span w base (base + 2 * n)) (base + 2 * i - base) above → TooDeep types w base n i from (ltb 65 (above + deepest))
   deep_by above nests g t target m scope ws hs s x o =
       let z : base + 2 * n - base ≡ 2 * n = omega arith in
       let y : base + 2 * i - base ≡ 2 * i = omega arith in
@@ -140,8 +142,14 @@ module _ (heads w : Words) (base n i from deepest : ℕ) (inside : i < n) (ed : 
 
 -- THE ANSWERS
 
-module _ (heads rows w : Words) (base n i from m k : ℕ) (inside : i < n) (ek : k ≡ size_in (get_or w (base + 2 * i) 0)) where
-  module _ (g : Grammar) (t target : ℕ) (scope ws : Words) (tb : Tables g heads rows) (s : Standing g w base n t scope) (x : Standing g w from m target ws) (o : Tree g target (first_tree g (drop (2 * i) scope))) where
+ok_is : {a b : ℕ} → ◌≡◌ {A = Result ℕ ℕ} (Ok a) (Ok b) → a ≡ b
+ok_is e = cc
+
+no_ok : {a b : ℕ} → ◌≡◌ {A = Result ℕ ℕ} (Err a) (Ok b) → ⊥
+no_ok e = cc
+
+module _ (types : Types) (w : Words) (base n i from m k : ℕ) (inside : i < n) (ek : k ≡ size_in (get_or w (base + 2 * i) 0)) where
+  module _ (g : Grammar) (t target : ℕ) (scope ws : Words) (tb : TypesOf g types) (s : Standing g w base n t scope) (x : Standing g w from m target ws) (o : Tree g target (first_tree g (drop (2 * i) scope))) where
     in_scope : i < size scope
     in_scope = omega (arith, s.nodes)
 
@@ -149,7 +157,7 @@ module _ (heads rows w : Words) (base n i from m k : ℕ) (inside : i < n) (ek :
     old_is : k ≡ size (first_tree g (drop (2 * i) scope))
     old_is =
         let few = s.tree.nodes in
-        ek ∙ (child_there g t i scope in_scope s.tree.typed w base n tb.rows_of_lem.types s.nodes (omega (arith, s.nodes)) s.words).2.counted
+        ek ∙ (child_there g t i scope in_scope s.tree.typed w base n tb.heads_of.types s.nodes (omega (arith, s.nodes)) s.words).2.counted
 
     old_fits : k ≤ n
     old_fits = omega (arith, old_is, s.nodes, old_small g t target i scope ws in_scope s.tree.typed o.typed x.tree.typed)
@@ -157,46 +165,47 @@ module _ (heads rows w : Words) (base n i from m k : ℕ) (inside : i < n) (ek :
     nodes_are : size (put g scope (2 * i) ws) ≡ n - k + m
     nodes_are = omega (arith, old_is, old_fits, s.nodes, x.nodes, put_size g t target i scope ws in_scope s.tree.typed o.typed x.tree.typed)
 
-  pub replaced_none : n < k → Replaced heads rows w w base n i from m (record { stop = 0; nodes = n })
+  pub replaced_none : n < k → Replaced types w w base n i from m (Ok n)
   replaced_none h = record {
     long = refl;
-    most = omega arith;
-    few = λ z h. h;
+    most = λ e. omega (arith, ok_is e);
+    few = λ e l. omega (arith, ok_is e);
     replaced = λ g t target scope ws tb s x o. absurd (omega (arith, old_fits g t target scope ws tb s x o));
   }
 
-  pub replaced_many : 2048 < n - k + m → Replaced heads rows w w base n i from m (record { stop = 42; nodes = n - k + m })
+  pub replaced_many : 2048 < n - k + m → Replaced types w w base n i from m (Err 42)
   replaced_many h = record {
     long = refl;
-    most = omega arith;
-    few = λ z h. absurd (omega arith);
+    most = λ e. absurd (no_ok e);
+    few = λ e. absurd (no_ok e);
     replaced = λ g t target scope ws tb s x o. (rw (nodes_are g t target scope ws tb s x o, lt-leb (n - k + m) 2048 h), refl);
   }
 
-  module _ (few : n - k + m ≤ 2048) (deep : Bool) (is : TooDeep heads w base n i from deep) where
-    pub replaced_deep : deep ≡ true → Replaced heads rows w w base n i from m (record { stop = 43; nodes = n - k + m })
+  module _ (few : n - k + m ≤ 2048) (deep : Bool) (is : TooDeep types w base n i from deep) where
+    pub replaced_deep : deep ≡ true → Replaced types w w base n i from m (Err 43)
     replaced_deep e = record {
       long = refl;
-      most = omega arith;
-      few = λ z h. absurd (omega arith);
+      most = λ e. absurd (no_ok e);
+      few = λ e. absurd (no_ok e);
       replaced = λ g t target scope ws tb s x o.
-          let over = ltb-true 64 (nesting g (put g scope (2 * i) ws)) (sym (is g t target m scope ws tb.heads_of s x o) ∙ e) in
+          let over = ltb-true 64 (nesting g (put g scope (2 * i) ws)) (sym (is g t target m scope ws tb s x o) ∙ e) in
           (rw (nodes_are g t target scope ws tb s x o, le-leb (n - k + m) 2048 few, lt-leb (nesting g (put g scope (2 * i) ws)) 64 over), refl);
     }
 
-    pub replaced_done : deep ≡ false → (w' : Words) → InPlace heads rows w w' base (base + 2 * i) (base + 2 * n) from (2 * m) → Replaced heads rows w w' base n i from m (record { stop = 0; nodes = n - k + m })
+    pub replaced_done : deep ≡ false → (w' : Words) → InPlace types w w' base (base + 2 * i) (base + 2 * n) from (2 * m) → Replaced types w w' base n i from m (Ok (n - k + m))
     replaced_done e w' p = record {
       long = p.long;
-      most = omega arith;
-      few = λ z h. few;
+      most = λ e. omega (arith, ok_is e);
+      few = λ e l. omega (arith, ok_is e);
       replaced = λ g t target scope ws tb s x o.
-          let flat = ltb-false 64 (nesting g (put g scope (2 * i) ws)) (sym (is g t target m scope ws tb.heads_of s x o) ∙ e) in (
+          let flat = ltb-false 64 (nesting g (put g scope (2 * i) ws)) (sym (is g t target m scope ws tb s x o) ∙ e) in (
             rw (nodes_are g t target scope ws tb s x o, le-leb (n - k + m) 2048 few, le-leb (nesting g (put g scope (2 * i) ws)) 64 flat),
-            placed g t target scope ws tb s x o flat,
+            (placed g t target scope ws tb s x o flat).0,
+            (placed g t target scope ws tb s x o flat).1,
           );
     }
       where
-        placed : (g : Grammar) (t target : ℕ) (scope ws : Words) → Tables g heads rows → Standing g w base n t scope → Standing g w from m target ws → Tree g target (first_tree g (drop (2 * i) scope))
+        placed : (g : Grammar) (t target : ℕ) (scope ws : Words) → TypesOf g types → Standing g w base n t scope → Standing g w from m target ws → Tree g target (first_tree g (drop (2 * i) scope))
             → nesting g (put g scope (2 * i) ws) ≤ 64 → (take base w' ≡ take base w) × Standing g w' base (n - k + m) t (put g scope (2 * i) ws)
         placed g t target scope ws tb s x o flat =
             let z : base + 2 * n - base ≡ 2 * n = omega arith in

@@ -1,5 +1,6 @@
 -- What the search for a node at which an attempt may match promises. Assumes nothing: these are definitions.
-use Rattle.std.specs.Prelude.{ℕ, zero, suc, ◌+◌, ◌*◌, ◌<◌, ◌≤◌, ◌≡◌, ◌⊎◌, Bool, true, length, get_or}
+use Rattle.tables.specs.declared.types.Types.{Types}
+use Rattle.std.specs.Prelude.{ℕ, zero, suc, ◌+◌, ◌*◌, ◌<◌, ◌≤◌, ◌≡◌, ◌⊎◌, Bool, true, false, length, get_or, eqb, Option, Some, None}
 use Rattle.words.specs.Reader.{Words}
 use Rattle.meaning.specs.declared.State.{State}
 use Rattle.marks.specs.Marked.{type_in}
@@ -12,16 +13,21 @@ use Rattle.rewrite.specs.declared.candidates.First.{First}
 
 -- the pattern differs from the tree that the part begins with, whatever the variables are
 pub record Clashes (pairs part : Words) (live : ℕ) : Type 0 where
-  pub clash : (heads arena : Words) (at : ℕ) (vars : Vars) → Sound vars → (m : Match) × (m.verdict ≡ Differs) × MatchAnswers heads pairs arena part at vars live m
+  pub clash : (types : Types) (arena : Words) (at : ℕ) (vars : Vars) → Sound vars → (m : Match) × (m.verdict ≡ Differs) × MatchAnswers types pairs arena part at vars live m
 
 -- the pattern's first pair has the target's type, so that it is a node wherever there is a node of that type
 abbrev pub BeginsWithNode : Words → ℕ → Type 0
 BeginsWithNode pairs target = (2 ≤ length pairs) × (get_or pairs 0 0 ≡ target)
 
+-- a value, if it is given, is that of the pattern's first pair, and the pair has the target's type
+abbrev pub FirstValue : Words → ℕ → Option ℕ → Type 0
+FirstValue pairs target (Some v) = BeginsWithNode pairs target × (get_or pairs 1 0 ≡ v)
+FirstValue pairs target None = Unit {0}
+
 -- what is looked up of a pattern before a search
 pub record FirstOf (pairs : Words) (target : ℕ) (first : First) : Type 0 where
-  pub begins : first.fixed ≡ true → BeginsWithNode pairs target
-  pub value_is : first.value ≡ get_or pairs 1 0
+  pub value_is : FirstValue pairs target first.value
+  pub given : first.further ≡ true → (v : ℕ) × (first.value ≡ Some v)
 
 -- the pattern's first pair is a node, and the part begins with that node
 abbrev pub Begun : Words → Words → Type 0
@@ -46,14 +52,19 @@ pub record Next (fails : ℕ → Type 0) (w : Words) (target base from last : �
   pub nodes : Passed fails w target base from left passed r.left
   pub typed : r.node < last → type_in (get_or w (base + 2 * r.node) 0) ≡ target
 
--- an attempt fails where the value is fixed and another stands at p
-abbrev pub OtherValue : Words → Bool → ℕ → ℕ → Type 0
-OtherValue w fixed value p = (fixed ≡ true) × (get_or w (p + 1) 0 ≡ value → ⊥)
+-- may a pattern whose first pair has this value, if it is given, match a node with the value that is found?
+abbrev pub allowed : Option ℕ → ℕ → Bool
+allowed (Some due) found = eqb found due
+allowed None found = true
 
--- passed over are nodes with another value, where that is fixed; the one that is given has it, or no attempt is left
-pub record NextStart (w : Words) (target : ℕ) (fixed : Bool) (value base from last : ℕ) (left : State) (r : Candidate) : Type 0 where
-  pub next : Next (OtherValue w fixed value) w target base from last left r
-  pub valued : r.node < last → 0 < r.left.attempts → fixed ≡ true → get_or w (base + 2 * r.node + 1) 0 ≡ value
+-- an attempt fails where another value than is due stands at p
+abbrev pub OtherValue : Words → Option ℕ → ℕ → Type 0
+OtherValue w value p = allowed value (get_or w (p + 1) 0) ≡ false
+
+-- passed over are nodes with another value than is due; the one that is given has it, or no attempt is left
+pub record NextStart (w : Words) (target : ℕ) (value : Option ℕ) (base from last : ℕ) (left : State) (r : Candidate) : Type 0 where
+  pub next : Next (OtherValue w value) w target base from last left r
+  pub valued : r.node < last → 0 < r.left.attempts → allowed value (get_or w (base + 2 * r.node + 1) 0) ≡ true
 
 -- an attempt fails where the pattern differs from the tree that stands at p
 abbrev pub ClashesAt : Words → Words → ℕ → ℕ → ℕ → Type 0

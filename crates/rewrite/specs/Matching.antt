@@ -1,14 +1,16 @@
 -- What the matcher promises: the meaning's match, over trees that stand marked in work memory. Assumes nothing: these are definitions.
-use Rattle.std.specs.Prelude.{ℕ, ◌+◌, ◌*◌, ◌<◌, ◌≤◌, ◌≡◌, Bool, true, false, List, ◌∷◌, length, get_or, take, drop, eqb}
+use Rattle.std.specs.Prelude.{ℕ, ◌+◌, ◌*◌, ◌<◌, ◌≤◌, ◌≡◌, Bool, true, false, List, ◌∷◌, length, get_or, take, drop, Result, Ok, Err}
 use Rattle.std.proofs.Math.Option.{Option, none, some}
-use Rattle.words.specs.Reader.{Words, pick}
+use Rattle.words.specs.Reader.{Words}
 use Rattle.grammar.specs.Grammar.{Grammar}
-use Rattle.tables.specs.Tables.{Heads}
+use Rattle.tables.specs.Types.{TypesOf}
+use Rattle.tables.specs.declared.types.Types.{Types}
 use Rattle.rules.specs.Limits.{most_variables, mark_new, mark_variable}
 use Rattle.rules.specs.Rules.{shapes}
 use Rattle.meaning.specs.Limits.{most_live}
 use Rattle.meaning.specs.declared.State.{State}
-use Rattle.meaning.specs.Computation.{Result, ok, stop, stuck, Comp}
+use Rattle.meaning.specs.Computation as Computation
+use Rattle.meaning.specs.Computation.{ok, stop, stuck, Comp}
 use Rattle.meaning.specs.Meaning.{Env, Bindings, total, same_tree, match, match_first}
 use Rattle.tree.specs.Limits.{most_nodes}
 use Rattle.tree.specs.Tree.{Trees, size, first_tree}
@@ -19,32 +21,28 @@ use Rattle.rewrite.specs.declared.Verdict.{Verdict}
 use Rattle.rewrite.specs.declared.Verdict.TheVariants.{Matches, Differs, Stops}
 use Rattle.rewrite.specs.declared.Matched.{Matched}
 
--- what a new variable of the type set against the node w comes to, with n variables bound: how many words it takes up; 0 if the type is another or it is the 17th; 1 if
--- too many nodes would be live
-pub data NewTold (w ty n live r : ℕ) : Type 0 where
-  other : (type_in w ≡ ty → ⊥) → r ≡ 0 → NewTold w ty n live r
-  over : type_in w ≡ ty → most_live < live + size_in w → r ≡ 1 → NewTold w ty n live r
-  past : type_in w ≡ ty → live + size_in w ≤ most_live → most_variables ≤ n → r ≡ 0 → NewTold w ty n live r
-  taken : type_in w ≡ ty → live + size_in w ≤ most_live → n < most_variables → r ≡ 2 * size_in w → NewTold w ty n live r
+-- what a new variable of the type set against the node w comes to, with n variables bound: how many words it takes up; that the match differs, if the type is another or
+-- it is the 17th; that it stops, if too many nodes would be live
+pub data NewTold (w ty n live : ℕ) (r : Result ℕ Verdict) : Type 0 where
+  other : (type_in w ≡ ty → ⊥) → r ≡ Err Differs → NewTold w ty n live r
+  over : type_in w ≡ ty → most_live < live + size_in w → r ≡ Err (Stops 44) → NewTold w ty n live r
+  past : type_in w ≡ ty → live + size_in w ≤ most_live → most_variables ≤ n → r ≡ Err Differs → NewTold w ty n live r
+  taken : type_in w ≡ ty → live + size_in w ≤ most_live → n < most_variables → r ≡ Ok (2 * size_in w) → NewTold w ty n live r
 
 -- r says whether a variable whose tree stands at `start` matches the first tree of the part
-abbrev pub VariableTold : Words → Words → ℕ → Words → Bool → Type 0
-VariableTold heads arena start part r = (g : Grammar) (u ws : Words) (t : ℕ) (ts : List ℕ) → Heads g heads → Stands g arena start u → part ≡ marked g ws → Trees g (t ∷ ts) ws → size ws ≤ most_nodes
+abbrev pub VariableTold : Types → Words → ℕ → Words → Bool → Type 0
+VariableTold types arena start part r = (g : Grammar) (u ws : Words) (t : ℕ) (ts : List ℕ) → TypesOf g types → Stands g arena start u → part ≡ marked g ws → Trees g (t ∷ ts) ws → size ws ≤ most_nodes
     → r ≡ same_tree g u (first_tree g ws)
 
--- what a pair (t, v) set against the node at p of the part comes to, if the tree of the variable v stands at `start`: likewise, and 0 if it differs
-pub data PairTold (heads arena part : Words) (t v start p n live r : ℕ) : Type 0 where
-  short : length part < p + 2 → r ≡ 0 → PairTold heads arena part t v start p n live r
-  new : p + 2 ≤ length part → t ≡ mark_new → NewTold (get_or part p 0) v n live r → PairTold heads arena part t v start p n live r
-  unlike : p + 2 ≤ length part → (t ≡ mark_new → ⊥) → t ≡ mark_variable → VariableTold heads arena start (drop p part) false → r ≡ 0 → PairTold heads arena part t v start p n live r
-  like : p + 2 ≤ length part → (t ≡ mark_new → ⊥) → t ≡ mark_variable → VariableTold heads arena start (drop p part) true → r ≡ 2 * size_in (get_or part p 0) → PairTold heads arena part t v start p n live r
-  type : p + 2 ≤ length part → (t ≡ mark_new → ⊥) → (t ≡ mark_variable → ⊥) → (type_in (get_or part p 0) ≡ t → ⊥) → r ≡ 0 → PairTold heads arena part t v start p n live r
-  value : p + 2 ≤ length part → (t ≡ mark_new → ⊥) → (t ≡ mark_variable → ⊥) → type_in (get_or part p 0) ≡ t → (get_or part (p + 1) 0 ≡ v → ⊥) → r ≡ 0 → PairTold heads arena part t v start p n live r
-  node : p + 2 ≤ length part → (t ≡ mark_new → ⊥) → (t ≡ mark_variable → ⊥) → type_in (get_or part p 0) ≡ t → get_or part (p + 1) 0 ≡ v → r ≡ 2 → PairTold heads arena part t v start p n live r
-
--- what a match comes to at a pair that takes up no words
-abbrev pub failed_by : ℕ → ℕ → ℕ → Matched
-failed_by r bound live = pick (eqb r 0) (record { verdict = Differs; bound = bound; live = live }) (record { verdict = Stops 44; bound = bound; live = live })
+-- what a pair (t, v) set against the node at p of the part comes to, if the tree of the variable v stands at `start`: likewise
+pub data PairTold (types : Types) (arena part : Words) (t v start p n live : ℕ) (r : Result ℕ Verdict) : Type 0 where
+  short : length part < p + 2 → r ≡ Err Differs → PairTold types arena part t v start p n live r
+  new : p + 2 ≤ length part → t ≡ mark_new → NewTold (get_or part p 0) v n live r → PairTold types arena part t v start p n live r
+  unlike : p + 2 ≤ length part → (t ≡ mark_new → ⊥) → t ≡ mark_variable → VariableTold types arena start (drop p part) false → r ≡ Err Differs → PairTold types arena part t v start p n live r
+  like : p + 2 ≤ length part → (t ≡ mark_new → ⊥) → t ≡ mark_variable → VariableTold types arena start (drop p part) true → r ≡ Ok (2 * size_in (get_or part p 0)) → PairTold types arena part t v start p n live r
+  type : p + 2 ≤ length part → (t ≡ mark_new → ⊥) → (t ≡ mark_variable → ⊥) → (type_in (get_or part p 0) ≡ t → ⊥) → r ≡ Err Differs → PairTold types arena part t v start p n live r
+  value : p + 2 ≤ length part → (t ≡ mark_new → ⊥) → (t ≡ mark_variable → ⊥) → type_in (get_or part p 0) ≡ t → (get_or part (p + 1) 0 ≡ v → ⊥) → r ≡ Err Differs → PairTold types arena part t v start p n live r
+  node : p + 2 ≤ length part → (t ≡ mark_new → ⊥) → (t ≡ mark_variable → ⊥) → type_in (get_or part p 0) ≡ t → get_or part (p + 1) 0 ≡ v → r ≡ Ok 2 → PairTold types arena part t v start p n live r
 
 -- what a match found, the variables that are bound after it, and how many nodes are live then
 pub record Match : Type 0 where
@@ -57,8 +55,8 @@ abbrev pub match_in : Words → Matched → Match
 match_in places m = record { verdict = m.verdict; vars = vars_of places m.bound; live = m.live }
 
 -- the part, which begins at `at` in the arena, is what is left of a marked tree; the variables' trees stand in the arena; so many nodes are live
-pub record Stage (heads : Words) (g : Grammar) (arena part : Words) (at : ℕ) (vars : Vars) (live : ℕ) (ws : Words) (ts : List ℕ) (b : Bindings) : Type 0 where
-  pub tables : Heads g heads
+pub record Stage (types : Types) (g : Grammar) (arena part : Words) (at : ℕ) (vars : Vars) (live : ℕ) (ws : Words) (ts : List ℕ) (b : Bindings) : Type 0 where
+  pub tables : TypesOf g types
   pub place : part ≡ take (length part) (drop at arena)
   pub inside : at + length part ≤ length arena
   pub marks : part ≡ marked g ws
@@ -71,18 +69,18 @@ abbrev pub bindings : Env → ℕ → Bindings
 bindings env besides = record { env = env; besides = besides }
 
 -- what a verdict says of a computation that gives a match or none
-abbrev pub Means : Grammar → Words → ℕ → Verdict → Vars → ℕ → State → Result (Option Bindings) → Type 0
+abbrev pub Means : Grammar → Words → ℕ → Verdict → Vars → ℕ → State → Computation.Result (Option Bindings) → Type 0
 Means g arena besides Matches vars live left m = (env : Env) × EnvAt g arena (starts_of vars) env × (live ≡ besides + total env) × (m ≡ ok (some (bindings env besides)) left)
 Means g arena besides Differs vars live left m = m ≡ ok none left
 Means g arena besides (Stops n) vars live left m = m ≡ stop n left
 
 -- the answer is what the computation gives, unless it is stuck
-pub record Answers (heads arena part : Words) (at : ℕ) (vars : Vars) (live : ℕ) (f : Grammar → Words → Bindings → Comp (Option Bindings)) (r : Match) : Type 0 where
+pub record Answers (types : Types) (arena part : Words) (at : ℕ) (vars : Vars) (live : ℕ) (f : Grammar → Words → Bindings → Comp (Option Bindings)) (r : Match) : Type 0 where
   pub sound : Sound r.vars
   pub kept : Kept vars r.vars
   pub fits : r.live ≤ most_live
   pub grows : live ≤ r.live
-  pub meant : (g : Grammar) (ws : Words) (ts : List ℕ) (b : Bindings) (left : State) → Stage heads g arena part at vars live ws ts b → (f g ws b left ≡ stuck → ⊥)
+  pub meant : (g : Grammar) (ws : Words) (ts : List ℕ) (b : Bindings) (left : State) → Stage types g arena part at vars live ws ts b → (f g ws b left ≡ stuck → ⊥)
       → Means g arena b.besides r.verdict r.vars r.live left (f g ws b left)
 
 -- a pattern's pairs set against the first tree
@@ -90,9 +88,9 @@ abbrev pub match_of : Bool → Words → Grammar → Words → Bindings → Comp
 match_of strict pairs g ws b = match strict g (shapes pairs) ws b
 
 -- .. strict or not
-abbrev pub MatchAnswers : Words → Words → Words → Words → ℕ → Vars → ℕ → Match → Type 0
-MatchAnswers heads pairs arena part at vars live r = (strict : Bool) → Answers heads arena part at vars live (match_of strict pairs) r
+abbrev pub MatchAnswers : Types → Words → Words → Words → ℕ → Vars → ℕ → Match → Type 0
+MatchAnswers types pairs arena part at vars live r = (strict : Bool) → Answers types arena part at vars live (match_of strict pairs) r
 
 -- the first node of the type that the pattern matches
-abbrev pub FirstAnswers : Words → ℕ → Words → Words → Words → ℕ → Vars → ℕ → Match → Type 0
-FirstAnswers heads ty pairs arena part at vars live r = (strict : Bool) → Answers heads arena part at vars live (λ g ws b. match_first strict g ty (shapes pairs) ws b) r
+abbrev pub FirstAnswers : Types → ℕ → Words → Words → Words → ℕ → Vars → ℕ → Match → Type 0
+FirstAnswers types ty pairs arena part at vars live r = (strict : Bool) → Answers types arena part at vars live (λ g ws b. match_first strict g ty (shapes pairs) ws b) r

@@ -1,12 +1,14 @@
 // Work memory as a stack of trees: what stands on it, what is pushed, finished and put in place.
 ghost use Rattle.std.specs.Prelude.{◌≡◌, ◌∷◌, ◌++◌, ◌+◌, ◌*◌, ◌<◌, ◌≤◌, ◌^◌, length, get_or, take, drop};
+ghost use Rattle.tree.specs.Limits.{most_nodes};
+ghost use Rattle.meaning.specs.Limits.{most_live};
 ghost use Rattle.rewrite.specs.Vars.{vars_of, Sound, start_at};
-ghost use Rattle.rewrite.specs.Arena.{NodesAt, over_by, arguments_in, Gathered, Closed, TooDeep, Replaced, Computed};
+ghost use Rattle.rewrite.specs.Arena.{NodesAt, Within, within_limits, arguments_in, Gathered, Closed, TooDeep, Replaced, Computed};
 
 use crate::MOST_LIVE;
-use operations::Number;
+use meaning::{Halt, Stop};
 use rules::limits::MOST_VARIABLES;
-use tables::{HEADS, ROWS};
+use tables::Types;
 use tree::limits::{MOST_NESTING, MOST_NODES};
 
 // What is open: how many variables are bound, how many nodes are live, and where free work memory begins.
@@ -24,29 +26,17 @@ pub struct Args {
     pub total: usize,
 }
 
-// A replacement put in place: 0 and the nodes of the scope then; or the number of the stop.
-#[derive(Clone, Copy)]
-pub struct Placed {
-    pub stop: u32,
-    pub nodes: usize,
-}
-
 // How many nodes the tree at `start` has, if it ends by `top` and has no more than a tree may have; otherwise 0.
 pub fn nodes_at(w: &[u32], start: usize, top: usize) -> usize
     requires { start < 2 ^ 32 }
     ensures { NodesAt w.now start top result }
 {
-    let n = marks::size_in(words::word(w, start));
-    if MOST_NODES < n {
-        return 0;
+    let n = marks::size_at(w, start);
+    if n <= MOST_NODES && start + 2 * n <= top {
+        n
+    } else {
+        0
     }
-    if top < start {
-        return 0;
-    }
-    if top - start < 2 * n {
-        return 0;
-    }
-    n
 }
 
 // Copies the tree of n nodes at `start` to `to`, above it.
@@ -68,17 +58,39 @@ pub fn push_node(w: &mut [u32], to: usize, t: u32, v: u32)
     w[to + 1] = v;
 }
 
-// The stop if a tree would have n nodes and so many were live: 0 if there is none.
-pub fn over(n: usize, live: usize) -> u32
-    ensures { result ≡ over_by n live }
+// May a tree have n nodes? Otherwise the stop.
+pub fn check_nodes(n: usize) -> Result<(), Halt>
+    ensures { Within most_nodes 42 n result }
+{
+    if n <= MOST_NODES {
+        Ok(())
+    } else {
+        Err(Halt::new(Stop::TooManyNodes))
+    }
+}
+
+// May so many nodes be live? Otherwise the stop.
+pub fn check_live(n: usize) -> Result<(), Halt>
+    ensures { Within most_live 44 n result }
+{
+    if n <= MOST_LIVE {
+        Ok(())
+    } else {
+        Err(Halt::new(Stop::TooManyLiveNodes))
+    }
+}
+
+// May a tree have n nodes while so many are live? Otherwise the stop.
+pub fn check_limits(n: usize, live: usize) -> Result<(), Halt>
+    ensures { result ≡ within_limits n live }
 {
     if MOST_NODES < n {
-        return 42;
+        Err(Halt::new(Stop::TooManyNodes))
+    } else if MOST_LIVE < live {
+        Err(Halt::new(Stop::TooManyLiveNodes))
+    } else {
+        Ok(())
     }
-    if MOST_LIVE < live {
-        return 44;
-    }
-    0
 }
 
 // The places of the n variables that stand in the pairs from `at` on, at most 16.
@@ -94,19 +106,17 @@ pub fn gather(
     requires { (at < 2 ^ 40) × Sound (vars_of places.now bound) × (length given.old ≡ 16) }
     ensures { Gathered w.now pairs.now at n (vars_of places.now bound) (arguments_in given.new result) }
 {
-    let count = words::wide(n);
+    let count = (n as usize).min(MOST_VARIABLES);
     let mut total: usize = 0;
-    let mut i: usize = 0;
-    while i < count {
-        if MOST_VARIABLES <= i {
-            return Args { bound: i, total };
-        }
+    for i in 0..count {
         let start = crate::start_in(places, bound, words::word(pairs, at + 2 * i + 1));
         given[i] = start as u32;
-        total = total + marks::size_in(words::word(w, start));
-        i = i + 1;
+        total += marks::size_at(w, start);
     }
-    Args { bound: i, total }
+    Args {
+        bound: count,
+        total,
+    }
 }
 
 // The value of the tree of the variable that the pairs name at `at`.
@@ -123,25 +133,24 @@ pub fn value_of(
     words::word(w, start + 1)
 }
 
-// Finishes the tree of n nodes at `top`: marks it, and tests its nesting. 43, or 0.
-pub fn close(heads: &[u32; HEADS], rows: &[u8; ROWS], w: &mut [u32], top: usize, n: usize) -> u32
+// Finishes the tree of n nodes at `top`: marks it, and tests its nesting.
+pub fn close(types: &Types, w: &mut [u32], top: usize, n: usize) -> Result<(), Halt>
     requires { (n ≤ 6144) × (top + 2 * n ≤ length w.old) }
-    ensures { Closed heads.now rows.now w.old w.new top n result }
+    ensures { Closed types.now w.old w.new top n result }
 {
-    let end = top + 2 * n;
-    marks::mark_tree(heads, rows, w, top, end);
-    let deepest = marks::nesting_in(words::word(w, top));
-    if MOST_NESTING < deepest {
-        return 43;
+    marks::mark_tree(types, w, top, top + 2 * n);
+    if MOST_NESTING < marks::nesting_in(words::word(w, top)) {
+        Err(Halt::new(Stop::NestsTooDeep))
+    } else {
+        Ok(())
     }
-    0
 }
 
 // Would the scope, n nodes from base on, nest too deep with the tree at `from` in the place of its node i? Not if that nests no deeper than the node's own
 // tree: only otherwise is the way down to the node walked.
-fn too_deep(heads: &[u32; HEADS], w: &[u32], base: usize, n: usize, i: usize, from: usize) -> bool
+fn too_deep(types: &Types, w: &[u32], base: usize, n: usize, i: usize, from: usize) -> bool
     requires { (i < n) × (n ≤ 6144) × (base + 2 * n ≤ length w.now) }
-    ensures { TooDeep heads.now w.now base n i from result }
+    ensures { TooDeep types.now w.now base n i from result }
 {
     let place = base + 2 * i;
     let end = base + 2 * n;
@@ -149,53 +158,45 @@ fn too_deep(heads: &[u32; HEADS], w: &[u32], base: usize, n: usize, i: usize, fr
     if deepest <= marks::nesting_in(words::word(w, place)) {
         return false;
     }
-    let above = marks::nesting_at(heads, &w[base..end], place - base);
+    let above = marks::nesting_at(types, &w[base..end], place - base);
     MOST_NESTING + 1 < above + deepest
 }
 
-// Puts the tree of m nodes at `from` in the place of node i of the scope, n nodes from base on, unless the scope had too many nodes or nested too deep then.
+// Puts the tree of m nodes at `from` in the place of node i of the scope, n nodes from base on, unless the scope had too many nodes or nested too deep then: how
+// many nodes it has.
 pub fn replace_tree(
-    heads: &[u32; HEADS],
-    rows: &[u8; ROWS],
+    types: &Types,
     w: &mut [u32],
     base: usize,
     n: usize,
     i: usize,
     from: usize,
     m: usize,
-) -> Placed
+) -> Result<usize, Halt>
     requires { (i < n) × (n ≤ 6144) × (m ≤ 6144) × (base + 2 * n ≤ from) × (from + 2 * m + 2 * n ≤ length w.old) }
-    ensures { Replaced heads.now rows.now w.old w.new base n i from m result }
+    ensures { Replaced types.now w.old w.new base n i from m result }
 {
     let place = base + 2 * i;
-    let end = base + 2 * n;
-    let old = marks::size_in(words::word(w, place));
+    let old = marks::size_at(w, place);
     if n < old {
-        return Placed { stop: 0, nodes: n };
+        return Ok(n);
     }
     let nodes = n - old + m;
-    if MOST_NODES < nodes {
-        return Placed { stop: 42, nodes };
+    check_nodes(nodes)?;
+    if too_deep(types, w, base, n, i, from) {
+        return Err(Halt::new(Stop::NestsTooDeep));
     }
-    if too_deep(heads, w, base, n, i, from) {
-        return Placed { stop: 43, nodes };
-    }
-    marks::put_in_place(heads, rows, w, base, place, end, from, 2 * m);
-    Placed { stop: 0, nodes }
+    marks::put_in_place(types, w, base, place, base + 2 * n, from, 2 * m);
+    Ok(nodes)
 }
 
-// What an operation makes of the number at base, with the argument b: 45, or 0.
-pub fn compute_at(w: &mut [u32], base: usize, op: u32, b: u32) -> u32
+// Writes what an operation makes of the number at base, with the argument b.
+pub fn compute_at(w: &mut [u32], base: usize, op: u32, b: u32) -> Result<(), Halt>
     requires { base + 2 ≤ length w.old }
     ensures { Computed w.old w.new base op b result }
 {
     let a = words::word(w, base + 1);
-    let r = operations::operate(op, a, b);
-    match r {
-        Number::OutOfRange => 45,
-        Number::Is(v) => {
-            w[base + 1] = v;
-            0
-        }
-    }
+    let made = operations::operate(op, a, b)?;
+    w[base + 1] = made;
+    Ok(())
 }

@@ -1,6 +1,6 @@
 // The next node at which an attempt may match: attempts that must fail are only counted.
 ghost use Rattle.std.specs.Prelude.{◌≡◌, ◌+◌, ◌*◌, ◌<◌, ◌≤◌, true, length};
-ghost use Rattle.rewrite.specs.Candidates.{BeginsWithNode, FirstOf, Begun, Clashes, NextStart, NextCandidate};
+ghost use Rattle.rewrite.specs.Candidates.{FirstValue, FirstOf, allowed, Begun, Clashes, NextStart, NextCandidate};
 
 use crate::MOST_LIVE;
 use meaning::State;
@@ -13,33 +13,31 @@ pub struct Candidate {
     pub left: State,
 }
 
-// Of a pattern: whether its first pair is a node of the target's type, that pair's value, and whether it pays to look at later pairs before an attempt is made.
+// Of a pattern: the value of its first pair, if that is a node of the target's type, and whether it pays to look at later pairs before an attempt is made.
 #[derive(Clone, Copy)]
 pub struct First {
-    pub fixed: bool,
-    pub value: u32,
+    pub value: Option<u32>,
     pub further: bool,
 }
 
-// Is the pattern's first pair a node of the target's type? If it is a variable it is the whole pattern.
-fn begins_with_node(pairs: &[u32], target: u32) -> bool
-    ensures { result ≡ true → BeginsWithNode pairs.now target }
+// The value of the pattern's first pair, if that is a node of the target's type. If it is a variable it is the whole pattern.
+fn first_value(pairs: &[u32], target: u32) -> Option<u32>
+    ensures { FirstValue pairs.now target result }
 {
-    if 2 <= pairs.len() {
-        return pairs[0] == target;
+    if 2 <= pairs.len() && pairs[0] == target {
+        Some(pairs[1])
+    } else {
+        None
     }
-    false
 }
 
 // Is the first of the later pairs that is not a new variable a node? If not, there is no later node that could be seen to differ before an attempt. Nothing rests
 // on the answer.
 fn node_follows(pairs: &[u32]) -> bool {
-    let mut i: usize = 2;
-    while i < pairs.len() {
+    for i in (2..pairs.len()).step_by(2) {
         if pairs[i] != MARK_NEW {
             return pairs[i] < MARK_NEW;
         }
-        i = i + 2;
     }
     false
 }
@@ -48,51 +46,47 @@ fn node_follows(pairs: &[u32]) -> bool {
 pub fn first_of(pairs: &[u32], target: u32) -> First
     ensures { FirstOf pairs.now target result }
 {
-    let fixed = begins_with_node(pairs, target);
-    let value = words::word(pairs, 1);
-    let further = node_follows(pairs);
-    First {
-        fixed,
-        value,
-        further,
+    let value = first_value(pairs, target);
+    let further = value.is_some() && node_follows(pairs);
+    First { value, further }
+}
+
+// May a pattern whose first pair has this value, if any, match a node with the value that is found?
+fn allows(value: Option<u32>, found: u32) -> bool
+    ensures { result ≡ allowed value found }
+{
+    match value {
+        Some(due) => found == due,
+        None => true,
     }
 }
 
-// From the node `from` on, which stands at base + 2 * from: the first before `last` that has the target's type and, where it is fixed, the value, or for which
+// From the node `from` on, which stands at base + 2 * from: the first before `last` that has the target's type and the value, if one is given, or for which
 // no attempt is left. This is where a search spends its time: a loop of its own keeps all that it needs in registers.
 fn next_start(
     w: &[u32],
     target: u32,
-    fixed: bool,
-    value: u32,
+    value: Option<u32>,
     base: usize,
     from: usize,
     last: usize,
     fuel: State,
 ) -> Candidate
     requires { 0 < last → base + 2 * last ≤ length w.now }
-    ensures { NextStart w.now target fixed value base from last fuel result }
+    ensures { NextStart w.now target value base from last fuel result }
 {
     let mut node = from;
     let mut left = fuel;
+    // A `while`: with a `for` over the range a search was measured slower.
     while node < last {
         let p = base + 2 * node;
-        if marks::type_in(w[p]) != target {
-            node = node + 1;
-        } else {
-            if !fixed {
+        if marks::type_in(w[p]) == target {
+            if allows(value, w[p + 1]) || left.attempts == 0 {
                 return Candidate { node, left };
             }
-            if w[p + 1] == value {
-                return Candidate { node, left };
-            }
-            if left.attempts == 0 {
-                return Candidate { node, left };
-            }
-            let fewer = left.attempts - 1;
-            left = State { attempts: fewer };
-            node = node + 1;
+            left.attempts -= 1;
         }
+        node += 1;
     }
     Candidate { node, left }
 }
@@ -105,6 +99,7 @@ fn clashes_later(pairs: &[u32], part: &[u32], live: usize) -> bool
     let mut total = live;
     let mut i: usize = 2;
     let mut p: usize = 2;
+    // A `while`: with a `for` over the pairs the search in `next_start`, which is compiled into one with this, was measured slower.
     while 2 <= pairs.len() - i {
         if part.len() < p + 2 {
             return false;
@@ -112,6 +107,9 @@ fn clashes_later(pairs: &[u32], part: &[u32], live: usize) -> bool
         let t = pairs[i];
         let v = pairs[i + 1];
         let w = part[p];
+        if t == MARK_VARIABLE {
+            return false;
+        }
         if t == MARK_NEW {
             if marks::type_in(w) != v {
                 return true;
@@ -120,21 +118,15 @@ fn clashes_later(pairs: &[u32], part: &[u32], live: usize) -> bool
             if MOST_LIVE < total + n {
                 return false;
             }
-            total = total + n;
-            p = p + 2 * n;
-            i = i + 2;
-        } else if t == MARK_VARIABLE {
-            return false;
+            total += n;
+            p += 2 * n;
         } else {
-            if marks::type_in(w) != t {
+            if marks::type_in(w) != t || part[p + 1] != v {
                 return true;
             }
-            if part[p + 1] != v {
-                return true;
-            }
-            p = p + 2;
-            i = i + 2;
+            p += 2;
         }
+        i += 2;
     }
     false
 }
@@ -158,28 +150,19 @@ pub fn next_candidate(
 {
     let mut node = from;
     let mut left = fuel;
+    // A `loop`, since each turn begins where the inner search ended.
     loop {
-        let next = next_start(w, target, first.fixed, first.value, base, node, last, left);
-        if !first.fixed {
-            return next;
-        }
-        if !first.further {
+        let next = next_start(w, target, first.value, base, node, last, left);
+        if !first.further || last <= next.node || next.left.attempts == 0 {
             return next;
         }
         node = next.node;
         left = next.left;
-        if last <= node {
-            return next;
-        }
-        if left.attempts == 0 {
-            return next;
-        }
         let p = base + 2 * node;
         if !clashes_later(pairs, &w[p..end], live) {
             return next;
         }
-        let fewer = left.attempts - 1;
-        left = State { attempts: fewer };
-        node = node + 1;
+        left.attempts -= 1;
+        node += 1;
     }
 }

@@ -7,7 +7,7 @@ use mathlib.Core.Option.{Option, none, some}
 use native.Mathlib.Omega.{arith}
 use lib.ListN.{length, get_or, drop, take, length-drop, length-take}
 use lib.Dec.{leb, eqb}
-use borrow.Author.Tests.{leb-true, le-leb, lt-leb, eqb-true, ne_eqb}
+use borrow.Author.Tests.{leb-true, le-leb, eqb-true}
 use Rattle.words.specs.Reader.{Words, pick, value, refused, Reader, ◌>>=◌, return, word, many}
 use Rattle.words.proofs.Laws.{then_value, word_value, pick_value, in_value, many_suc, many_length}
 use Rattle.grammar.specs.Limits.{most_types}
@@ -16,8 +16,8 @@ use Rattle.tree.proofs.Trees.{Even, even_of}
 use Rattle.rules.specs.Limits.{most_parameters, most_pairs, most_variables}
 use Rattle.rules.specs.Rules.{Piece, Part, Rule, shapes}
 use Rattle.rules.specs.Layout.{Head, PartAt, deconstruct_at, construct_at, condition_at, bit, only_if, strategy_of, stretch, field, pairs, variable_at, deconstruct_fields, condition_fields, part_of, reach, replacement, type_field, search_fields, construct_fields, part_at, part, parameters, head_fields, head, parts, rule}
-use Rattle.rules.specs.Views.{pairs_at, pairs_end, part_as}
-use Rattle.rules.specs.declared.FoundPart.{FoundPart}
+use Rattle.rules.specs.Views.{pairs_at, pairs_end, part_as, place_of_pairs}
+use Rattle.rules.specs.declared.Part.{Part as PartFound}
 
 pub no_true : {A : Type 0} → false ≡ true → A
 no_true e = let z : ◌≡◌ {A = ℕ} 0 1 = cc in absurd (omega arith)
@@ -29,6 +29,7 @@ pub record Stretch (ws : Words) (p next : ℕ) : Type 0 where
   pub even : Even (stretch ws p)
   pub ends : suc p + length (stretch ws p) ≡ next
   pub here : pairs_at ws p ≡ stretch ws p
+  pub end_is : pairs_end ws p ≡ next
 
 -- pairs that are read give where their count stands, end where it says, and are few
 pub pairs_extent : (ws : Words) (at : ℕ) {p next : ℕ} → pairs ws at ≡ value p next → (p ≡ at) × (next ≡ at + 1 + 2 * get_or ws at 0) × (get_or ws at 0 ≤ most_pairs) × (next ≤ length ws)
@@ -44,11 +45,11 @@ unfolding pairs_at
 pairs_at_lem ws p e = rw e
 
 pub pairs_value : (ws : Words) (at : ℕ) {p next : ℕ} → pairs ws at ≡ value p next → (p ≡ at) × Stretch ws at next
-unfolding stretch
+unfolding stretch pairs_end
 pairs_value ws at {p} {next} e =
     let a = pairs_extent ws at e in
     let n : length (take (2 * get_or ws at 0) (drop (at + 1) ws)) ≡ 2 * get_or ws at 0 = omega (arith, a.1, a.3, length-take (2 * get_or ws at 0) (drop (at + 1) ws), length-drop (at + 1) ws) in
-    (a.0, record { even = even_of (take (2 * get_or ws at 0) (drop (at + 1) ws)) (omega (arith, n)); ends = omega (arith, n, a.1); here = pairs_at_lem ws at e })
+    (a.0, record { even = even_of (take (2 * get_or ws at 0) (drop (at + 1) ws)) (omega (arith, n)); ends = omega (arith, n, a.1); here = pairs_at_lem ws at e; end_is = rw (le-leb (at + 1 + 2 * get_or ws at 0) (length ws) (omega (arith, a.1, a.3))) (sym a.1) })
 
 -- PARTS
 
@@ -115,103 +116,6 @@ module _ (types : ℕ) (ws : Words) (few : types ≤ most_types) where
       other : Tells ws (λ n. refused 21 at)
       other at' q' next' e = let z : ◌≡◌ {A = ℕ} 0 1 = cc in absurd (omega arith)
 
--- A PART'S POSITIONS
-
--- pairs that are read end where it is said that they do
-pub record Ends (ws : Words) (p next : ℕ) : Type 0 where
-  pub some_pairs : p + 3 ≤ next
-  pub inside : next ≤ length ws
-  pub end_is : pairs_end ws p ≡ next
-
-pairs_ends : (ws : Words) (at : ℕ) {p next : ℕ} → pairs ws at ≡ value p next → (p ≡ at) × Ends ws at next
-unfolding pairs field pairs_end
-pairs_ends ws at {p} {next} e =
-    let x = pairs_extent ws at e in
-    let a = then_value (field ws 1 most_pairs at) (λ k q. pick (leb (q + 2 * k) (length ws)) (value at (q + 2 * k)) (refused 20 (length ws))) e in
-    let c = in_value 20 21 ws 1 most_pairs at a.2 in
-    (x.0, record { some_pairs = omega (arith, x.1, c.0, c.2); inside = x.3; end_is = rw (le-leb (at + 1 + 2 * get_or ws at 0) (length ws) (omega (arith, x.1, x.3))) (sym x.1) })
-
--- where the fields of a part stand whose map is m
-pub data Fields (ws : Words) (at m : ℕ) (q : PartAt) (next : ℕ) : Type 0 where
-  apart : m ≡ 1 → q ≡ deconstruct_at none (at + 1) (at + 2) → Ends ws (at + 2) next → Fields ws at m q next
-  searched : m ≡ 3 → q ≡ deconstruct_at (some (get_or ws (at + 1) 0)) (at + 2) (at + 3) → Ends ws (at + 3) next → Fields ws at m q next
-  built : m ≡ 4 → q ≡ construct_at (get_or ws (at + 1) 0) (at + 2) → Ends ws (at + 2) next → Fields ws at m q next
-  tested : m ≡ 8 → q ≡ condition_at false (at + 1) → Ends ws (at + 1) next → Fields ws at m q next
-  untested : m ≡ 24 → q ≡ condition_at true (at + 1) → Ends ws (at + 1) next → Fields ws at m q next
-
--- pairs and what is made of them
-made_fields : (ws : Words) (f : ℕ → PartAt) (at : ℕ) (q : PartAt) (next : ℕ) → ◌>>=◌ (pairs ws) (λ p. return (f p)) at ≡ value q next → (q ≡ f at) × Ends ws at next
-made_fields ws f at q next e =
-    let a = then_value (pairs ws at) (λ p. return (f p)) e in
-    let b = pairs_ends ws at a.2 in
-    let y : q ≡ f a.0 = cc a.3 in
-    let z : a.1 ≡ next = cc a.3 in
-    (y ∙ ap f b.0, subst (Ends ws at) z b.1)
-
-apart_fields : (ws : Words) (s : Option ℕ) (at : ℕ) (q : PartAt) (next : ℕ) → deconstruct_fields ws s at ≡ value q next → (q ≡ deconstruct_at s at (at + 1)) × Ends ws (at + 1) next
-unfolding deconstruct_fields variable_at
-apart_fields ws s at q next e =
-    let a = then_value (variable_at ws at) (λ x. ◌>>=◌ (pairs ws) (λ p. return (deconstruct_at s x p))) e in
-    let b = then_value (word 20 ws at) (λ v. return at) a.2 in
-    let w = word_value 20 ws at b.2 in
-    let x : a.0 ≡ at = cc b.3 in
-    let y : a.1 ≡ b.1 = cc b.3 in
-    let m = made_fields ws (deconstruct_at s a.0) a.1 q next a.3 in
-    let z : a.1 ≡ at + 1 = y ∙ w.2 in
-    (m.0 ∙ ap (λ k. deconstruct_at s k a.1) x ∙ ap (deconstruct_at s at) z, subst (λ k. Ends ws k next) z m.1)
-
-type_fields : (types : ℕ) (ws : Words) (f : ℕ → Reader PartAt) (at : ℕ) (q : PartAt) (next : ℕ) → ◌>>=◌ (type_field types ws) f at ≡ value q next → f (get_or ws at 0) (at + 1) ≡ value q next
-unfolding type_field field
-type_fields types ws f at q next e =
-    let a = then_value (type_field types ws at) f e in
-    let c = in_value 20 21 ws 0 (types - 1) at a.2 in
-    sym (ap₂ f c.0 c.1) ∙ a.3
-
--- the fields that a part's map announces
-abbrev by_map : ℕ → Words → ℕ → ℕ → Reader PartAt
-by_map types ws at m = pick (eqb m 1) (deconstruct_fields ws none) (pick (eqb m 3) (search_fields types ws) (pick (eqb m 4) (construct_fields types ws) (pick (eqb m 8) (condition_fields ws false) (pick (eqb m 24) (condition_fields ws true) (λ n. refused 21 at)))))
-
--- a part that is read has its fields there, and at least four words
-pub part_fields : (types : ℕ) (ws : Words) (at : ℕ) (q : PartAt) (next : ℕ) → part_at types ws at ≡ value q next → Fields ws at (get_or ws at 0) q next × (at + 4 ≤ length ws)
-unfolding part_at search_fields construct_fields condition_fields
-part_fields types ws at q next e =
-    let a = then_value (word 20 ws at) (by_map types ws at) e in
-    let w = word_value 20 ws at a.2 in
-    let f = fields a.0 (sym (ap (by_map types ws at a.0) w.2) ∙ a.3) in
-    (subst (λ m. Fields ws at m q next) w.1 f, long f)
-  where
-    two : at + 1 + 1 ≡ at + 2
-    two = omega arith
-
-    three : at + 2 + 1 ≡ at + 3
-    three = omega arith
-
-    four : at + 1 + 1 + 1 ≡ at + 3
-    four = omega arith
-
-    fields : (m : ℕ) → by_map types ws at m (at + 1) ≡ value q next → Fields ws at m q next
-    fields m h = go (eqb m 1) (eqb m 3) (eqb m 4) (eqb m 8) (eqb m 24) (λ p. p) (λ p. p) (λ p. p) (λ p. p) (λ p. p) h
-      where
-        go : (b c d f k : Bool) → (b ≡ true → eqb m 1 ≡ true) → (c ≡ true → eqb m 3 ≡ true) → (d ≡ true → eqb m 4 ≡ true) → (f ≡ true → eqb m 8 ≡ true) → (k ≡ true → eqb m 24 ≡ true)
-            → pick b (deconstruct_fields ws none) (pick c (search_fields types ws) (pick d (construct_fields types ws) (pick f (condition_fields ws false) (pick k (condition_fields ws true) (λ n. refused 21 at))))) (at + 1) ≡ value q next → Fields ws at m q next
-        go true c d f k b₁ c₁ d₁ f₁ k₁ e = let x = apart_fields ws none (at + 1) q next e in apart (eqb-true m 1 (b₁ refl)) (x.0 ∙ ap (deconstruct_at none (at + 1)) two) (subst (λ j. Ends ws j next) two x.1)
-        go false true d f k b₁ c₁ d₁ f₁ k₁ e =
-            let x = apart_fields ws (some (get_or ws (at + 1) 0)) (at + 1 + 1) q next (type_fields types ws (λ s. deconstruct_fields ws (some s)) (at + 1) q next e) in
-            searched (eqb-true m 3 (c₁ refl)) (x.0 ∙ ap (λ j. deconstruct_at (some (get_or ws (at + 1) 0)) j (j + 1)) two ∙ ap (deconstruct_at (some (get_or ws (at + 1) 0)) (at + 2)) three) (subst (λ j. Ends ws j next) four x.1)
-        go false false true f k b₁ c₁ d₁ f₁ k₁ e =
-            let x = made_fields ws (construct_at (get_or ws (at + 1) 0)) (at + 1 + 1) q next (type_fields types ws (λ s. ◌>>=◌ (pairs ws) (λ p. return (construct_at s p))) (at + 1) q next e) in
-            built (eqb-true m 4 (d₁ refl)) (x.0 ∙ ap (construct_at (get_or ws (at + 1) 0)) two) (subst (λ j. Ends ws j next) two x.1)
-        go false false false true k b₁ c₁ d₁ f₁ k₁ e = let x = made_fields ws (condition_at false) (at + 1) q next e in tested (eqb-true m 8 (f₁ refl)) x.0 x.1
-        go false false false false true b₁ c₁ d₁ f₁ k₁ e = let x = made_fields ws (condition_at true) (at + 1) q next e in untested (eqb-true m 24 (k₁ refl)) x.0 x.1
-        go false false false false false b₁ c₁ d₁ f₁ k₁ e = let z : ◌≡◌ {A = ℕ} 0 1 = cc in absurd (omega arith)
-
-    long : {m : ℕ} → Fields ws at m q next → at + 4 ≤ length ws
-    long (apart m e x) = omega (arith, x.some_pairs, x.inside)
-    long (searched m e x) = omega (arith, x.some_pairs, x.inside)
-    long (built m e x) = omega (arith, x.some_pairs, x.inside)
-    long (tested m e x) = omega (arith, x.some_pairs, x.inside)
-    long (untested m e x) = omega (arith, x.some_pairs, x.inside)
-
 pub part_value : (types : ℕ) (ws : Words) (at : ℕ) {p : Part} {next : ℕ} → part types ws at ≡ value p next → (q : PartAt) × (part_at types ws at ≡ value q next) × (part_of ws q ≡ p)
 unfolding part
 part_value types ws at {p} {next} e =
@@ -219,59 +123,73 @@ part_value types ws at {p} {next} e =
     let z : a.1 ≡ next = cc a.3 in
     (a.0, a.2 ∙ ap (value a.0) z, cc a.3)
 
--- WHAT IS FOUND BY A MAP
+-- WHERE A PART'S FIELDS STAND
 
--- a part by its map, where its pairs end
-abbrev pub found_by : Words → ℕ → ℕ → FoundPart
-found_by ws at m =
-    pick (eqb m 1) (record { part = part_as (deconstruct_at none (at + 1) (at + 2)); next = pairs_end ws (at + 2) })
-    (pick (eqb m 3) (record { part = part_as (deconstruct_at (some (get_or ws (at + 1) 0)) (at + 2) (at + 3)); next = pairs_end ws (at + 3) })
-    (pick (eqb m 4) (record { part = part_as (construct_at (get_or ws (at + 1) 0) (at + 2)); next = pairs_end ws (at + 2) })
-    (pick (eqb m 8) (record { part = part_as (condition_at false (at + 1)); next = pairs_end ws (at + 1) }) (record { part = part_as (condition_at true (at + 1)); next = pairs_end ws (at + 1) }))))
+-- the part whose map stands at a position, by its map
+abbrev pub part_by : Words → ℕ → ℕ → PartFound
+part_by ws at m =
+    pick (eqb m 1) (part_as (deconstruct_at none (at + 1) (at + 2)))
+    (pick (eqb m 3) (part_as (deconstruct_at (some (get_or ws (at + 1) 0)) (at + 2) (at + 3)))
+    (pick (eqb m 4) (part_as (construct_at (get_or ws (at + 1) 0) (at + 2))) (part_as (condition_at (eqb m 24) (at + 1)))))
 
-found_fields : (ws : Words) (at m : ℕ) (q : PartAt) (next : ℕ) → Fields ws at m q next → found_by ws at m ≡ record { part = part_as q; next = next }
-found_fields ws at m q next (apart e f x) = rw (e, f, x.end_is)
-found_fields ws at m q next (searched e f x) = rw (e, f, x.end_is)
-found_fields ws at m q next (built e f x) = rw (e, f, x.end_is)
-found_fields ws at m q next (tested e f x) = rw (e, f, x.end_is)
-found_fields ws at m q next (untested e f x) = rw (e, f, x.end_is)
+module _ (types : ℕ) (ws : Words) where
+  -- the part is the one at those places, and ends where its pairs do
+  Placed : PartAt → PartAt → ℕ → Type 0
+  Placed p q next = (p ≡ q) × (pairs_end ws (place_of_pairs (part_as p)) ≡ next)
 
--- what is found there is the part that is read
-pub found_read : (types : ℕ) (ws : Words) (at : ℕ) (q : PartAt) (next : ℕ) → part_at types ws at ≡ value q next → {r : FoundPart} → r ≡ found_by ws at (get_or ws at 0) → r ≡ record { part = part_as q; next = next }
-found_read types ws at q next e f = f ∙ found_fields ws at (get_or ws at 0) q next (part_fields types ws at q next e).0
+  pairs_place : (f : ℕ → PartAt) → ((p : ℕ) → place_of_pairs (part_as (f p)) ≡ p) → (at : ℕ) {q : PartAt} {next : ℕ} → ◌>>=◌ (pairs ws) (λ p. return (f p)) at ≡ value q next → Placed (f at) q next
+  unfolding Placed
+  pairs_place f h at e =
+      let a = then_value (pairs ws at) (λ p. return (f p)) e in
+      let b = pairs_value ws at a.2 in
+      (ap f (sym b.0) ∙ cc a.3, rw (h at) (b.1.end_is ∙ cc a.3))
 
-pub found_short : (types : ℕ) (ws : Words) (at : ℕ) (q : PartAt) (next : ℕ) → part_at types ws at ≡ value q next → length ws < at + 4 → {A : Type 0} → A
-found_short types ws at q next e h = absurd (omega (arith, (part_fields types ws at q next e).1))
+  deconstruct_place : (s : Option ℕ) → ((x p : ℕ) → place_of_pairs (part_as (deconstruct_at s x p)) ≡ p) → (at j : ℕ) → at + 1 ≡ j → {q : PartAt} {next : ℕ} → deconstruct_fields ws s at ≡ value q next → Placed (deconstruct_at s at j) q next
+  unfolding deconstruct_fields variable_at
+  deconstruct_place s h at j z {q} {next} e =
+      let a = then_value (variable_at ws at) (λ x. ◌>>=◌ (pairs ws) (λ p. return (deconstruct_at s x p))) e in
+      let b = then_value (word 20 ws at) (λ v. return at) a.2 in
+      let x : at ≡ a.0 = cc b.3 in
+      let y : j ≡ a.1 = sym z ∙ sym (word_value 20 ws at b.2).2 ∙ cc b.3 in
+      subst₂ (λ i k. Placed (deconstruct_at s i k) q next) (sym x) (sym y) (pairs_place (deconstruct_at s a.0) (h a.0) a.1 a.3)
 
-module _ (ws : Words) (at m : ℕ) where
-  pub found_apart : m ≡ 1 → (p : ℕ) → p ≡ at + 2 → record { part = part_as (deconstruct_at none (at + 1) p); next = pairs_end ws p } ≡ found_by ws at m
-  found_apart e p z = rw (e, z)
+  type_place : (f : ℕ → Reader PartAt) (at j : ℕ) → at + 1 ≡ j → {q : PartAt} {next : ℕ} → ◌>>=◌ (type_field types ws) f at ≡ value q next → f (get_or ws at 0) j ≡ value q next
+  unfolding type_field field
+  type_place f at j z e =
+      let a = then_value (type_field types ws at) f e in
+      let c = in_value 20 21 ws 0 (types - 1) at a.2 in
+      sym (ap₂ f c.0 (c.1 ∙ z)) ∙ a.3
 
-  pub found_searched : m ≡ 3 → (p : ℕ) → p ≡ at + 3 → record { part = part_as (deconstruct_at (some (get_or ws (at + 1) 0)) (at + 2) p); next = pairs_end ws p } ≡ found_by ws at m
-  found_searched e p z = rw (e, z)
+  pub part_found : (at : ℕ) (q : PartAt) (next : ℕ) → part_at types ws at ≡ value q next → (part_by ws at (get_or ws at 0) ≡ part_as q) × (pairs_end ws (place_of_pairs (part_as q)) ≡ next) × (at ≤ length ws)
+  unfolding part_at search_fields construct_fields condition_fields Placed
+  part_found at q next e =
+      let a = then_value (word 20 ws at) _ e in
+      let w = word_value 20 ws at a.2 in
+      let t = go (eqb a.0 1) (eqb a.0 3) (eqb a.0 4) (eqb a.0 8) (eqb a.0 24) (apart a.0) (rw w.2 at a.3) in
+      (subst (λ m. part_by ws at m ≡ part_as q) w.1 t.0, t.1, omega arith)
+    where
+      two : at + 1 + 1 ≡ at + 2
+      two = omega arith
 
-  pub found_built : m ≡ 4 → record { part = part_as (construct_at (get_or ws (at + 1) 0) (at + 2)); next = pairs_end ws (at + 2) } ≡ found_by ws at m
-  found_built e = rw e
+      three : at + 2 + 1 ≡ at + 3
+      three = omega arith
 
-  pub found_tested : m ≡ 8 → record { part = part_as (condition_at false (at + 1)); next = pairs_end ws (at + 1) } ≡ found_by ws at m
-  found_tested e = rw e
+      apart : (m : ℕ) → eqb m 8 ≡ true → eqb m 24 ≡ false
+      apart m e = rw (eqb-true m 8 e)
 
-  pub found_untested : (m ≡ 1 → ⊥) → (m ≡ 3 → ⊥) → (m ≡ 4 → ⊥) → (m ≡ 8 → ⊥) → record { part = part_as (condition_at true (at + 1)); next = pairs_end ws (at + 1) } ≡ found_by ws at m
-  found_untested a b c d = rw (ne_eqb m 1 a, ne_eqb m 3 b, ne_eqb m 4 c, ne_eqb m 8 d)
+      found : {p : PartAt} → Placed p q next → (part_as p ≡ part_as q) × (pairs_end ws (place_of_pairs (part_as q)) ≡ next)
+      found x = (ap part_as x.0, rw (← x.0) x.1)
 
--- where pairs end, as it is tested
-module _ (ws : Words) (p : ℕ) where
-  pub end_past : length ws ≤ p → p ≡ pairs_end ws p
-  unfolding pairs_end
-  end_past h = rw (lt-leb (p + 1 + 2 * get_or ws p 0) (length ws) (omega arith))
-
-  pub end_over : (k : ℕ) → k ≡ get_or ws p 0 → length ws - p ≤ 2 * k → p ≡ pairs_end ws p
-  unfolding pairs_end
-  end_over k e h = rw (lt-leb (p + 1 + 2 * get_or ws p 0) (length ws) (omega arith))
-
-  pub end_there : (k : ℕ) → k ≡ get_or ws p 0 → 2 * k < length ws - p → p + 1 + 2 * k ≡ pairs_end ws p
-  unfolding pairs_end
-  end_there k e h = rw (← e, le-leb (p + 1 + 2 * k) (length ws) (omega arith))
+      go : (b c d f k : Bool) → (f ≡ true → k ≡ false)
+          → pick b (deconstruct_fields ws none) (pick c (search_fields types ws) (pick d (construct_fields types ws) (pick f (condition_fields ws false) (pick k (condition_fields ws true) (λ n. refused 21 at))))) (at + 1) ≡ value q next
+          → (pick b (part_as (deconstruct_at none (at + 1) (at + 2))) (pick c (part_as (deconstruct_at (some (get_or ws (at + 1) 0)) (at + 2) (at + 3))) (pick d (part_as (construct_at (get_or ws (at + 1) 0) (at + 2))) (part_as (condition_at k (at + 1))))) ≡ part_as q)
+          × (pairs_end ws (place_of_pairs (part_as q)) ≡ next)
+      go true c d f k h e = found (deconstruct_place none (λ x p. refl) (at + 1) (at + 2) two e)
+      go false true d f k h e = found (deconstruct_place (some (get_or ws (at + 1) 0)) (λ x p. refl) (at + 2) (at + 3) three (type_place (λ s. deconstruct_fields ws (some s)) (at + 1) (at + 2) two e))
+      go false false true f k h e = found (pairs_place (construct_at (get_or ws (at + 1) 0)) (λ p. refl) (at + 2) (type_place (λ s. ◌>>=◌ (pairs ws) (λ p. return (construct_at s p))) (at + 1) (at + 2) two e))
+      go false false false true k h e = rw (h refl) (found (pairs_place (condition_at false) (λ p. refl) (at + 1) e))
+      go false false false false true h e = found (pairs_place (condition_at true) (λ p. refl) (at + 1) e)
+      go false false false false false h e = let z : ◌≡◌ {A = ℕ} 0 1 = cc in absurd (omega arith)
 
 -- A RULE'S HEAD
 

@@ -1,9 +1,7 @@
 -- What the code hands back of a reading: the paper's numbers and positions for each case of its enums. Assumes nothing: these are definitions.
-use Rattle.std.specs.Prelude.{ℕ, zero, suc, ◌+◌, ◌-◌, ◌*◌, ◌≤◌, ◌≡◌, List, [], Bool, true, false, length, get_or, leb}
-use Rattle.std.proofs.Math.Option.{Option, none, some}
+use Rattle.std.specs.Prelude.{ℕ, zero, suc, ◌+◌, ◌-◌, ◌*◌, ◌≤◌, ◌≡◌, List, [], Bool, true, false, length, get_or, leb, Result, Ok, Err, Some, None}
+use Rattle.std.proofs.Math.Option.{none, some}
 use Rattle.words.specs.Reader.{Words, pick, Read, value, refused, Reader, many, accepted}
-use Rattle.words.specs.declared.Got.{Got}
-use Rattle.words.specs.declared.Got.TheVariants.{Word, Bad}
 use Rattle.rules.specs.Rules as Rules
 use Rattle.rules.specs.Limits.{most_parameters, most_parts, most_applications}
 use Rattle.rules.specs.Rules.{root_only, first_match, exhaustive, one_pass, Piece, Rule, shapes, pieces}
@@ -12,12 +10,10 @@ use Rattle.rules.specs.Layout.{PartAt, deconstruct_at, construct_at, condition_a
 use Rattle.rules.specs.declared.Strategy.{Strategy}
 use Rattle.rules.specs.declared.Strategy.TheVariants.{RootOnly, FirstMatch, Exhaustive, OnePass}
 use Rattle.rules.specs.declared.Plan.{Plan}
-use Rattle.rules.specs.declared.HeadRead.{HeadRead}
-use Rattle.rules.specs.declared.HeadRead.TheVariants.{Header, NoHead}
+use Rattle.rules.specs.declared.Head.{Head}
+use Rattle.rules.specs.declared.FoundPart.{FoundPart}
 use Rattle.rules.specs.declared.Part.{Part}
 use Rattle.rules.specs.declared.Part.TheVariants.{Deconstruct, Construct, Condition}
-use Rattle.rules.specs.declared.PartRead.{PartRead}
-use Rattle.rules.specs.declared.PartRead.TheVariants.{Found, NoPart}
 
 -- the strategy, as the code has it
 abbrev pub strategy_as : Rules.Strategy → Strategy
@@ -26,33 +22,29 @@ strategy_as first_match = FirstMatch
 strategy_as exhaustive = Exhaustive
 strategy_as one_pass = OnePass
 
--- how many types were read
-abbrev pub counted : Read (List ℕ) → Got
-counted (value ts next) = Word (length ts) next
-counted (refused n p) = Bad n p
-
 -- the parameters' types are the words right before the pattern's count
-abbrev pub head_read : Read Layout.Head → HeadRead
+abbrev pub head_read : Read Layout.Head → Result Head (ℕ × ℕ)
 head_read (value h next) =
-    Header (record { map = h.map; target = h.target; strategy = strategy_as h.strategy; count = length h.parameters; parameters = next - length h.parameters; pattern = next })
-head_read (refused n p) = NoHead n p
+    Ok (record { map = h.map; target = h.target; strategy = strategy_as h.strategy; count = length h.parameters; parameters = next - length h.parameters; pattern = next })
+head_read (refused n p) = Err (n, p)
 
--- the type that is searched for, if any is
-abbrev pub searched_type : Bool → ℕ → Option ℕ
-searched_type true s = some s
-searched_type false s = none
-
--- a part without a search has 0 for the searched type
+-- the part, as the code has it
 abbrev pub part_as : PartAt → Part
-part_as (deconstruct_at none x p) = Deconstruct (record { searches = false; searched = 0; variable = x; pattern = p })
-part_as (deconstruct_at (some s) x p) = Deconstruct (record { searches = true; searched = s; variable = x; pattern = p })
+part_as (deconstruct_at none x p) = Deconstruct (record { searched = None; variable = x; pattern = p })
+part_as (deconstruct_at (some s) x p) = Deconstruct (record { searched = Some s; variable = x; pattern = p })
 part_as (construct_at s p) = Construct (record { built = s; replacement = p })
 part_as (condition_at negated p) = Condition (record { negated = negated; chain = p })
 
--- a part that is read, or its refusal
-abbrev pub part_read : Read PartAt → PartRead
-part_read (value a next) = Found (record { part = part_as a; next = next })
-part_read (refused n p) = NoPart n p
+-- where the count of a part's pairs stands
+abbrev pub place_of_pairs : Part → ℕ
+place_of_pairs (Deconstruct d) = d.pattern
+place_of_pairs (Construct c) = c.replacement
+place_of_pairs (Condition c) = c.chain
+
+-- a part that is read, and the position after it; or the refusal
+abbrev pub part_read : Read PartAt → Result FoundPart (ℕ × ℕ)
+part_read (value a next) = Ok (record { part = part_as a; next = next })
+part_read (refused n p) = Err (n, p)
 
 -- READING A BOOK THAT HAS PASSED
 

@@ -1,19 +1,25 @@
 // The rule book: the readers of a rule's head, of a part and of a rule (20, 21, each with its position); and what a call asks of a book that has passed.
 #![tactic(auto)]
 
-ghost use Rattle.std.specs.Prelude.{◌≡◌, false, ℕ, ◌+◌, ◌<◌, ◌≤◌, length, get_or};
+ghost use Rattle.std.specs.Prelude.{◌≡◌, ℕ, ◌<◌, ◌≤◌, length, get_or, IfOk, IsOkAnd};
 ghost use Rattle.words.specs.Reader as Reading;
 ghost use Rattle.words.specs.Reader.{value};
-ghost use Rattle.words.specs.Views.{answer, got};
+ghost use Rattle.words.specs.Views.{answer, got, shown};
 ghost use Rattle.rules.specs.Layout as Layout;
 ghost use Rattle.rules.specs.Rules.{Rule};
-ghost use Rattle.rules.specs.declared.Part.TheVariants as Variant;
-ghost use Rattle.rules.specs.Views.{part_as, part_read, searched_type, head_read, counted, strategy_as, pairs_at, pairs_end, part_count, Planned, tried_of, again_of, onward_of, chain_count};
+ghost use Rattle.std.proofs.Math.Option.{Option};
+ghost use Rattle.rules.specs.Views.{part_as, part_read, head_read, strategy_as, pairs_at, pairs_end, part_count, Planned, tried_of, again_of, onward_of, chain_count, place_of_pairs};
 
-use limits::{MOST_APPLICATIONS, MOST_PAIRS, MOST_PARAMETERS, MOST_PARTS, STARTS};
-use words::{Check, Got};
+use limits::{
+    MOST_APPLICATIONS, MOST_PAIRS, MOST_PARAMETERS, MOST_PARTS, PARAMETERS, PARTS, REACH,
+    REPLACEMENT, STARTS,
+};
+use words::{Fault, Refusal};
 
 pub mod limits;
+pub mod program;
+
+pub use program::Program;
 
 // What a call needs of its rule: its target type, which nodes it tries, where the pattern's count stands, how many parts there are and where the first stands.
 #[derive(Clone, Copy)]
@@ -34,6 +40,15 @@ pub enum Strategy {
     OnePass,
 }
 
+// The plan of a rule that is not there.
+const NO_PLAN: Plan = Plan {
+    target: 0,
+    strategy: Strategy::RootOnly,
+    pattern: 0,
+    count: 0,
+    first: 0,
+};
+
 // A rule's fields before its pattern: its map, its target type, which nodes it tries, how many parameters it has and where their types stand, and where the
 // pattern's count stands.
 #[derive(Clone, Copy)]
@@ -46,18 +61,10 @@ pub struct Head {
     pub pattern: usize,
 }
 
-// A rule's head, or a refusal.
-#[derive(Clone, Copy)]
-pub enum HeadRead {
-    Header(Head),
-    NoHead(u32, usize),
-}
-
-// Whether it searches and for a node of which type, where the variable's number stands, and where the pattern's count stands.
+// The type of the node that is searched for, if it searches, where the variable's number stands, and where the pattern's count stands.
 #[derive(Clone, Copy)]
 pub struct Deconstruct {
-    pub searches: bool,
-    pub searched: u32,
+    pub searched: Option<u32>,
     pub variable: usize,
     pub pattern: usize,
 }
@@ -91,517 +98,342 @@ pub struct FoundPart {
     pub next: usize,
 }
 
-// A part, or a refusal.
-#[derive(Clone, Copy)]
-pub enum PartRead {
-    Found(FoundPart),
-    NoPart(u32, usize),
+impl Part {
+    // Where the count of its pairs stands.
+    fn pairs(self) -> usize
+        ensures { result ≡ place_of_pairs self }
+    {
+        match self {
+            Part::Deconstruct(fields) => fields.pattern,
+            Part::Construct(fields) => fields.replacement,
+            Part::Condition(fields) => fields.chain,
+        }
+    }
+}
+
+// READING, WITH EACH WORD TESTED
+
+// Does the bit stand in a rule's map?
+pub fn announces(map: u32, bit: u32) -> bool
+    requires { bit < 32 }
+    ensures { result ≡ Layout.bit bit map }
+{
+    (map >> bit) % 2 == 1
 }
 
 // A count, a map, a reach or a type, from low to high.
-pub fn field(ws: &[u32], low: u32, high: u32, at: usize) -> Got
+#[tactic(auto, unfolding(crate::specs::Layout::field))]
+pub fn field(ws: &[u32], low: u32, high: u32, at: usize) -> Result<(u32, usize), Refusal>
     ensures { result ≡ got (Layout.field ws.now low high at) }
 {
-    words::read_in(20, 21, ws, low, high, at)
+    words::read_in(Fault::BookEnds, Fault::BookWord, ws, low, high, at)
 }
 
 // A type outside pairs.
-fn type_field(types: u32, ws: &[u32], at: usize) -> Got
-    requires { 1 ≤ types }
+#[tactic(auto, unfolding(crate::specs::Layout::type_field))]
+fn type_field(types: u32, ws: &[u32], at: usize) -> Result<(u32, usize), Refusal>
     ensures { result ≡ got (Layout.type_field types ws.now at) }
 {
-    field(ws, 0, types - 1, at)
+    field(ws, 0, types.saturating_sub(1), at)
 }
 
 // Passes over a count of pairs and the pairs.
-fn pairs(ws: &[u32], at: usize) -> Check
+#[tactic(auto, using(crate::proofs::Laws::readings, words::proofs::Laws::in_value), unfolding(crate::specs::Layout::pairs, crate::specs::Layout::field))]
+fn pairs(ws: &[u32], at: usize) -> Result<usize, Refusal>
     ensures { result ≡ answer (Layout.pairs ws.now at) }
 {
-    let g = field(ws, 1, MOST_PAIRS, at);
-    match g {
-        Got::Bad(no, p) => Check::Refused(no, p),
-        Got::Word(k, next) => {
-            let n = 2 * words::wide(k);
-            if ws.len() - next < n {
-                return Check::Refused(20, ws.len());
-            }
-            Check::Passed(next + n)
-        }
+    let (count, first) = field(ws, 1, MOST_PAIRS, at)?;
+    let n = 2 * count as usize;
+    if n <= ws.len() - first {
+        Ok(first + n)
+    } else {
+        Err(Refusal::new(Fault::BookEnds, ws.len()))
     }
 }
 
-// The fields of a part that takes a variable apart, after the searched type if there is one.
-fn deconstruct_fields(ws: &[u32], searches: bool, searched: u32, at: usize) -> PartRead
-    requires { searches ≡ false → searched ≡ 0 }
-    ensures { result ≡ part_read (Layout.deconstruct_fields ws.now (searched_type searches searched) at) }
+// Passes over a variable's number and the pattern that takes the variable apart.
+#[tactic(auto, using(crate::proofs::Laws::readings, crate::proofs::Laws::pairs_passed), unfolding(crate::specs::Layout::deconstruct_fields, crate::specs::Layout::variable_at))]
+fn deconstruct_fields(ws: &[u32], at: usize) -> Result<usize, Refusal>
+    ensures { (s : Option ℕ) → result ≡ answer (Layout.deconstruct_fields ws.now s at) }
 {
-    let g = words::read_word(20, ws, at);
-    match g {
-        Got::Bad(no, p) => PartRead::NoPart(no, p),
-        Got::Word(v, pattern) => {
-            let c = pairs(ws, pattern);
-            match c {
-                Check::Refused(no, p) => PartRead::NoPart(no, p),
-                Check::Passed(next) => {
-                    let d = Deconstruct {
-                        searches,
-                        searched,
-                        variable: at,
-                        pattern,
-                    };
-                    let part = Part::Deconstruct(d);
-                    PartRead::Found(FoundPart { part, next })
-                }
-            }
-        }
-    }
+    let (_, pattern) = words::read_word(Fault::BookEnds, ws, at)?;
+    pairs(ws, pattern)
 }
 
-// The same with a search: a type comes before the variable's number.
-fn search_fields(types: u32, ws: &[u32], at: usize) -> PartRead
-    requires { 1 ≤ types }
-    ensures { result ≡ part_read (Layout.search_fields types ws.now at) }
+// Passes over the part whose map stands at a position. The map stays the word that it is, since `fields_at` alone turns it into a kind.
+#[tactic(auto, using(crate::proofs::Laws::readings), unfolding(crate::specs::Layout::part_at, crate::specs::Layout::search_fields, crate::specs::Layout::construct_fields, crate::specs::Layout::condition_fields))]
+fn part_end(types: u32, ws: &[u32], at: usize) -> Result<usize, Refusal>
+    ensures { result ≡ answer (Layout.part_at types ws.now at) }
 {
-    let t = type_field(types, ws, at);
-    match t {
-        Got::Bad(no, p) => PartRead::NoPart(no, p),
-        Got::Word(searched, next) => deconstruct_fields(ws, true, searched, next),
-    }
-}
-
-// The fields of a part that builds.
-fn construct_fields(types: u32, ws: &[u32], at: usize) -> PartRead
-    requires { 1 ≤ types }
-    ensures { result ≡ part_read (Layout.construct_fields types ws.now at) }
-{
-    let t = type_field(types, ws, at);
-    match t {
-        Got::Bad(no, p) => PartRead::NoPart(no, p),
-        Got::Word(built, replacement) => {
-            let c = pairs(ws, replacement);
-            match c {
-                Check::Refused(no, p) => PartRead::NoPart(no, p),
-                Check::Passed(next) => {
-                    let part = Part::Construct(Construct { built, replacement });
-                    PartRead::Found(FoundPart { part, next })
-                }
-            }
+    let (map, next) = words::read_word(Fault::BookEnds, ws, at)?;
+    match map {
+        1 => deconstruct_fields(ws, next),
+        3 => {
+            let (_, variable) = type_field(types, ws, next)?;
+            deconstruct_fields(ws, variable)
         }
-    }
-}
-
-// The fields of a part that tests.
-fn condition_fields(ws: &[u32], negated: bool, at: usize) -> PartRead
-    ensures { result ≡ part_read (Layout.condition_fields ws.now negated at) }
-{
-    let c = pairs(ws, at);
-    match c {
-        Check::Refused(no, p) => PartRead::NoPart(no, p),
-        Check::Passed(next) => {
-            let part = Part::Condition(Condition { negated, chain: at });
-            PartRead::Found(FoundPart { part, next })
+        4 => {
+            let (_, replacement) = type_field(types, ws, next)?;
+            pairs(ws, replacement)
         }
+        8 | 24 => pairs(ws, next),
+        _ => Err(Refusal::new(Fault::BookWord, at)),
     }
 }
 
 // The part whose map stands at a position.
-pub fn read_part(types: u32, ws: &[u32], at: usize) -> PartRead
-    requires { 1 ≤ types }
+pub fn read_part(types: u32, ws: &[u32], at: usize) -> Result<FoundPart, Refusal>
     ensures { result ≡ part_read (Layout.part_at types ws.now at) }
 {
-    let g = words::read_word(20, ws, at);
-    match g {
-        Got::Bad(no, p) => PartRead::NoPart(no, p),
-        Got::Word(m, next) => {
-            if m == 1 {
-                return deconstruct_fields(ws, false, 0, next);
-            }
-            if m == 3 {
-                return search_fields(types, ws, next);
-            }
-            if m == 4 {
-                return construct_fields(types, ws, next);
-            }
-            if m == 8 {
-                return condition_fields(ws, false, next);
-            }
-            if m == 24 {
-                return condition_fields(ws, true, next);
-            }
-            PartRead::NoPart(21, at)
-        }
-    }
+    part_end(types, ws, at)?;
+    Ok(part_of(ws, at))
 }
 
 // k parts, one after the other.
-fn some_parts(types: u32, ws: &[u32], k: u32, start: usize) -> Check
-    requires { 1 ≤ types }
+#[tactic(auto, using(crate::proofs::Laws::readings, crate::proofs::Laws::part_answer))]
+fn some_parts(types: u32, ws: &[u32], k: u32, start: usize) -> Result<usize, Refusal>
     ensures { result ≡ answer (Reading.many k (Layout.part types ws.now) start) }
 {
-    let mut left = k;
     let mut at = start;
-    while 0 < left {
-        let r = read_part(types, ws, at);
-        match r {
-            PartRead::NoPart(no, p) => {
-                return Check::Refused(no, p);
-            }
-            PartRead::Found(f) => {
-                at = f.next;
-                left = left - 1;
-            }
-        }
+    for _ in 0..k {
+        at = part_end(types, ws, at)?;
     }
-    Check::Passed(at)
+    Ok(at)
+}
+
+// How many parts the map announces, and where the first stands.
+fn part_count(ws: &[u32], map: u32, at: usize) -> Result<(u32, usize), Refusal>
+    ensures { result ≡ got (part_count ws.now map at) }
+{
+    if announces(map, PARTS) {
+        field(ws, 1, MOST_PARTS, at)
+    } else {
+        Ok((0, at))
+    }
 }
 
 // The parts, where the map announces them.
-fn read_parts(types: u32, ws: &[u32], map: u32, at: usize) -> Check
-    requires { 1 ≤ types }
+#[tactic(auto, using(crate::proofs::Laws::readings, crate::proofs::Laws::parts_counted))]
+fn read_parts(types: u32, ws: &[u32], map: u32, at: usize) -> Result<usize, Refusal>
     ensures { result ≡ answer (Layout.parts types ws.now map at) }
 {
-    if map / 4 % 2 != 1 {
-        return Check::Passed(at);
-    }
-    let g = field(ws, 1, MOST_PARTS, at);
-    match g {
-        Got::Bad(no, p) => Check::Refused(no, p),
-        Got::Word(k, next) => some_parts(types, ws, k, next),
-    }
+    let (k, first) = part_count(ws, map, at)?;
+    some_parts(types, ws, k, first)
 }
 
 // The replacement, where the map announces it.
-fn read_replacement(ws: &[u32], map: u32, at: usize) -> Check
+#[tactic(auto, using(crate::proofs::Laws::readings), unfolding(crate::specs::Layout::replacement))]
+fn read_replacement(ws: &[u32], map: u32, at: usize) -> Result<usize, Refusal>
     ensures { result ≡ answer (Layout.replacement ws.now map at) }
 {
-    if map / 8 % 2 != 1 {
-        return Check::Passed(at);
+    if announces(map, REPLACEMENT) {
+        pairs(ws, at)
+    } else {
+        Ok(at)
     }
-    pairs(ws, at)
 }
 
 // The reach, and 0 where the map announces none.
-fn reach(ws: &[u32], map: u32, at: usize) -> Got
+#[tactic(auto, unfolding(crate::specs::Layout::reach))]
+fn reach(ws: &[u32], map: u32, at: usize) -> Result<(u32, usize), Refusal>
     ensures { result ≡ got (Layout.reach ws.now map at) }
 {
-    if map % 2 != 1 {
-        return Got::Word(0, at);
+    if announces(map, REACH) {
+        field(ws, 1, 3, at)
+    } else {
+        Ok((0, at))
     }
-    field(ws, 1, 3, at)
-}
-
-// What a reach says; 0 stands for none.
-fn strategy_of(r: u32) -> Strategy
-    ensures { result ≡ strategy_as (Layout.strategy_of r) }
-{
-    if r == 0 {
-        return Strategy::RootOnly;
-    }
-    if r == 1 {
-        return Strategy::FirstMatch;
-    }
-    if r == 2 {
-        return Strategy::Exhaustive;
-    }
-    Strategy::OnePass
 }
 
 // k types, one after the other.
-fn some_types(types: u32, ws: &[u32], k: u32, start: usize) -> Check
-    requires { 1 ≤ types }
+#[tactic(auto, using(crate::proofs::Laws::readings))]
+fn some_types(types: u32, ws: &[u32], k: u32, start: usize) -> Result<usize, Refusal>
     ensures { result ≡ answer (Reading.many k (Layout.type_field types ws.now) start) }
 {
-    let mut left = k;
     let mut at = start;
-    while 0 < left {
-        let g = type_field(types, ws, at);
-        match g {
-            Got::Bad(no, p) => {
-                return Check::Refused(no, p);
-            }
-            Got::Word(t, next) => {
-                at = next;
-                left = left - 1;
-            }
-        }
+    for _ in 0..k {
+        (_, at) = type_field(types, ws, at)?;
     }
-    Check::Passed(at)
+    Ok(at)
 }
 
 // How many parameters there are, and the position after their types.
-fn read_parameters(types: u32, ws: &[u32], map: u32, at: usize) -> Got
-    requires { 1 ≤ types }
-    ensures { result ≡ counted (Layout.parameters types ws.now map at) }
+#[tactic(auto, using(crate::proofs::Laws::readings, crate::proofs::Laws::types_words), unfolding(crate::specs::Layout::parameters))]
+fn read_parameters(types: u32, ws: &[u32], map: u32, at: usize) -> Result<(u32, usize), Refusal>
+    ensures { result ≡ shown length (Layout.parameters types ws.now map at) }
 {
-    if map / 2 % 2 != 1 {
-        return Got::Word(0, at);
+    if !announces(map, PARAMETERS) {
+        return Ok((0, at));
     }
-    let g = field(ws, 1, MOST_PARAMETERS, at);
-    match g {
-        Got::Bad(no, p) => Got::Bad(no, p),
-        Got::Word(k, next) => {
-            let c = some_types(types, ws, k, next);
-            match c {
-                Check::Refused(no, p) => Got::Bad(no, p),
-                Check::Passed(e) => Got::Word(k, e),
-            }
-        }
-    }
-}
-
-// What follows a rule's map and target up to its pattern.
-fn head_fields(types: u32, ws: &[u32], map: u32, target: u32, at: usize) -> HeadRead
-    requires { 1 ≤ types }
-    ensures { result ≡ head_read (Layout.head_fields types ws.now map target at) }
-{
-    let f = reach(ws, map, at);
-    match f {
-        Got::Bad(no, p) => HeadRead::NoHead(no, p),
-        Got::Word(r, next) => {
-            let g = read_parameters(types, ws, map, next);
-            match g {
-                Got::Bad(no, p) => HeadRead::NoHead(no, p),
-                Got::Word(count, pattern) => {
-                    let strategy = strategy_of(r);
-                    let parameters = pattern - words::wide(count);
-                    HeadRead::Header(Head {
-                        map,
-                        target,
-                        strategy,
-                        count,
-                        parameters,
-                        pattern,
-                    })
-                }
-            }
-        }
-    }
+    let (k, first) = field(ws, 1, MOST_PARAMETERS, at)?;
+    let end = some_types(types, ws, k, first)?;
+    Ok((k, end))
 }
 
 // The head of the rule whose map stands at a position.
-pub fn read_head(types: u32, ws: &[u32], at: usize) -> HeadRead
-    requires { 1 ≤ types }
+#[tactic(auto, using(crate::proofs::Laws::readings, crate::proofs::Laws::parameters_words), unfolding(crate::specs::Layout::head, crate::specs::Layout::head_fields))]
+pub fn read_head(types: u32, ws: &[u32], at: usize) -> Result<Head, Refusal>
     ensures { result ≡ head_read (Layout.head types ws.now at) }
 {
-    let f = field(ws, 0, 15, at);
-    match f {
-        Got::Bad(no, p) => HeadRead::NoHead(no, p),
-        Got::Word(map, t) => {
-            let g = type_field(types, ws, t);
-            match g {
-                Got::Bad(no, p) => HeadRead::NoHead(no, p),
-                Got::Word(target, r) => head_fields(types, ws, map, target, r),
-            }
-        }
-    }
+    let (map, next) = field(ws, 0, 15, at)?;
+    let (target, next) = type_field(types, ws, next)?;
+    let (code, next) = reach(ws, map, next)?;
+    let (count, pattern) = read_parameters(types, ws, map, next)?;
+    Ok(Head {
+        map,
+        target,
+        strategy: Strategy::of_reach(code),
+        count,
+        parameters: pattern - count as usize,
+        pattern,
+    })
 }
 
-// A rule: its head, pattern, parts and replacement.
-pub fn read_rule(types: u32, ws: &[u32], at: usize) -> Check
-    requires { 1 ≤ types }
+// Passes over a rule: its head, pattern, parts and replacement.
+#[tactic(auto, using(crate::proofs::Laws::readings, crate::proofs::Laws::head_refused, crate::proofs::Laws::head_there, crate::proofs::Laws::pairs_passed), unfolding(crate::specs::Layout::rule))]
+pub fn read_rule(types: u32, ws: &[u32], at: usize) -> Result<usize, Refusal>
     ensures { result ≡ answer (Layout.rule types ws.now at) }
 {
-    let h = read_head(types, ws, at);
-    match h {
-        HeadRead::NoHead(no, p) => Check::Refused(no, p),
-        HeadRead::Header(head) => {
-            let c = pairs(ws, head.pattern);
-            match c {
-                Check::Refused(no, p) => Check::Refused(no, p),
-                Check::Passed(e) => {
-                    let d = read_parts(types, ws, head.map, e);
-                    match d {
-                        Check::Refused(no, p) => Check::Refused(no, p),
-                        Check::Passed(next) => read_replacement(ws, head.map, next),
-                    }
-                }
-            }
-        }
-    }
+    let head = read_head(types, ws, at)?;
+    let parts = pairs(ws, head.pattern)?;
+    let replacement = read_parts(types, ws, head.map, parts)?;
+    read_replacement(ws, head.map, replacement)
 }
 
 // READING A BOOK THAT HAS PASSED
 
 // The pairs whose count stands at p; none, if they are not there.
+#[tactic(auto, using(crate::proofs::Laws::pairs_passed, crate::proofs::Laid::pairs_extent, crate::proofs::Laid::pairs_at_lem), unfolding(crate::specs::Views::pairs_at, crate::specs::Layout::stretch))]
 pub fn pairs_of(ws: &[u32], p: usize) -> &[u32]
     ensures { (result.now ≡ pairs_at ws.now p) × (length result.now ≤ 256) }
 {
-    let c = pairs(ws, p);
-    match c {
-        Check::Refused(_, _) => &ws[..0],
-        Check::Passed(next) => &ws[p + 1..next],
+    match pairs(ws, p) {
+        Ok(end) => &ws[p + 1..end],
+        Err(_) => &[],
     }
 }
 
 // The position after the pairs whose count stands at p; p, if they are not there.
+#[tactic(auto, unfolding(crate::specs::Views::pairs_end))]
 fn pairs_end(ws: &[u32], p: usize) -> usize
     ensures { result ≡ pairs_end ws.now p }
 {
-    if ws.len() <= p {
-        return p;
+    let n = 2 * words::word(ws, p) as usize;
+    if n < ws.len().saturating_sub(p) {
+        p + 1 + n
+    } else {
+        p
     }
-    let n = 2 * words::wide(words::word(ws, p));
-    if ws.len() - p <= n {
-        return p;
+}
+
+// The part whose map stands at a position, of a book that has passed.
+#[tactic(auto, using(crate::proofs::Laid::part_found))]
+fn fields_at(ws: &[u32], at: usize) -> Part
+    requires { at ≤ length ws.now }
+    ensures { (types : ℕ) (q : Layout.PartAt) (next : ℕ) → Layout.part_at types ws.now at ≡ value q next → result ≡ part_as q }
+{
+    match words::word(ws, at) {
+        1 => Part::Deconstruct(Deconstruct {
+            searched: None,
+            variable: at + 1,
+            pattern: at + 2,
+        }),
+        3 => Part::Deconstruct(Deconstruct {
+            searched: Some(words::word(ws, at + 1)),
+            variable: at + 2,
+            pattern: at + 3,
+        }),
+        4 => Part::Construct(Construct {
+            built: words::word(ws, at + 1),
+            replacement: at + 2,
+        }),
+        map => Part::Condition(Condition {
+            negated: map == 24,
+            chain: at + 1,
+        }),
     }
-    p + 1 + n
 }
 
-// A part that takes a variable apart, whose number stands at a position.
-fn deconstruct_at(ws: &[u32], searches: bool, searched: u32, variable: usize) -> FoundPart
-    requires { variable < length ws.now }
-    ensures { result ≡ record { part = Variant.Deconstruct (record { searches = searches; searched = searched; variable = variable; pattern = variable + 1 }); next = pairs_end ws.now (variable + 1) } }
-{
-    let pattern = variable + 1;
-    let next = pairs_end(ws, pattern);
-    let d = Deconstruct {
-        searches,
-        searched,
-        variable,
-        pattern,
-    };
-    let part = Part::Deconstruct(d);
-    FoundPart { part, next }
-}
-
-// A part that builds, the count of whose replacement stands at a position.
-fn construct_at(ws: &[u32], built: u32, replacement: usize) -> FoundPart
-    ensures { result ≡ record { part = Variant.Construct (record { built = built; replacement = replacement }); next = pairs_end ws.now replacement } }
-{
-    let next = pairs_end(ws, replacement);
-    let c = Construct { built, replacement };
-    let part = Part::Construct(c);
-    FoundPart { part, next }
-}
-
-// A part that tests, the count of whose pairs stands at a position.
-fn condition_at(ws: &[u32], negated: bool, chain: usize) -> FoundPart
-    ensures { result ≡ record { part = Variant.Condition (record { negated = negated; chain = chain }); next = pairs_end ws.now chain } }
-{
-    let next = pairs_end(ws, chain);
-    let c = Condition { negated, chain };
-    let part = Part::Condition(c);
-    FoundPart { part, next }
-}
-
-// The part whose map stands at a position of a book that has passed: nothing is tested again.
+// The part whose map stands at a position: nothing is tested again.
+#[tactic(auto, using(crate::proofs::Laid::part_found))]
 pub fn part_of(ws: &[u32], at: usize) -> FoundPart
     ensures { (types : ℕ) (q : Layout.PartAt) (next : ℕ) → Layout.part_at types ws.now at ≡ value q next → result ≡ record { part = part_as q; next = next } }
 {
-    if ws.len() < 4 {
-        return condition_at(ws, false, at);
-    }
-    if ws.len() - 4 < at {
-        return condition_at(ws, false, at);
-    }
-    let m = ws[at];
-    if m == 1 {
-        return deconstruct_at(ws, false, 0, at + 1);
-    }
-    if m == 3 {
-        return deconstruct_at(ws, true, ws[at + 1], at + 2);
-    }
-    if m == 4 {
-        return construct_at(ws, ws[at + 1], at + 2);
-    }
-    if m == 8 {
-        return condition_at(ws, false, at + 1);
-    }
-    condition_at(ws, true, at + 1)
-}
-
-// How many parts the map announces, and where the first stands.
-fn part_count(ws: &[u32], map: u32, at: usize) -> Got
-    ensures { result ≡ got (part_count ws.now map at) }
-{
-    if map / 4 % 2 != 1 {
-        return Got::Word(0, at);
-    }
-    field(ws, 1, MOST_PARTS, at)
-}
-
-// The plan of a rule that is not there.
-fn no_plan() -> Plan
-    ensures { result.count ≤ 8 }
-{
-    Plan {
-        target: 0,
-        strategy: Strategy::RootOnly,
-        pattern: 0,
-        count: 0,
-        first: 0,
+    let part = fields_at(ws, at.min(ws.len()));
+    FoundPart {
+        part,
+        next: pairs_end(ws, part.pairs()),
     }
 }
 
 // The plan of the rule whose map stands at a position.
+fn read_plan(types: u32, ws: &[u32], at: usize) -> Result<Plan, Refusal>
+    ensures { IfOk result (λ p. p.count ≤ 8) × ((rule : Rule) (next : ℕ) → Layout.rule types ws.now at ≡ value rule next → IsOkAnd result (λ p. Planned types ws.now rule p)) }
+{
+    let head = read_head(types, ws, at)?;
+    let parts = pairs(ws, head.pattern)?;
+    let (count, first) = part_count(ws, head.map, parts)?;
+    Ok(Plan {
+        target: head.target,
+        strategy: head.strategy,
+        pattern: head.pattern,
+        count,
+        first,
+    })
+}
+
+// The plan of the rule whose map stands at a position; where there is none, one with no parts.
 pub fn plan_of(types: u32, ws: &[u32], at: usize) -> Plan
-    requires { 1 ≤ types }
     ensures { (result.count ≤ 8) × ((rule : Rule) (next : ℕ) → Layout.rule types ws.now at ≡ value rule next → Planned types ws.now rule result) }
 {
-    let h = read_head(types, ws, at);
-    match h {
-        HeadRead::NoHead(_, _) => no_plan(),
-        HeadRead::Header(head) => {
-            let c = pairs(ws, head.pattern);
-            match c {
-                Check::Refused(_, _) => no_plan(),
-                Check::Passed(e) => {
-                    let g = part_count(ws, head.map, e);
-                    match g {
-                        Got::Bad(_, _) => no_plan(),
-                        Got::Word(count, first) => {
-                            let strategy = head.strategy;
-                            Plan {
-                                target: head.target,
-                                strategy,
-                                pattern: head.pattern,
-                                count,
-                                first,
-                            }
-                        }
-                    }
-                }
-            }
-        }
-    }
+    read_plan(types, ws, at).unwrap_or(NO_PLAN)
 }
 
 // WHAT A CALL ASKS OF ITS PLAN AND BOOK
 
-// How many nodes are tried at most: all, or the root alone.
-pub fn tried(strategy: Strategy, n: usize) -> usize
-    ensures { result ≡ tried_of strategy n }
-{
-    match strategy {
-        Strategy::RootOnly => { if 0 < n { 1 } else { 0 } }
-        Strategy::FirstMatch => n,
-        Strategy::Exhaustive => n,
-        Strategy::OnePass => n,
+impl Strategy {
+    // What a reach says; 0 stands for none.
+    #[tactic(auto, unfolding(crate::specs::Layout::strategy_of))]
+    fn of_reach(reach: u32) -> Strategy
+        ensures { result ≡ strategy_as (Layout.strategy_of reach) }
+    {
+        match reach {
+            0 => Strategy::RootOnly,
+            1 => Strategy::FirstMatch,
+            2 => Strategy::Exhaustive,
+            _ => Strategy::OnePass,
+        }
     }
-}
 
-// Does the search go on after a replacement?
-pub fn again(strategy: Strategy) -> bool
-    ensures { result ≡ again_of strategy }
-{
-    match strategy {
-        Strategy::RootOnly => false,
-        Strategy::FirstMatch => false,
-        Strategy::Exhaustive => true,
-        Strategy::OnePass => true,
+    // How many of n nodes are tried at most: all, or the root alone.
+    pub fn tried(self, n: usize) -> usize
+        ensures { result ≡ tried_of self n }
+    {
+        match self {
+            Strategy::RootOnly => n.min(1),
+            Strategy::FirstMatch | Strategy::Exhaustive | Strategy::OnePass => n,
+        }
     }
-}
 
-// Where the search goes on, if the tree put in place of node i has m nodes: at the root again, or behind that tree.
-pub fn onward(strategy: Strategy, i: usize, m: usize) -> usize
-    requires { (i ≤ 2048) × (m < 4096) }
-    ensures { result ≡ onward_of strategy i m }
-{
-    match strategy {
-        Strategy::RootOnly => 0,
-        Strategy::FirstMatch => 0,
-        Strategy::Exhaustive => 0,
-        Strategy::OnePass => i + m,
+    // Does the search go on after a replacement?
+    pub fn again(self) -> bool
+        ensures { result ≡ again_of self }
+    {
+        match self {
+            Strategy::RootOnly | Strategy::FirstMatch => false,
+            Strategy::Exhaustive | Strategy::OnePass => true,
+        }
+    }
+
+    // Where the search goes on, if the tree put in place of node i has m nodes: at the root again, or behind that tree.
+    pub fn onward(self, i: usize, m: usize) -> usize
+        requires { (i ≤ 2048) × (m < 4096) }
+        ensures { result ≡ onward_of self i m }
+    {
+        match self {
+            Strategy::RootOnly | Strategy::FirstMatch | Strategy::Exhaustive => 0,
+            Strategy::OnePass => i + m,
+        }
     }
 }
 
@@ -609,8 +441,7 @@ pub fn onward(strategy: Strategy, i: usize, m: usize) -> usize
 pub fn rule_at(starts: &[usize; STARTS], n: u32) -> usize
     ensures { n < 64 → result ≡ get_or starts.now n 0 }
 {
-    let i = words::wide(n);
-    if i < STARTS { starts[i] } else { 0 }
+    starts.get(n as usize).copied().unwrap_or(0)
 }
 
 // How many applications a chain has, its count at `at`; 0, if that is no count.
@@ -618,5 +449,5 @@ pub fn chain_count(pairs: &[u32], at: usize) -> u32
     ensures { (result ≡ chain_count pairs.now at) × (result ≤ 4) }
 {
     let k = words::word(pairs, at);
-    if MOST_APPLICATIONS < k { 0 } else { k }
+    if k <= MOST_APPLICATIONS { k } else { 0 }
 }

@@ -22,6 +22,15 @@ pub const MOST_VARIABLES: usize = 16;
 // Applications of a chain.
 pub const MOST_APPLICATIONS: u32 = 4;
 
+// The bits of a rule's map, each of which announces a field.
+pub const REACH: u32 = 0;
+
+pub const PARAMETERS: u32 = 1;
+
+pub const PARTS: u32 = 2;
+
+pub const REPLACEMENT: u32 = 3;
+
 // The first word of a pair that is no node: a new variable, a variable that is there, a chain of applications.
 pub const MARK_NEW: u32 = 64;
 

@@ -2,19 +2,18 @@
 #![tactic(auto)]
 
 use std::io;
-use words::Check;
+use words::Refusal;
 
-// `accepted`, or `refused`, the number and the position.
-fn print_answer(rt: &impl Print, c: Check) -> io::Result<()> {
-    match c {
-        Check::Passed(_) => println!(rt; "accepted"),
-        Check::Refused(number, position) => println!(rt; "refused {number} {position}"),
+// `accepted`, or the refusal.
+fn print_answer(rt: &impl Print, answer: Result<usize, Refusal>) -> io::Result<()> {
+    match answer {
+        Ok(_) => println!(rt; "accepted"),
+        Err(refusal) => println!(rt; "{refusal}"),
     }
 }
 
 fn check_grammar(rt: &impl Print, ws: &[u32]) -> io::Result<()> {
-    let c = grammar::check_grammar(ws);
-    print_answer(rt, c)
+    print_answer(rt, grammar::check_grammar(ws))
 }
 
 // The paper's grammar, a program of a sequence of numbers, and damaged in each way that its rows name.
@@ -38,8 +37,7 @@ fn others(rt: &impl Print) -> io::Result<()> {
 
 // A slip of the paper's grammar.
 fn check_slip(rt: &impl Print, ws: &[u32]) -> io::Result<()> {
-    let c = slips::check_slip(&[3, 8, 1, 1, 1, 4, 2, 1, 2], ws);
-    print_answer(rt, c)
+    print_answer(rt, slips::check_slip(&[3, 8, 1, 1, 1, 4, 2, 1, 2], ws))
 }
 
 // The paper's slips, and its variants of them; wrong counts.
@@ -69,18 +67,15 @@ fn papers_slips(rt: &impl Print) -> io::Result<()> {
 fn nested(rt: &impl Print) -> io::Result<()> {
     let mut ws = [0u32; 192];
     ws[190] = 1;
-    let c = slips::check_slip(&[1, 2, 0], &ws);
-    print_answer(rt, c)?;
+    print_answer(rt, slips::check_slip(&[1, 2, 0], &ws))?;
     let mut deeper = [0u32; 195];
     deeper[193] = 1;
-    let d = slips::check_slip(&[1, 2, 0], &deeper);
-    print_answer(rt, d)
+    print_answer(rt, slips::check_slip(&[1, 2, 0], &deeper))
 }
 
 // A rule book for the paper's grammar.
 fn check_rules(rt: &impl Print, ws: &[u32]) -> io::Result<()> {
-    let c = typing::check_rules(&[3, 8, 1, 1, 1, 4, 2, 1, 2], ws);
-    print_answer(rt, c)
+    print_answer(rt, typing::check_rules(&[3, 8, 1, 1, 1, 4, 2, 1, 2], ws))
 }
 
 // The paper's rule book, which makes 42.00 of 2.00, and damaged in each way that its rows name; one word more than a rule book may have.

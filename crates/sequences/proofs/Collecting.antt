@@ -1,4 +1,6 @@
 -- The trees of a type that stand in a tree below, appended one after the other: what is under way, and the definition at what is left. Assumes nothing.
+use Rattle.std.specs.Prelude.{Ok, Err}
+use Rattle.sequences.proofs.Sealing.{ok_is, no_ok}
 use Prim.Native.Nat.{ℕ, ◌+◌, ◌-◌, ◌*◌, ◌≤◌, ◌<◌}
 use mathlib.Core.Path.{◌≡◌, refl, sym, ap, ◌∙◌, subst}
 use mathlib.Core.List.{List, [], ◌∷◌, ◌++◌, append_assoc, append-nil}
@@ -84,16 +86,17 @@ module _ {g : Grammar} (w₀ w : Words) (base start m i : ℕ) (u vs : Words) (b
 
 module _ (w₀ w : Words) (e t base k start m most nodes i : ℕ) (x : Collecting w₀ w e t base k start m most nodes i) where
   -- all nodes are passed
-  pub collecting_end : m ≤ i → Collects w₀ w e t base k start m most nodes
+  pub collecting_end : m ≤ i → Collects w₀ w e t base k start m most (Ok nodes)
   collecting_end h = record {
     long = x.long;
     below = x.below;
+    few = λ z. omega (arith, ok_is z, x.few);
     collected = λ g es u types b ek way.
         let y = x.left g es u types b ek way in
         let long : length u ≤ 2 * i = omega (arith, trees_even b.stands.tree.typed, b.nodes) in
         let none : y.vs ≡ [] = sym y.place ∙ drop_of_length-le u long in
         let all : es ++ taken g e u ≡ y.done = y.all ∙ ap (λ l. y.done ++ taken g e l) none ∙ none_taken g e y.done in
-        ((λ few. (y.nodes_is ∙ ap before (sym all), subst (λ l. UnderWay g (take (2 * nodes) (drop base w)) (spine t l)) (sym all) y.under)), λ over. absurd (omega (arith, x.few)));
+        (y.nodes_is ∙ ap before (sym all), subst (λ l. UnderWay g (take (2 * nodes) (drop base w)) (spine t l)) (sym all) y.under);
   }
 
   module _ (v : ℕ) (ev : v ≡ get_or w (start + 2 * i) 0) (inside : i < m) where
@@ -166,31 +169,34 @@ module _ (w₀ w : Words) (e t base k start m most nodes i : ℕ) (x : Collectin
       all_here : (g : Grammar) (es done : List Words) (u vs : Words) → Here g u vs → es ++ taken g e u ≡ done ++ taken g e vs → es ++ taken g e u ≡ done ++ first_tree g vs ∷ taken g e (after g vs 1)
       all_here g es done u vs h all = all ∙ ap (λ l. done ++ l) (ap (taken g e) (sym (first_after g vs 1)) ∙ taken_this g e h.tree (after g vs 1))
 
-      pub collecting_none : n ≡ 0 → Collects w₀ w e t base k start m most nodes
+      pub collecting_none : n ≡ 0 → Collects w₀ w e t base k start m most (Ok nodes)
       collecting_none z = record {
         long = x.long;
         below = x.below;
+        few = λ z. omega (arith, ok_is z, x.few);
         collected = λ g es u types b ek way. let y = x.left g es u types b ek way in let h = here g u types b y.ts y.vs y.place y.rest in absurd (omega (arith, h.some));
       }
 
-      pub collecting_past : m < i + n → Collects w₀ w e t base k start m most nodes
+      pub collecting_past : m < i + n → Collects w₀ w e t base k start m most (Ok nodes)
       collecting_past z = record {
         long = x.long;
         below = x.below;
+        few = λ z. omega (arith, ok_is z, x.few);
         collected = λ g es u types b ek way. let y = x.left g es u types b ek way in let h = here g u types b y.ts y.vs y.place y.rest in absurd (omega (arith, h.fits));
       }
 
-      pub collecting_over : most < nodes + 1 + n → Collects w₀ w e t base k start m most (nodes + 1 + n)
+      pub collecting_over : most < nodes + 1 + n → Collects w₀ w e t base k start m most (Err 42)
       collecting_over z = record {
         long = x.long;
         below = x.below;
+        few = λ z. absurd (no_ok z);
         collected = λ g es u types b ek way.
             let y = x.left g es u types b ek way in
             let h = here g u types b y.ts y.vs y.place y.rest in
             let f = first_tree g y.vs in
             let fs = taken g e (after g y.vs 1) in
             let all = ap before (all_here g es y.done u y.vs h y.all) in
-            ((λ few. absurd (omega arith)), λ over. omega (arith, all, before_append y.done (f ∷ fs), before_more f fs, h.nodes_here, y.nodes_is));
+            (omega (arith, all, before_append y.done (f ∷ fs), before_more f fs, h.nodes_here, y.nodes_is), refl);
       }
 
       pub collecting_more : nodes + 1 + n ≤ most → base + 2 * nodes ≤ length w → (w' : Words) → length w' ≡ length w

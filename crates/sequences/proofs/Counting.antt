@@ -1,4 +1,5 @@
 -- The length of a sequence that stands below, as the value of a number token. Assumes nothing.
+use Rattle.std.specs.Prelude.{Ok, Err}
 use Prim.Native.Nat.{ℕ, ◌+◌, ◌*◌, ◌≤◌, ◌<◌}
 use mathlib.Core.Path.{◌≡◌, refl, sym, ap, ◌∙◌, subst}
 use mathlib.Core.Bool.{true}
@@ -17,12 +18,11 @@ use Rattle.meaning.specs.Operations.{with_value}
 use Rattle.meaning.proofs.Numbers.{number_root}
 use Rattle.marks.specs.Marked.{Stands}
 use Rattle.rewrite.specs.Arena.{NodesAt, Standing}
-use Rattle.rewrite.specs.declared.arena.Placed.{Placed}
 use Rattle.sequences.specs.Listed.{Listed, Walks, Made, Counts}
 use Rattle.sequences.specs.declared.Walked.{Walked}
 use Rattle.rewrite.proofs.Numbers.{value_written}
 use Rattle.sequences.proofs.Listing.{stands_listed, listed_nodes}
-use Rattle.sequences.proofs.Sealing.{limits_live, limits_none, made_stopped}
+use Rattle.sequences.proofs.Sealing.{ok_is, limits_live, limits_none, made_stopped}
 use Rattle.sequences.proofs.Joining.{made_many, stopped_many}
 
 -- THE VALUE WRITTEN
@@ -45,19 +45,14 @@ module _ (w : Words) (base start under besides m : ℕ) (r : Walked) (held : bes
   unfolding with_value nesting nesting_from
   made_flat g scope v = omega arith
 
-  pub counted_many : most_nodes < under + 1 → (p : Placed) → p ≡ record { stop = 42; nodes = 0 } → Counts w w base start under besides p
-  counted_many h p e = stopped_many w besides _ p held e (λ q g n t scope u few y number s is. made_many q refl (omega (arith, made_size scope (100 * length (elements g u)))))
+  pub counted_many : {number : ℕ} → (most_nodes < under + 1) × (number ≡ 42) → Counts w w base start under besides (Err number)
+  counted_many h = stopped_many w besides (λ g n t scope u few y number s is. made_many h.1 refl (omega (arith, h.0, made_size scope (100 * length (elements g u)))))
 
-  pub counted_live : under + 1 ≤ most_nodes → most_live < besides + 1 → (p : Placed) → p ≡ record { stop = 44; nodes = 0 } → Counts w w base start under besides p
-  counted_live h l p e = record {
-    long = refl;
-    few = rw e (omega arith);
-    fits = rw e (omega arith);
-    meant = λ g n t scope u few y number s is.
-        let v = 100 * length (elements g u) in
-        let one = made_size scope v in
-        rw e (made_stopped 44 (λ z. omega arith) refl (sym (limits_live g under besides (with_value scope v) (omega arith) (made_flat g scope v) (omega arith))));
-  }
+  pub counted_live : under + 1 ≤ most_nodes → {number : ℕ} → (most_live < besides + 1) × (number ≡ 44) → Counts w w base start under besides (Err number)
+  counted_live h l = stopped_many w besides (λ g n t scope u few y number s is.
+      let v = 100 * length (elements g u) in
+      let one = made_size scope v in
+      made_stopped refl (limits_live g under besides (with_value scope v) (omega arith) (made_flat g scope v) (omega (arith, l.0)) ∙ ap Err (sym l.1)))
 
   -- the number, which is one node, with another value
   written_there : (g : Grammar) (n t v : ℕ) (scope : Words) → is_number g t ≡ true → v ≤ greatest_number → Standing g w base n t scope → Standing g (set w (base + 1) v) base 1 t (with_value scope v)
@@ -67,19 +62,18 @@ module _ (w : Words) (base start under besides m : ℕ) (r : Walked) (held : bes
       let one : n ≡ 1 = sym y.nodes ∙ ap size token.is in
       subst (λ k. Standing g (set w (base + 1) v) base k t (with_value scope v)) one (value_written g w base n t v scope token small y)
 
-  pub counted_there : under + 1 ≤ most_nodes → besides + 1 ≤ most_live → (v : ℕ) → v ≡ 100 * r.passed → Counts w (set w (base + 1) v) base start under besides (record { stop = 0; nodes = 1 })
+  pub counted_there : under + 1 ≤ most_nodes → besides + 1 ≤ most_live → (v : ℕ) → v ≡ 100 * r.passed → Counts w (set w (base + 1) v) base start under besides (Ok 1)
   counted_there h l v e = record {
     long = length-set w (base + 1) v;
-    few = omega arith;
-    fits = l;
+    few = λ z. omega (arith, ok_is z);
+    fits = λ z. omega (arith, ok_is z);
     meant = λ g n t scope u few y number s is.
         let same : v ≡ 100 * length (elements g u) = e ∙ ap (λ k. 100 * k) (counted few s is) in
         let small : v ≤ greatest_number = omega (arith, counted_few few s is) in
         let one = made_size scope v in
-        let here : Made g w (set w (base + 1) v) base under besides t (with_value scope v) (record { stop = 0; nodes = 1 }) = record {
+        let here : Made g w (set w (base + 1) v) base under besides t (with_value scope v) (Ok 1) = record {
           below = take-set-le base w (base + 1) v (omega arith);
-          stop_is = sym (limits_none g under besides (with_value scope v) (omega arith) (made_flat g scope v) (omega arith));
-          stands = λ z. written_there g n t v scope number small y;
+          made = (limits_none g under besides (with_value scope v) (omega arith) (made_flat g scope v) (omega arith), written_there g n t v scope number small y);
         } in
-        subst (λ k. Made g w (set w (base + 1) v) base under besides t (with_value scope k) (record { stop = 0; nodes = 1 })) same here;
+        subst (λ k. Made g w (set w (base + 1) v) base under besides t (with_value scope k) (Ok 1)) same here;
   }

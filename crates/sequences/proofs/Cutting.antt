@@ -1,4 +1,7 @@
 -- A sequence is cut: its first elements moved away, its last left out; and that this is what select says. Assumes nothing.
+use Rattle.tables.specs.declared.types.Types.{Types}
+use Rattle.sequences.proofs.Sealing.{ok_is, no_ok}
+use Rattle.std.specs.Prelude.{Result, Ok, Err}
 use Prim.Native.Nat.{ℕ, zero, suc, ◌+◌, ◌-◌, ◌*◌, ◌≤◌, ◌<◌, min, max}
 use mathlib.Core.Path.{◌≡◌, sym, ap, ◌∙◌, subst}
 use mathlib.Core.List.{List, [], ◌∷◌, ◌++◌, append_assoc}
@@ -15,8 +18,7 @@ use Rattle.meaning.specs.Limits.{most_live}
 use Rattle.meaning.specs.Edits.{selected}
 use Rattle.marks.specs.Marked.{type_in}
 use Rattle.rewrite.specs.Arena.{Standing}
-use Rattle.rewrite.specs.declared.arena.Placed.{Placed}
-use Rattle.sequences.specs.Listed.{Listed, before, Walks, Loosened, limits, Made, Finishes, FrontCut, Selects}
+use Rattle.sequences.specs.Listed.{Listed, before, Walks, Loosened, Made, Finishes, FrontCut, Selects}
 use Rattle.sequences.specs.declared.Walked.{Walked}
 use Rattle.sequences.proofs.Listing.{before_more, before_none, listed_as, listed_nodes, listed_later, listed_root}
 use Rattle.sequences.proofs.Sealing.{limits_none}
@@ -84,7 +86,7 @@ take_all (suc k) (e ∷ es) h = ap (λ l. e ∷ l) (take_all k es (omega (arith,
 
 -- SELECTED
 
-module _ (heads rows w w₁ : Words) (base n a b under besides skip m t most : ℕ) (held : besides + n ≤ most_live) (et : t ≡ type_in (get_or w base 0)) (es : skip ≡ a - 1) (f : FrontCut w w₁ base n skip m) (em : most ≡ b - skip)
+module _ (types : Types) (w w₁ : Words) (base n a b under besides skip m t most : ℕ) (held : besides + n ≤ most_live) (et : t ≡ type_in (get_or w base 0)) (es : skip ≡ a - 1) (f : FrontCut w w₁ base n skip m) (em : most ≡ b - skip)
     (r : Walked) (x : Walks w₁ base m most r) where
   -- the elements that are left
   abbrev kept : List Words → List Words
@@ -102,32 +104,32 @@ module _ (heads rows w w₁ : Words) (base n a b under besides skip m t most : �
   kept_size : {g : Grammar} {k : ℕ} (es : List Words) → Listed g w base n k es → size (sequence_of k (selected a b es)) ≡ suc r.node
   kept_size {g} {k} es l = ap (λ fs. size (sequence_of k fs)) (kept_is es) ∙ sequence_size g (element_of g k) k (kept es) (kept_each es l) ∙ ap suc (sym (kept_before es l))
 
-  pub selected_many : most_nodes < under + (r.node + 1) → (p : Placed) → p ≡ record { stop = 42; nodes = 0 } → Selects heads rows w w₁ base n a b under besides p
-  selected_many h p e = record {
+  pub selected_many : {number : ℕ} → (most_nodes < under + (r.node + 1)) × (number ≡ 42) → Selects types w w₁ base n a b under besides (Err number)
+  selected_many h = record {
     long = f.long;
-    few = rw e (omega arith);
-    fits = rw e (omega arith);
-    meant = λ g k es tb deep l. made_many e f.below (omega (arith, kept_size es l));
+    few = λ z. absurd (no_ok z);
+    fits = λ z. absurd (no_ok z);
+    meant = λ g k es tb deep l. made_many h.1 f.below (omega (arith, h.0, kept_size es l));
   }
 
   -- nothing is cut off at the end: what is left stands there
-  pub selected_whole : under + (r.node + 1) ≤ most_nodes → r.node + 1 ≡ m → Selects heads rows w w₁ base n a b under besides (record { stop = 0; nodes = r.node + 1 })
+  pub selected_whole : under + (r.node + 1) ≤ most_nodes → r.node + 1 ≡ m → Selects types w w₁ base n a b under besides (Ok (r.node + 1))
   selected_whole h whole = record {
     long = f.long;
-    few = omega arith;
-    fits = omega (arith, f.fewer);
+    few = λ z. omega (arith, ok_is z);
+    fits = λ z. omega (arith, ok_is z, f.fewer);
     meant = λ g k es tb deep l.
         let fs = drop skip es in
         let cut = f.front_cut g k es l in
         let all : kept es ≡ fs = take_all most fs (omega (arith, kept_before es l, listed_nodes cut)) in
         let flat : nesting g (sequence_of k fs) ≤ most_nesting = omega (arith, rest_nesting g k l.is skip es l.each) in
-        let stop : 0 ≡ limits g under besides (sequence_of k fs) = sym (limits_none g under besides (sequence_of k fs) (omega (arith, cut.nodes)) flat (omega (arith, cut.nodes, f.fewer))) in
+        let within = limits_none g under besides (sequence_of k fs) (omega (arith, cut.nodes)) flat (omega (arith, cut.nodes, f.fewer)) in
         let there : Standing g w₁ base m k (sequence_of k fs) = record { tree = record { typed = sequence_trees g k l.is fs cut.each; nodes = omega (arith, cut.nodes); nested = flat }; nodes = cut.nodes; words = cut.words } in
-        let made : Made g w w₁ base under besides k (sequence_of k fs) (record { stop = 0; nodes = r.node + 1 }) = record { below = f.below; stop_is = stop; stands = λ z. rw whole there } in
-        subst (λ gs. Made g w w₁ base under besides k (sequence_of k gs) (record { stop = 0; nodes = r.node + 1 })) (sym (kept_is es ∙ all)) made;
+        let made : Made g w w₁ base under besides k (sequence_of k fs) (Ok (r.node + 1)) = record { below = f.below; made = (within, rw whole there) } in
+        subst (λ gs. Made g w w₁ base under besides k (sequence_of k gs) (Ok (r.node + 1))) (sym (kept_is es ∙ all)) made;
   }
 
-  pub selected_there : under + (r.node + 1) ≤ most_nodes → (w₂ w₃ : Words) (p : Placed) → Loosened w₁ w₂ base r.node → Finishes heads rows w₂ w₃ t base r.node besides p → Selects heads rows w w₃ base n a b under besides p
+  pub selected_there : under + (r.node + 1) ≤ most_nodes → (w₂ w₃ : Words) (p : Result ℕ ℕ) → Loosened w₁ w₂ base r.node → Finishes types w₂ w₃ t base r.node besides p → Selects types w w₃ base n a b under besides p
   selected_there h w₂ w₃ p l s = record {
     long = s.long ∙ l.long ∙ f.long;
     few = s.few;

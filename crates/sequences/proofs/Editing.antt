@@ -1,5 +1,7 @@
 -- The operations as the meaning has them: what the step comes to by its limits, and each operation's number. Assumes nothing.
-use Prim.Native.Nat.{ℕ, zero, suc, ◌+◌, ◌-◌, ◌*◌, ◌/◌, ◌≤◌, min, max}
+use Rattle.sequences.proofs.Sealing.{no_ok}
+use Rattle.std.specs.Prelude.{Result, Ok, Err}
+use Prim.Native.Nat.{ℕ, suc, ◌+◌, ◌-◌, ◌*◌, ◌/◌, ◌≤◌, min, max}
 use mathlib.Core.Path.{◌≡◌, refl, sym, ap, ap₂, ◌∙◌, subst}
 use mathlib.Core.Bool.{Bool, true, false}
 use mathlib.Core.List.{List, [], ◌∷◌, ◌++◌}
@@ -11,7 +13,8 @@ use Rattle.words.specs.Reader.{Words, or}
 use Rattle.words.proofs.Laws.{and_both}
 use Rattle.grammar.specs.Grammar.{Grammar}
 use Rattle.grammar.specs.Kinds.{is_sequence, is_number}
-use Rattle.tables.specs.Tables.{Tables}
+use Rattle.tables.specs.Types.{TypesOf}
+use Rattle.tables.specs.declared.types.Types.{Types}
 use Rattle.tree.specs.Limits.{most_nodes, most_nesting}
 use Rattle.tree.specs.Tree.{size, nesting, are_trees, is_tree, type_of}
 use Rattle.tree.specs.Sequences.{element_of, sequence_of, elements, taken}
@@ -22,13 +25,13 @@ use Rattle.rules.proofs.Numbers.{edit_number, edit_number_lem, edit_applied}
 use Rattle.meaning.specs.Limits.{most_live}
 use Rattle.meaning.specs.declared.State.{State}
 use Rattle.meaning.specs.Operations.{with_value, is_number_token}
-use Rattle.meaning.specs.Computation.{Result, ok, stop, stuck, then_of, stop_unless, surely, check, present, nodes_within, nesting_within, live_within}
+use Rattle.meaning.specs.Computation as Computation
+use Rattle.meaning.specs.Computation.{ok, stop, stuck, then_of, stop_unless, surely, check, present, nodes_within, nesting_within, live_within}
 use Rattle.meaning.specs.Edits.{position, selected, joined, edited, is_sequence_tree, each, edit_fits, edit}
 use Rattle.meaning.proofs.Edits.{one_given, two_given, each_one, edited_few, sequence_tree, joined_typed, edited_typed}
 use Rattle.marks.specs.Marked.{Stands}
 use Rattle.rewrite.specs.Arena.{Standing, Says}
 use Rattle.rewrite.specs.Vars.{EnvAt}
-use Rattle.rewrite.specs.declared.arena.Placed.{Placed}
 use Rattle.rewrite.proofs.Standing.{stands_whole}
 use Rattle.rewrite.proofs.Numbers.{value_there}
 use Rattle.sequences.specs.Listed.{limits, Made, Makes, Joins, Selects, Counts, Extracts, Edits}
@@ -36,13 +39,13 @@ use Rattle.sequences.proofs.Listing.{standing_listed, listed_nodes}
 
 -- WHAT THE STEP COMES TO
 
--- by the stop, if there is one
-abbrev outcome : ℕ → Words → State → Result Words
-outcome zero u left = ok u left
-outcome (suc k) u left = stop (suc k) left
+-- within the limits it is made; otherwise by the stop
+abbrev outcome : Result (Unit {0}) ℕ → Words → State → Computation.Result Words
+outcome (Ok v) u left = ok u left
+outcome (Err k) u left = stop k left
 
 module _ (g : Grammar) (o : Edit) (args : List Words) (scope : Words) (besides under : ℕ) (left : State) where
-  abbrev step : Result Words
+  abbrev step : Computation.Result Words
   step = edit true g o args scope besides under left
 
   sure_fits : (step ≡ stuck → ⊥) → edit_fits g o scope args ≡ true
@@ -79,13 +82,10 @@ module _ (g : Grammar) (o : Edit) (args : List Words) (scope : Words) (besides u
       go false b c p q r = rw (f, e, p)
 
   -- what was made stands, or the step stops so
-  says_made : (w w' : Words) (base t : ℕ) (u : Words) (r : Placed) → step ≡ outcome (limits g under besides u) u left → Made g w w' base under besides t u r
-      → (take base w' ≡ take base w) × Says (Standing g w' base r.nodes t) r.stop left step
-  says_made w w' base t u r e m = (m.below, go r.stop m.stop_is m.stands)
-    where
-      go : (s : ℕ) → s ≡ limits g under besides u → (s ≡ 0 → Standing g w' base r.nodes t u) → Says (Standing g w' base r.nodes t) s left step
-      go zero es st = (u, st refl, e ∙ ap (λ k. outcome k u left) (sym es))
-      go (suc k) es st = e ∙ ap (λ k. outcome k u left) (sym es)
+  says_made : (w w' : Words) (base t : ℕ) (u : Words) (r : Result ℕ ℕ) → step ≡ outcome (limits g under besides u) u left → Made g w w' base under besides t u r
+      → (take base w' ≡ take base w) × Says (λ nodes. Standing g w' base nodes t) r left step
+  says_made w w' base t u (Ok nodes) e m = (m.below, (u, m.made.1, e ∙ ap (λ k. outcome k u left) m.made.0))
+  says_made w w' base t u (Err k) e m = (m.below, e ∙ ap (λ k. outcome k u left) m.made)
 
 -- SCOPE AND ARGUMENTS
 
@@ -127,13 +127,13 @@ selected_end a n es h =
 
 -- EACH OPERATION
 
-module _ (heads rows w w' : Words) (op base n first second under besides : ℕ) (r : Placed) where
+module _ (types : Types) (w w' : Words) (op base n first second under besides : ℕ) (r : Result ℕ ℕ) where
   -- what an operation makes of a scope and arguments that fit
   abbrev ResultMade : Edit → Type 0
-  ResultMade o = (g : Grammar) (args : List Words) (scope : Words) (t : ℕ) (u : Words) → Tables g heads rows → Standing g w base n t scope → EnvAt g (take base w) (take (length args) (first ∷ second ∷ [])) args
+  ResultMade o = (g : Grammar) (args : List Words) (scope : Words) (t : ℕ) (u : Words) → TypesOf g types → Standing g w base n t scope → EnvAt g (take base w) (take (length args) (first ∷ second ∷ [])) args
       → edit_fits g o scope args ≡ true → edited g o scope args ≡ some u → Made g w w' base under besides t u r
 
-  edits_by : {Meant : Type 0} → Makes w w' besides r Meant → ((o : Edit) → applied op ≡ editing o → ResultMade o) → Edits heads rows w w' op base n first second under besides r
+  edits_by : {Meant : Type 0} → Makes w w' besides r Meant → ((o : Edit) → applied op ≡ editing o → ResultMade o) → Edits types w w' op base n first second under besides r
   edits_by m f = record {
     long = m.long;
     few = m.few;
@@ -147,14 +147,14 @@ module _ (heads rows w w' : Words) (op base n first second under besides : ℕ) 
   }
 
   -- .. of the one that the number stands for
-  edits_one : {Meant : Type 0} (p : Edit) → op ≡ edit_number p → Makes w w' besides r Meant → ResultMade p → Edits heads rows w w' op base n first second under besides r
+  edits_one : {Meant : Type 0} (p : Edit) → op ≡ edit_number p → Makes w w' besides r Meant → ResultMade p → Edits types w w' op base n first second under besides r
   edits_one p ep m f = edits_by m (λ o eo. subst ResultMade (number_same op eo ep) f)
 
   -- a scope of a sequence type
   scope_is : {g : Grammar} {t : ℕ} (scope : Words) → is_sequence_tree g scope ≡ true → Standing g w base n t scope → (type_of scope ≡ t) × (is_sequence g t ≡ true)
   scope_is {g} scope h st = let root = tree_type scope st.tree.typed in (root, subst (λ k. is_sequence g k ≡ true) root (sequence_tree g scope h).is)
 
-  join_made : Joins heads rows w w' base n first under besides r → ResultMade join
+  join_made : Joins types w w' base n first under besides r → ResultMade join
   unfolding edit_fits edited
   join_made j g args scope t u tb st env fit made =
       let fits : ℕ → Words → Bool = λ k v. or (is_tree g k v) (is_tree g (element_of g k) v) in
@@ -162,16 +162,16 @@ module _ (heads rows w w' : Words) (op base n first second under besides : ℕ) 
       let is = scope_is scope f.0 st in
       let x = one_given args (λ v. sequence_of (type_of scope) (elements g scope ++ joined g (type_of scope) v)) u made in
       let passes : fits t x.0 ≡ true = subst (λ k. fits k x.0 ≡ true) is.0 (each_one (fits (type_of scope)) args x.0 x.1 f.1) in
-      let m = j.meant g t (elements g scope) x.0 tb (standing_listed scope tb.rows_of_lem.types is.1 st) (first_stands g (take base w) first second args x.0 x.1 env) (joined_typed g t x.0 is.1 passes) in
+      let m = j.meant g t (elements g scope) x.0 tb (standing_listed scope tb.heads_of.types is.1 st) (first_stands g (take base w) first second args x.0 x.1 env) (joined_typed g t x.0 is.1 passes) in
       subst (λ v. Made g w w' base under besides t v r) (ap (λ k. sequence_of k (elements g scope ++ joined g k x.0)) (sym is.0) ∙ x.2) m
 
-  extract_made : Extracts heads rows w w' base n first under besides r → ResultMade extract
+  extract_made : Extracts types w w' base n first under besides r → ResultMade extract
   unfolding edit_fits edited
   extract_made j g args scope t u tb st env fit made =
       let f = and_both (is_sequence_tree g scope) (each (λ v. is_tree g (type_of v) v) args) fit in
       let is = scope_is scope f.0 st in
       let x = one_given args (λ v. sequence_of (type_of scope) (elements g scope ++ taken g (element_of g (type_of scope)) v)) u made in
-      let m = j.meant g t (elements g scope) x.0 tb (standing_listed scope tb.rows_of_lem.types is.1 st) (first_stands g (take base w) first second args x.0 x.1 env) in
+      let m = j.meant g t (elements g scope) x.0 tb (standing_listed scope tb.heads_of.types is.1 st) (first_stands g (take base w) first second args x.0 x.1 env) in
       subst (λ v. Made g w w' base under besides t v r) (ap (λ k. sequence_of k (elements g scope ++ taken g (element_of g k) x.0)) (sym is.0) ∙ x.2) m
 
   count_made : Counts w w' base first under besides r → ResultMade count
@@ -181,79 +181,79 @@ module _ (heads rows w w' : Words) (op base n first second under besides : ℕ) 
       let number : is_number g t ≡ true = subst (λ k. is_number g k ≡ true) (tree_type scope st.tree.typed) (and_both (is_number g (type_of scope)) (is_tree g (type_of scope) scope) f.0).0 in
       let x = one_given args (λ v. with_value scope (100 * length (elements g v))) u made in
       let s = sequence_tree g x.0 (each_one (is_sequence_tree g) args x.0 x.1 f.1) in
-      let m = j.meant g n t scope x.0 tb.rows_of_lem.types st number (first_stands g (take base w) first second args x.0 x.1 env) s.is in
+      let m = j.meant g n t scope x.0 tb.heads_of.types st number (first_stands g (take base w) first second args x.0 x.1 env) s.is in
       subst (λ v. Made g w w' base under besides t v r) x.2 m
 
   -- a selection
-  cut_made : (g : Grammar) (scope : Words) (t a b : ℕ) (u : Words) → Tables g heads rows → Standing g w base n t scope → is_sequence_tree g scope ≡ true → Selects heads rows w w' base n a b under besides r
+  cut_made : (g : Grammar) (scope : Words) (t a b : ℕ) (u : Words) → TypesOf g types → Standing g w base n t scope → is_sequence_tree g scope ≡ true → Selects types w w' base n a b under besides r
       → sequence_of (type_of scope) (selected a b (elements g scope)) ≡ u → Made g w w' base under besides t u r
   cut_made g scope t a b u tb st h j e =
       let is = scope_is scope h st in
       let deep : nesting g (sequence_of t (elements g scope)) ≤ most_nesting = rw (elements_made g t is.1 scope st.tree.typed) st.tree.nested in
-      let m = j.meant g t (elements g scope) tb deep (standing_listed scope tb.rows_of_lem.types is.1 st) in
+      let m = j.meant g t (elements g scope) tb deep (standing_listed scope tb.heads_of.types is.1 st) in
       subst (λ v. Made g w w' base under besides t v r) (ap (λ k. sequence_of k (selected a b (elements g scope))) (sym is.0) ∙ e) m
 
-  module _ (a v : ℕ) (ev : v ≡ get_or w (first + 1) 0) (ea : a ≡ v / 100) where
-    head_made : Selects heads rows w w' base n 1 a under besides r → ResultMade head
+  module _ (a : ℕ) (ea : a ≡ get_or w (first + 1) 0 / 100) where
+    head_made : Selects types w w' base n 1 a under besides r → ResultMade head
     unfolding edit_fits edited
     head_made j g args scope t u tb st env fit made =
         let h = (and_both (is_sequence_tree g scope) (each (is_number_token g) args) fit).0 in
         let x = one_given args (λ b. sequence_of (type_of scope) (selected 1 (position b) (elements g scope))) u made in
-        let at : a ≡ position x.0 = ea ∙ position_there w base v (first_stands g (take base w) first second args x.0 x.1 env) ev in
+        let at : a ≡ position x.0 = ea ∙ position_there w base _ (first_stands g (take base w) first second args x.0 x.1 env) refl in
         cut_made g scope t 1 a u tb st h j (ap (λ k. sequence_of (type_of scope) (selected 1 k (elements g scope))) at ∙ x.2)
 
-    tail_made : Selects heads rows w w' base n a n under besides r → ResultMade tail
+    tail_made : Selects types w w' base n a n under besides r → ResultMade tail
     unfolding edit_fits edited
     tail_made j g args scope t u tb st env fit made =
         let h = (and_both (is_sequence_tree g scope) (each (is_number_token g) args) fit).0 in
         let es = elements g scope in
         let x = one_given args (λ b. sequence_of (type_of scope) (selected (position b) (length es) es)) u made in
-        let at : a ≡ position x.0 = ea ∙ position_there w base v (first_stands g (take base w) first second args x.0 x.1 env) ev in
-        let l = standing_listed scope tb.rows_of_lem.types (scope_is scope h st).1 st in
+        let at : a ≡ position x.0 = ea ∙ position_there w base _ (first_stands g (take base w) first second args x.0 x.1 env) refl in
+        let l = standing_listed scope tb.heads_of.types (scope_is scope h st).1 st in
         let end = selected_end a n es (omega (arith, listed_nodes l)) in
         cut_made g scope t a n u tb st h j (ap (sequence_of (type_of scope)) end ∙ ap (λ k. sequence_of (type_of scope) (selected k (length es) es)) at ∙ x.2)
 
-    select_made : (b z : ℕ) → z ≡ get_or w (second + 1) 0 → b ≡ z / 100 → Selects heads rows w w' base n a b under besides r → ResultMade select
+    select_made : (b : ℕ) → b ≡ get_or w (second + 1) 0 / 100 → Selects types w w' base n a b under besides r → ResultMade select
     unfolding edit_fits edited
-    select_made b z ez eb j g args scope t u tb st env fit made =
+    select_made b eb j g args scope t u tb st env fit made =
         let h = (and_both (is_sequence_tree g scope) (each (is_number_token g) args) fit).0 in
         let es = elements g scope in
         let x = two_given args (λ b c. sequence_of (type_of scope) (selected (position b) (position c) es)) u made in
         let both = both_stand g (take base w) first second args x.0 x.1 x.2 env in
-        let at : a ≡ position x.0 = ea ∙ position_there w base v both.0 ev in
-        let to : b ≡ position x.1 = eb ∙ position_there w base z both.1 ez in
+        let at : a ≡ position x.0 = ea ∙ position_there w base _ both.0 refl in
+        let to : b ≡ position x.1 = eb ∙ position_there w base _ both.1 refl in
         cut_made g scope t a b u tb st h j (ap₂ (λ k l. sequence_of (type_of scope) (selected k l es)) at to ∙ x.3)
 
-    pub edits_head : op ≡ 1012 → Selects heads rows w w' base n 1 a under besides r → Edits heads rows w w' op base n first second under besides r
+    pub edits_head : op ≡ 1012 → Selects types w w' base n 1 a under besides r → Edits types w w' op base n first second under besides r
     unfolding edit_number
     edits_head e j = edits_one head e j (head_made j)
 
-    pub edits_tail : op ≡ 1013 → Selects heads rows w w' base n a n under besides r → Edits heads rows w w' op base n first second under besides r
+    pub edits_tail : op ≡ 1013 → Selects types w w' base n a n under besides r → Edits types w w' op base n first second under besides r
     unfolding edit_number
     edits_tail e j = edits_one tail e j (tail_made j)
 
-    pub edits_select : (b z : ℕ) → z ≡ get_or w (second + 1) 0 → b ≡ z / 100 → (op ≡ 1010 → ⊥) → (op ≡ 1012 → ⊥) → (op ≡ 1013 → ⊥) → (op ≡ 1014 → ⊥) → (op ≡ 1015 → ⊥)
-        → Selects heads rows w w' base n a b under besides r → Edits heads rows w w' op base n first second under besides r
-    edits_select b z ez eb n0 n2 n3 n4 n5 j =
-        edits_by j (λ o eo. subst ResultMade (number_select op o n0 n2 n3 n4 n5 eo) (select_made b z ez eb j))
+    pub edits_select : (b : ℕ) → b ≡ get_or w (second + 1) 0 / 100 → (op ≡ 1010 → ⊥) → (op ≡ 1012 → ⊥) → (op ≡ 1013 → ⊥) → (op ≡ 1014 → ⊥) → (op ≡ 1015 → ⊥)
+        → Selects types w w' base n a b under besides r → Edits types w w' op base n first second under besides r
+    edits_select b eb n0 n2 n3 n4 n5 j =
+        edits_by j (λ o eo. subst ResultMade (number_select op o n0 n2 n3 n4 n5 eo) (select_made b eb j))
 
-  pub edits_join : op ≡ 1010 → Joins heads rows w w' base n first under besides r → Edits heads rows w w' op base n first second under besides r
+  pub edits_join : op ≡ 1010 → Joins types w w' base n first under besides r → Edits types w w' op base n first second under besides r
   unfolding edit_number
   edits_join e j = edits_one join e j (join_made j)
 
-  pub edits_count : op ≡ 1014 → Counts w w' base first under besides r → Edits heads rows w w' op base n first second under besides r
+  pub edits_count : op ≡ 1014 → Counts w w' base first under besides r → Edits types w w' op base n first second under besides r
   unfolding edit_number
   edits_count e j = edits_one count e j (count_made j)
 
-  pub edits_extract : op ≡ 1015 → Extracts heads rows w w' base n first under besides r → Edits heads rows w w' op base n first second under besides r
+  pub edits_extract : op ≡ 1015 → Extracts types w w' base n first under besides r → Edits types w w' op base n first second under besides r
   unfolding edit_number
   edits_extract e j = edits_one extract e j (extract_made j)
 
 -- no tree has no nodes
-pub edits_none : (heads rows w : Words) (op base n first second under besides : ℕ) (r : Placed) → besides + n ≤ most_live → n ≡ 0 → r ≡ record { stop = 42; nodes = 0 } → Edits heads rows w w op base n first second under besides r
-edits_none heads rows w op base n first second under besides r held z e = record {
+pub edits_none : (types : Types) (w : Words) (op base n first second under besides : ℕ) {k : ℕ} → n ≡ 0 → Edits types w w op base n first second under besides (Err k)
+edits_none types w op base n first second under besides z = record {
   long = refl;
-  few = rw e (omega arith);
-  fits = rw e (omega arith);
+  few = λ e. absurd (no_ok e);
+  fits = λ e. absurd (no_ok e);
   meant = λ g o args scope t left tb eo st env sure. absurd (omega (arith, tree_some scope st.tree.typed, st.nodes));
 }

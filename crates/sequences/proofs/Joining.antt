@@ -1,4 +1,5 @@
 -- A sequence grows at its end: finished, joined with a sequence, joined with one element. Assumes nothing.
+use Rattle.std.specs.Prelude.{Result, Err}
 use Prim.Native.Nat.{ℕ, suc, ◌+◌, ◌-◌, ◌*◌, ◌≤◌, ◌<◌}
 use mathlib.Core.Path.{◌≡◌, refl, sym, ap, ◌∙◌, subst}
 use mathlib.Core.Bool.{Bool, true, false}
@@ -11,7 +12,8 @@ use Rattle.words.specs.Reader.{Words}
 use Rattle.grammar.specs.Grammar.{Grammar}
 use Rattle.grammar.specs.Limits.{most_types}
 use Rattle.grammar.specs.Kinds.{children}
-use Rattle.tables.specs.Tables.{InRows}
+use Rattle.tables.specs.Types.{OfTypes}
+use Rattle.tables.specs.declared.types.Types.{Types}
 use Rattle.tree.specs.Limits.{most_nodes}
 use Rattle.tree.specs.Tree.{Trees, size, type_of}
 use Rattle.tree.specs.Sequences.{element_of, sequence_of, elements, EachTree}
@@ -23,30 +25,29 @@ use Rattle.meaning.proofs.Edits.{joined_taken}
 use Rattle.marks.specs.Marked.{type_in, marked, Stands, UnderWay}
 use Rattle.marks.proofs.Same.{stands_root}
 use Rattle.rewrite.specs.Arena.{NodesAt}
-use Rattle.rewrite.specs.declared.arena.Placed.{Placed}
 use Rattle.rewrite.proofs.Standing.{stretch_below, stands_whole}
 use Rattle.sequences.specs.Listed.{Listed, Loosened, Made, Makes, Seals, Finishes, Below, JoinsSequence, Joins, Extracts}
 use Rattle.sequences.proofs.Listing.{before_append, listed_nodes, listed_types}
 use Rattle.sequences.proofs.Growing.{pushed_below, grown_last, grown_sequence}
 use Rattle.sequences.proofs.Loosening.{loosened_all}
-use Rattle.sequences.proofs.Sealing.{limits_many, made_stopped}
+use Rattle.sequences.proofs.Sealing.{no_ok, limits_many, made_stopped}
 
 -- over what stood before, too
-pub made_from : {g : Grammar} {w w₁ w₂ : Words} {base under besides t : ℕ} {u : Words} {r : Placed} → take base w₁ ≡ take base w → Made g w₁ w₂ base under besides t u r → Made g w w₂ base under besides t u r
-made_from b m = record { below = m.below ∙ b; stop_is = m.stop_is; stands = m.stands }
+pub made_from : {g : Grammar} {w w₁ w₂ : Words} {base under besides t : ℕ} {u : Words} {r : Result ℕ ℕ} → take base w₁ ≡ take base w → Made g w₁ w₂ base under besides t u r → Made g w w₂ base under besides t u r
+made_from b m = record { below = m.below ∙ b; made = m.made }
 
 -- 42 before anything is written: of all that is said where more nodes would be under way
-pub stopped_many : (w : Words) (besides : ℕ) (Meant : Type 0) (r : Placed) → besides ≤ most_live → r ≡ record { stop = 42; nodes = 0 } → (r ≡ record { stop = 42; nodes = 0 } → Meant) → Makes w w besides r Meant
-stopped_many w besides Meant r h e m = record { long = refl; few = rw e (omega arith); fits = rw e (omega arith); meant = m e }
+pub stopped_many : (w : Words) (besides : ℕ) {Meant : Type 0} {k : ℕ} → Meant → Makes w w besides (Err k) Meant
+stopped_many w besides m = record { long = refl; few = λ z. absurd (no_ok z); fits = λ z. absurd (no_ok z); meant = m }
 
-pub made_many : {g : Grammar} {w w' : Words} {base under besides t : ℕ} {u : Words} {r : Placed} → r ≡ record { stop = 42; nodes = 0 } → take base w' ≡ take base w → most_nodes < under + size u → Made g w w' base under besides t u r
-made_many {g} {under = under} {besides} {u = u} e b h = rw e (made_stopped 42 (λ z. omega arith) b (sym (limits_many g under besides u h)))
+pub made_many : {g : Grammar} {w w' : Words} {base under besides t k : ℕ} {u : Words} → k ≡ 42 → take base w' ≡ take base w → most_nodes < under + size u → Made g w w' base under besides t u (Err k)
+made_many {g} {under = under} {besides} {u = u} e b h = made_stopped b (limits_many g under besides u h ∙ ap Err (sym e))
 
 -- THE LAST NODE
 
-pub finished : (heads rows w w₁ w₂ : Words) (t base k besides : ℕ) (r : Placed) → length w₁ ≡ length w → base + 2 * k + 2 ≤ length w → w₁ ≡ take (base + 2 * k) w ++ (t ∷ 1 ∷ drop (base + 2 * k + 2) w)
-    → Seals heads rows w₁ w₂ base (k + 1) besides r → Finishes heads rows w w₂ t base k besides r
-finished heads rows w w₁ w₂ t base k besides r long room e s = record {
+pub finished : (types : Types) (w w₁ w₂ : Words) (t base k besides : ℕ) (r : Result ℕ ℕ) → length w₁ ≡ length w → base + 2 * k + 2 ≤ length w → w₁ ≡ take (base + 2 * k) w ++ (t ∷ 1 ∷ drop (base + 2 * k + 2) w)
+    → Seals types w₁ w₂ base (k + 1) besides r → Finishes types w w₂ t base k besides r
+finished types w w₁ w₂ t base k besides r long room e s = record {
   long = s.long ∙ long;
   few = s.few;
   fits = s.fits;
@@ -70,17 +71,17 @@ below_words {g} {w} {base} {start} {m} {u} w₁ b same =
 
 -- JOINED
 
-module _ (heads rows w : Words) (base n start m under besides : ℕ) (some : 1 ≤ n) (room : base + 4096 ≤ length w) (held : besides ≤ most_live) where
+module _ (types : Types) (w : Words) (base n start m under besides : ℕ) (some : 1 ≤ n) (room : base + 4096 ≤ length w) (held : besides ≤ most_live) where
   joined_nodes : {g : Grammar} {t : ℕ} (es fs : List Words) → Listed g w base n t es → EachTree g (element_of g t) fs → size (sequence_of t (es ++ fs)) ≡ n - 1 + size (sequence_of t fs)
   joined_nodes {g} {t} es fs x each =
       omega (arith, listed_nodes x, sequence_size g (element_of g t) t (es ++ fs) (each_append g (element_of g t) es fs x.each each), sequence_size g (element_of g t) t fs each, before_append es fs)
 
-  pub joined_many : most_nodes < under + (n - 1 + m) → (r : Placed) → r ≡ record { stop = 42; nodes = 0 } → JoinsSequence heads rows w w base n start m under besides r
-  joined_many h r e = stopped_many w besides _ r held e (λ q g t es fs tb x each b. made_many q refl (omega (arith, joined_nodes es fs x each, b.nodes)))
+  pub joined_many : {k : ℕ} → (most_nodes < under + (n - 1 + m)) × (k ≡ 42) → JoinsSequence types w w base n start m under besides (Err k)
+  joined_many h = stopped_many w besides (λ g t es fs tb x each b. made_many h.1 refl (omega (arith, h.0, joined_nodes es fs x each, b.nodes)))
 
-  pub joined_sequence : under + (n - 1 + m) ≤ most_nodes → (w₁ w₂ w₃ : Words) (r : Placed) → Loosened w w₁ base (n - 1)
+  pub joined_sequence : under + (n - 1 + m) ≤ most_nodes → (w₁ w₂ w₃ : Words) (r : Result ℕ ℕ) → Loosened w w₁ base (n - 1)
       → length w₂ ≡ length w₁ → w₂ ≡ take (base + 2 * (n - 1)) w₁ ++ (take (2 * m) (drop start w₁) ++ drop (base + 2 * (n - 1) + 2 * m) w₁)
-      → Seals heads rows w₂ w₃ base (n - 1 + m) besides r → JoinsSequence heads rows w w₃ base n start m under besides r
+      → Seals types w₂ w₃ base (n - 1 + m) besides r → JoinsSequence types w w₃ base n start m under besides r
   joined_sequence h w₁ w₂ w₃ r l long e s = record {
     long = s.long ∙ long ∙ l.long;
     few = s.few;
@@ -133,27 +134,27 @@ own_type g t u same each = go (eqb (type_of u) t) refl
 
 -- EITHER: join appends what extract does, unless the sequence is of itself
 
-module _ (heads rows w w' : Words) (base n start under besides : ℕ) (r : Placed) (t e : ℕ) (et : t ≡ type_in (get_or w base 0)) (ee : InRows rows (λ g. e ≡ get_or (children g t 0) 0 0)) where
-  pub joins_itself : e ≡ t → (m : ℕ) → NodesAt w start base m → JoinsSequence heads rows w w' base n start m under besides r → Joins heads rows w w' base n start under besides r
+module _ (types : Types) (w w' : Words) (base n start under besides : ℕ) (r : Result ℕ ℕ) (t e : ℕ) (et : t ≡ type_in (get_or w base 0)) (ee : OfTypes types (λ g. e ≡ get_or (children g t 0) 0 0)) where
+  pub joins_itself : e ≡ t → (m : ℕ) → NodesAt w start base m → JoinsSequence types w w' base n start m under besides r → Joins types w w' base n start under besides r
   unfolding joined
   joins_itself itself m at j = record {
     long = j.long;
     few = j.few;
     fits = j.fits;
     meant = λ g k es u tb x s each.
-        let is = listed_types heads rows t e et ee tb x in
+        let is = listed_types types t e et ee tb x in
         let own = own_type g k u (sym is.1 ∙ itself ∙ is.0) each in
         let y = alike u at x s own in
         rw (eq-eqb (type_of u) k own) (j.meant g k es (elements g u) tb x y.each y.below);
   }
 
-  pub joins_else : (e ≡ t → ⊥) → Extracts heads rows w w' base n start under besides r → Joins heads rows w w' base n start under besides r
+  pub joins_else : (e ≡ t → ⊥) → Extracts types w w' base n start under besides r → Joins types w w' base n start under besides r
   joins_else other j = record {
     long = j.long;
     few = j.few;
     fits = j.fits;
     meant = λ g k es u tb x s each.
-        let is = listed_types heads rows t e et ee tb x in
+        let is = listed_types types t e et ee tb x in
         let same = joined_taken g k u x.is (λ q. other (is.1 ∙ sym q ∙ sym is.0)) (stands_typed u s) each in
         subst (λ us. Made g w w' base under besides k (sequence_of k (es ++ us)) r) (sym same) (j.meant g k es u tb x s);
   }

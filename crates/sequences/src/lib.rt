@@ -4,13 +4,13 @@
 // any other tree.
 #![tactic(auto)]
 
-ghost use Rattle.std.specs.Prelude.{◌≡◌, ◌∷◌, ◌++◌, ◌+◌, ◌-◌, ◌*◌, ◌<◌, ◌≤◌, ◌^◌, length, take, drop};
+ghost use Rattle.std.specs.Prelude.{◌≡◌, ◌∷◌, ◌++◌, ◌+◌, ◌*◌, ◌/◌, ◌<◌, ◌≤◌, ◌^◌, length, get_or, take, drop};
 ghost use Rattle.sequences.specs.Listed.{Walks, Loosened, Seals, Finishes, Collects, JoinsSequence, Extracts, Joins, FrontCut, Selects, Counts, Edits};
 
-use rewrite::arena::Placed;
-use rewrite::{MOST_LIVE, arena};
+use meaning::{Halt, Stop};
+use rewrite::arena;
 use rules::limits::{COUNT, EXTRACT, HEAD, JOIN, TAIL};
-use tables::{HEADS, ROWS};
+use tables::Types;
 use tree::limits::MOST_NODES;
 
 // A rest of a sequence: the number of its first node in the sequence, and how many elements are before it.
@@ -26,23 +26,18 @@ fn walk(w: &[u32], base: usize, n: usize, most: usize) -> Walked
     ensures { Walks w.now base n most result }
 {
     let mut node: usize = 0;
-    let mut passed: usize = 0;
-    while passed < most {
+    for passed in 0..most {
         let p = base + 2 * node;
-        let next = node + 1 + marks::size_in(words::word(w, p + 2));
-        if words::word(w, p + 1) != 0 {
-            return Walked { node, passed };
-        }
-        if n < next {
+        let next = node + 1 + marks::size_at(w, p + 2);
+        if words::word(w, p + 1) != 0 || n < next {
             return Walked { node, passed };
         }
         node = next;
-        passed = passed + 1;
     }
-    Walked { node, passed }
+    Walked { node, passed: most }
 }
 
-// Takes the marks off the nodes of a sequence's own among its first k, which hold whole elements.
+// Takes the marks off the nodes of a sequence's own among its first k, which hold whole elements. Each turn steps over a whole element, so no range counts it.
 fn loosen(w: &mut [u32], base: usize, k: usize)
     requires { (k ≤ 2048) × (base + 2 * k + 2 ≤ length w.old) }
     ensures { Loosened w.old w.new base k }
@@ -52,40 +47,18 @@ fn loosen(w: &mut [u32], base: usize, k: usize)
         let p = base + 2 * i;
         let n = marks::size_in(w[p + 2]);
         w[p] = marks::type_in(w[p]);
-        i = i + 1 + n;
-    }
-}
-
-// A stop: no nodes are placed.
-fn stopped(number: u32) -> Placed
-    ensures { result ≡ record { stop = number; nodes = 0 } }
-{
-    Placed {
-        stop: number,
-        nodes: 0,
+        i += 1 + n;
     }
 }
 
 // Finishes the tree of n nodes under way at base: marks it, and tests 43 and 44.
-fn seal(
-    heads: &[u32; HEADS],
-    rows: &[u8; ROWS],
-    w: &mut [u32],
-    base: usize,
-    n: usize,
-    besides: usize,
-) -> Placed
+fn seal(types: &Types, w: &mut [u32], base: usize, n: usize, besides: usize) -> Result<usize, Halt>
     requires { (n ≤ 2048) × (base + 2 * n ≤ length w.old) × (besides ≤ 6144) }
-    ensures { Seals heads.now rows.now w.old w.new base n besides result }
+    ensures { Seals types.now w.old w.new base n besides result }
 {
-    let deep = arena::close(heads, rows, w, base, n);
-    if deep != 0 {
-        return stopped(deep);
-    }
-    if MOST_LIVE < besides + n {
-        return stopped(44);
-    }
-    Placed { stop: 0, nodes: n }
+    arena::close(types, w, base, n)?;
+    arena::check_live(besides + n)?;
+    Ok(n)
 }
 
 // Writes an element behind a node of the sequence's own type: the tree of m nodes at `start`, below.
@@ -99,23 +72,22 @@ fn extend(w: &mut [u32], to: usize, t: u32, start: usize, m: usize)
 
 // Finishes the sequence of type t whose first k nodes, all but its last, are under way at base.
 fn finish(
-    heads: &[u32; HEADS],
-    rows: &[u8; ROWS],
+    types: &Types,
     w: &mut [u32],
     t: u32,
     base: usize,
     k: usize,
     besides: usize,
-) -> Placed
+) -> Result<usize, Halt>
     requires { (k < 2048) × (base + 2 * k + 2 ≤ length w.old) × (besides ≤ 6144) }
-    ensures { Finishes heads.now rows.now w.old w.new t base k besides result }
+    ensures { Finishes types.now w.old w.new t base k besides result }
 {
     arena::push_node(w, base + 2 * k, t, 1);
-    seal(heads, rows, w, base, k + 1, besides)
+    seal(types, w, base, k + 1, besides)
 }
 
 // Appends the trees of type e in the tree of m nodes at `start` to the sequence of type t, whose first k nodes are under way at base: how many are under way then, or
-// more than `most` as soon as there would be.
+// 42 as soon as there would be more than `most`. A tree taken is stepped over whole, so no range counts the turns.
 fn collect(
     w: &mut [u32],
     e: u32,
@@ -125,7 +97,7 @@ fn collect(
     start: usize,
     m: usize,
     most: usize,
-) -> usize
+) -> Result<usize, Halt>
     requires { (k ≤ most) × (most ≤ 2047) × (m ≤ 2048) × (0 < m → start + 2 * m ≤ base) × (base + 4096 ≤ length w.old) }
     ensures { Collects w.old w.new e t base k start m most result }
 {
@@ -136,29 +108,25 @@ fn collect(
         let x = w[p];
         let n = marks::size_in(x);
         if marks::type_in(x) != e {
-            i = i + 1;
+            i += 1;
         } else {
-            if n == 0 {
-                return nodes;
-            }
-            if m < i + n {
-                return nodes;
+            if n == 0 || m < i + n {
+                return Ok(nodes);
             }
             if most < nodes + 1 + n {
-                return nodes + 1 + n;
+                return Err(Halt::new(Stop::TooManyNodes));
             }
             extend(w, base + 2 * nodes, t, p, n);
-            nodes = nodes + 1 + n;
-            i = i + n;
+            nodes += 1 + n;
+            i += n;
         }
     }
-    nodes
+    Ok(nodes)
 }
 
 // Joins the sequence of m nodes at `start`, of the same type: it takes the place of the last node.
 fn join_sequence(
-    heads: &[u32; HEADS],
-    rows: &[u8; ROWS],
+    types: &Types,
     w: &mut [u32],
     base: usize,
     n: usize,
@@ -166,75 +134,64 @@ fn join_sequence(
     m: usize,
     under: usize,
     besides: usize,
-) -> Placed
+) -> Result<usize, Halt>
     requires { (1 ≤ n) × (n ≤ 2048) × (m ≤ 2048) × (0 < m → start + 2 * m ≤ base) × (under ≤ 2048) × (besides ≤ 6144) × (base + 4096 ≤ length w.old) }
-    ensures { JoinsSequence heads.now rows.now w.old w.new base n start m under besides result }
+    ensures { JoinsSequence types.now w.old w.new base n start m under besides result }
 {
     let last = n - 1;
     let nodes = last + m;
-    if MOST_NODES < under + nodes {
-        return stopped(42);
-    }
+    arena::check_nodes(under + nodes)?;
     loosen(w, base, last);
     arena::push_tree(w, start, m, base + 2 * last);
-    seal(heads, rows, w, base, nodes, besides)
+    seal(types, w, base, nodes, besides)
 }
 
 // Appends the trees of the element's type in the tree at `start`. Those in a sequence of the same type are its elements, unless it is of itself.
 fn extract(
-    heads: &[u32; HEADS],
-    rows: &[u8; ROWS],
+    types: &Types,
     w: &mut [u32],
     base: usize,
     n: usize,
     start: usize,
     under: usize,
     besides: usize,
-) -> Placed
+) -> Result<usize, Halt>
     requires { (1 ≤ n) × (n ≤ 2048) × (start < 2 ^ 32) × (under ≤ 2048) × (besides ≤ 6144) × (base + 4096 ≤ length w.old) }
-    ensures { Extracts heads.now rows.now w.old w.new base n start under besides result }
+    ensures { Extracts types.now w.old w.new base n start under besides result }
 {
     let t = marks::type_in(words::word(w, base));
-    let e = tables::child(rows, t, 0, 0);
+    let e = types.child(t, 0, 0);
     let m = arena::nodes_at(w, start, base);
-    if t != e {
-        if marks::type_in(words::word(w, start)) == t {
-            return join_sequence(heads, rows, w, base, n, start, m, under, besides);
-        }
+    if t != e && marks::type_in(words::word(w, start)) == t {
+        return join_sequence(types, w, base, n, start, m, under, besides);
     }
-    if MOST_NODES < under + n {
-        return stopped(42);
-    }
+    arena::check_nodes(under + n)?;
     let most = MOST_NODES - under - 1;
     loosen(w, base, n - 1);
-    let k = collect(w, e, t, base, n - 1, start, m, most);
-    if most < k {
-        return stopped(42);
-    }
-    finish(heads, rows, w, t, base, k, besides)
+    let k = collect(w, e, t, base, n - 1, start, m, most)?;
+    finish(types, w, t, base, k, besides)
 }
 
 // Joins the tree at `start`: a sequence of the same type, or else one element. What comes behind the scope is then what extract takes, unless the sequence is
 // of itself.
 fn join(
-    heads: &[u32; HEADS],
-    rows: &[u8; ROWS],
+    types: &Types,
     w: &mut [u32],
     base: usize,
     n: usize,
     start: usize,
     under: usize,
     besides: usize,
-) -> Placed
+) -> Result<usize, Halt>
     requires { (1 ≤ n) × (n ≤ 2048) × (start < 2 ^ 32) × (under ≤ 2048) × (besides ≤ 6144) × (base + 4096 ≤ length w.old) }
-    ensures { Joins heads.now rows.now w.old w.new base n start under besides result }
+    ensures { Joins types.now w.old w.new base n start under besides result }
 {
     let t = marks::type_in(words::word(w, base));
-    if tables::child(rows, t, 0, 0) == t {
+    if types.child(t, 0, 0) == t {
         let m = arena::nodes_at(w, start, base);
-        return join_sequence(heads, rows, w, base, n, start, m, under, besides);
+        return join_sequence(types, w, base, n, start, m, under, besides);
     }
-    extract(heads, rows, w, base, n, start, under, besides)
+    extract(types, w, base, n, start, under, besides)
 }
 
 // Cuts the first k elements off the sequence of n nodes at base; how many nodes are left.
@@ -248,17 +205,9 @@ fn cut_front(w: &mut [u32], base: usize, n: usize, k: usize) -> usize
     left
 }
 
-// The first number less the second, or 0.
-fn less(a: usize, b: usize) -> usize
-    ensures { result ≡ a - b }
-{
-    if a < b { 0 } else { a - b }
-}
-
 // Selects the elements from a to b, counted from 1.
 fn select(
-    heads: &[u32; HEADS],
-    rows: &[u8; ROWS],
+    types: &Types,
     w: &mut [u32],
     base: usize,
     n: usize,
@@ -266,51 +215,55 @@ fn select(
     b: usize,
     under: usize,
     besides: usize,
-) -> Placed
+) -> Result<usize, Halt>
     requires { (n ≤ 2048) × (base < 2 ^ 32) × (under ≤ 2048) × (besides + n ≤ 6144) × (base + 4096 ≤ length w.old) }
-    ensures { Selects heads.now rows.now w.old w.new base n a b under besides result }
+    ensures { Selects types.now w.old w.new base n a b under besides result }
 {
-    let skip = less(a, 1);
+    let skip = a.saturating_sub(1);
     let t = marks::type_in(words::word(w, base));
     let m = cut_front(w, base, n, skip);
-    let r = walk(w, base, m, less(b, skip));
+    let r = walk(w, base, m, b.saturating_sub(skip));
     let kept = r.node + 1;
-    if MOST_NODES < under + kept {
-        return stopped(42);
-    }
+    arena::check_nodes(under + kept)?;
     // Where nothing is cut off at the end, what is left stands marked.
     if kept == m {
-        return Placed {
-            stop: 0,
-            nodes: kept,
-        };
+        return Ok(kept);
     }
     loosen(w, base, r.node);
-    finish(heads, rows, w, t, base, r.node, besides)
+    finish(types, w, t, base, r.node, besides)
 }
 
 // The number of elements of the sequence at `start`, in hundredths, as the value of the number at base.
-fn count(w: &mut [u32], base: usize, start: usize, under: usize, besides: usize) -> Placed
+fn count(
+    w: &mut [u32],
+    base: usize,
+    start: usize,
+    under: usize,
+    besides: usize,
+) -> Result<usize, Halt>
     requires { (start < 2 ^ 32) × (under ≤ 2048) × (besides ≤ 6144) × (base + 2 ≤ length w.old) }
     ensures { Counts w.old w.new base start under besides result }
 {
     let m = arena::nodes_at(w, start, base);
     let r = walk(w, start, m, m);
-    if MOST_NODES < under + 1 {
-        return stopped(42);
-    }
-    if MOST_LIVE < besides + 1 {
-        return stopped(44);
-    }
+    arena::check_nodes(under + 1)?;
+    arena::check_live(besides + 1)?;
     w[base + 1] = (100 * r.passed) as u32;
-    Placed { stop: 0, nodes: 1 }
+    Ok(1)
+}
+
+// The position that the number at `start` stands for.
+fn position(w: &[u32], start: usize) -> usize
+    requires { start < 2 ^ 32 }
+    ensures { result ≡ get_or w.now (start + 1) 0 / 100 }
+{
+    (words::word(w, start + 1) / 100) as usize
 }
 
 // What the operation makes of the tree of n nodes at base, with the trees at `first` and `second`, below, as arguments: it takes the tree's place, or is stopped by 42,
 // 43 or 44. The tree under way has so many nodes so far, and so many are live besides.
 pub fn edit(
-    heads: &[u32; HEADS],
-    rows: &[u8; ROWS],
+    types: &Types,
     w: &mut [u32],
     op: u32,
     base: usize,
@@ -319,29 +272,29 @@ pub fn edit(
     second: usize,
     under: usize,
     besides: usize,
-) -> Placed
+) -> Result<usize, Halt>
     requires { (n ≤ 2048) × (first < 2 ^ 32) × (second < 2 ^ 32) × (under ≤ 2048) × (besides + n ≤ 6144) × (base ≤ 2 * besides) × (16384 ≤ length w.old) }
-    ensures { Edits heads.now rows.now w.old w.new op base n first second under besides result }
+    ensures { Edits types.now w.old w.new op base n first second under besides result }
 {
     if n == 0 {
-        return stopped(42);
+        return Err(Halt::new(Stop::TooManyNodes));
     }
-    if op == JOIN {
-        return join(heads, rows, w, base, n, first, under, besides);
+    match op {
+        JOIN => join(types, w, base, n, first, under, besides),
+        COUNT => count(w, base, first, under, besides),
+        EXTRACT => extract(types, w, base, n, first, under, besides),
+        HEAD => {
+            let a = position(w, first);
+            select(types, w, base, n, 1, a, under, besides)
+        }
+        TAIL => {
+            let a = position(w, first);
+            select(types, w, base, n, a, n, under, besides)
+        }
+        _ => {
+            let a = position(w, first);
+            let b = position(w, second);
+            select(types, w, base, n, a, b, under, besides)
+        }
     }
-    if op == COUNT {
-        return count(w, base, first, under, besides);
-    }
-    if op == EXTRACT {
-        return extract(heads, rows, w, base, n, first, under, besides);
-    }
-    let a = words::wide(words::word(w, first + 1) / 100);
-    if op == HEAD {
-        return select(heads, rows, w, base, n, 1, a, under, besides);
-    }
-    if op == TAIL {
-        return select(heads, rows, w, base, n, a, n, under, besides);
-    }
-    let b = words::wide(words::word(w, second + 1) / 100);
-    select(heads, rows, w, base, n, a, b, under, besides)
 }

@@ -3,7 +3,7 @@ use Prim.Native.Nat.{ℕ, zero, suc, ◌+◌, ◌*◌, ◌/◌, ◌<◌, ◌≤�
 use mathlib.Core.Path.{◌≡◌, refl, ap, ◌∙◌}
 use mathlib.Core.List.{List, [], ◌∷◌, ◌++◌}
 use native.Mathlib.Omega.{arith}
-use lib.ListN.{length, get_or, drop, set, length-set}
+use lib.ListN.{length, get_or, drop, set}
 use Rattle.words.specs.Reader.{Words}
 use Rattle.words.proofs.Stretches.{over, over_store, over_all}
 use Rattle.grammar.specs.Grammar.{Grammar}
@@ -40,30 +40,21 @@ plain_value (t ∷ v ∷ c ∷ ws) (suc i) h =
     let b : 2 * suc i + 1 ≡ suc (suc (2 * i + 1)) = omega arith in
     rw (a, b) (plain_value ws i (omega arith))
 
--- i nodes of the tree are there
-pub record UncountLoop (slip b₀ b : Words) (i : ℕ) : Type 0 where
-  pub inside : i ≤ length slip / 3
-  pub long : length b ≡ length b₀
-  pub words : b ≡ over (uncounted slip) b₀ (2 * i)
-
-module _ (slip b₀ b : Words) (i : ℕ) (l : UncountLoop slip b₀ b i) (room : 2 * (length slip / 3) ≤ length b₀) where
-  pub uncount_more : i < length slip / 3 → UncountLoop slip b₀ (set (set b (2 * i) (get_or slip (3 * i) 0)) (2 * i + 1) (get_or slip (3 * i + 1) 0)) (i + 1)
+-- in a loop that has copied i nodes of the tree
+module _ (slip b₀ b : Words) (i : ℕ) (l : b ≡ over (uncounted slip) b₀ (2 * i)) (room : 2 * (length slip / 3) ≤ length b₀) where
+  pub uncount_more : i < length slip / 3 → set (set b (2 * i) (get_or slip (3 * i) 0)) (2 * i + 1) (get_or slip (3 * i + 1) 0) ≡ over (uncounted slip) b₀ (2 * (i + 1))
   uncount_more h =
       let n = uncounted_length slip in
-      let one = over_store (uncounted slip) b₀ b (2 * i) (get_or slip (3 * i) 0) l.words (plain_type slip i h) (omega arith) (omega arith) in
+      let one = over_store (uncounted slip) b₀ b (2 * i) (get_or slip (3 * i) 0) l (plain_type slip i h) (omega arith) (omega arith) in
       let two = over_store (uncounted slip) b₀ (set b (2 * i) (get_or slip (3 * i) 0)) (2 * i + 1) (get_or slip (3 * i + 1) 0) one (plain_value slip i h) (omega arith) (omega arith) in
       let z : 2 * i + 1 + 1 ≡ 2 * (i + 1) = omega arith in
-      record {
-        inside = omega arith;
-        long = length-set (set b (2 * i) (get_or slip (3 * i) 0)) (2 * i + 1) (get_or slip (3 * i + 1) 0) ∙ length-set b (2 * i) (get_or slip (3 * i) 0) ∙ l.long;
-        words = two ∙ ap (over (uncounted slip) b₀) z;
-      }
+      two ∙ ap (over (uncounted slip) b₀) z
 
-  pub uncount_end : length slip / 3 ≤ i → b ≡ uncounted slip ++ drop (2 * (length slip / 3)) b₀
-  uncount_end h =
+  pub uncount_end : i ≤ length slip / 3 → length slip / 3 ≤ i → b ≡ uncounted slip ++ drop (2 * (length slip / 3)) b₀
+  uncount_end low high =
       let n = uncounted_length slip in
-      let z : 2 * i ≡ length (uncounted slip) = omega (arith, l.inside) in
-      l.words ∙ over_all (uncounted slip) b₀ (2 * i) z ∙ rw n
+      let z : 2 * i ≡ length (uncounted slip) = omega arith in
+      l ∙ over_all (uncounted slip) b₀ (2 * i) z ∙ rw n
 
 -- THE COUNTS PUT ON
 
@@ -106,36 +97,27 @@ slip_node (w ∷ v ∷ ws) (suc i) h =
     let b₂ : 3 * suc i + 2 ≡ suc (suc (suc (3 * i + 2))) = omega arith in
     record { type = rw (a, b) n.type; value = rw (a₁, b₁) n.value; count = rw (a, b₂) n.count }
 
--- i nodes of the slip are there
-pub record WriteLoop (part r₀ r : Words) (i : ℕ) : Type 0 where
-  pub inside : i ≤ length part / 2
-  pub long : length r ≡ length r₀
-  pub words : r ≡ over (slip_of part) r₀ (3 * i)
-
-module _ (part r₀ r : Words) (i : ℕ) (l : WriteLoop part r₀ r i) (room : 3 * (length part / 2) ≤ length r₀) where
+-- in a loop that has written i nodes of the slip
+module _ (part r₀ r : Words) (i : ℕ) (l : r ≡ over (slip_of part) r₀ (3 * i)) (room : 3 * (length part / 2) ≤ length r₀) where
   pub write_more : i < length part / 2 → (t c : ℕ) → t ≡ type_in (get_or part (2 * i) 0) → c ≡ size_in (get_or part (2 * i) 0)
-      → WriteLoop part r₀ (set (set (set r (3 * i) t) (3 * i + 1) (get_or part (2 * i + 1) 0)) (3 * i + 2) c) (i + 1)
+      → set (set (set r (3 * i) t) (3 * i + 1) (get_or part (2 * i + 1) 0)) (3 * i + 2) c ≡ over (slip_of part) r₀ (3 * (i + 1))
   write_more h t c et ec =
       let n = slip_length part in
       let says = slip_node part i h in
       let v = get_or part (2 * i + 1) 0 in
       let z : 3 * i + 1 + 1 ≡ 3 * i + 2 = omega arith in
       let y : 3 * i + 2 + 1 ≡ 3 * (i + 1) = omega arith in
-      let one = over_store (slip_of part) r₀ r (3 * i) t l.words (et ∙ says.type) (omega arith) (omega arith) in
+      let one = over_store (slip_of part) r₀ r (3 * i) t l (et ∙ says.type) (omega arith) (omega arith) in
       let two = over_store (slip_of part) r₀ (set r (3 * i) t) (3 * i + 1) v one says.value (omega arith) (omega arith) ∙ ap (over (slip_of part) r₀) z in
       let three = over_store (slip_of part) r₀ (set (set r (3 * i) t) (3 * i + 1) v) (3 * i + 2) c two (ec ∙ says.count) (omega arith) (omega arith) in
-      record {
-        inside = omega arith;
-        long = length-set (set (set r (3 * i) t) (3 * i + 1) v) (3 * i + 2) c ∙ length-set (set r (3 * i) t) (3 * i + 1) v ∙ length-set r (3 * i) t ∙ l.long;
-        words = three ∙ ap (over (slip_of part) r₀) y;
-      }
+      three ∙ ap (over (slip_of part) r₀) y
 
-  pub write_end : length part / 2 ≤ i → SlipWritten part r₀ r
-  write_end h = record { long = l.long; words = words }
+  pub write_end : length r ≡ length r₀ → i ≤ length part / 2 → length part / 2 ≤ i → SlipWritten part r₀ r
+  write_end long low high = record { long = long; words = words }
     where
       words : (g : Grammar) (ts : List ℕ) (ws : Words) → length g ≤ 64 → Trees g ts ws → size ws ≤ 2048 → part ≡ marked g ws → r ≡ counted g ws ++ drop (length (counted g ws)) r₀
       words g ts ws few q s e =
           let n : length part ≡ 2 * size ws = ap length e ∙ marked_length g ws ∙ trees_even q in
-          let z : 3 * i ≡ length (counted g ws) = omega (arith, l.inside, counted_length g ws) in
+          let z : 3 * i ≡ length (counted g ws) = omega (arith, counted_length g ws) in
           let same : slip_of part ≡ counted g ws = ap slip_of e ∙ slip_marks few s q in
-          l.words ∙ ap (λ k. over k r₀ (3 * i)) same ∙ over_all (counted g ws) r₀ (3 * i) z
+          l ∙ ap (λ k. over k r₀ (3 * i)) same ∙ over_all (counted g ws) r₀ (3 * i) z

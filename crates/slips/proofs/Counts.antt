@@ -3,13 +3,13 @@ use Prim.Native.Nat.{ℕ, suc, ◌+◌, ◌*◌, ◌/◌, ◌<◌, ◌≤◌}
 use mathlib.Core.Path.{◌≡◌, refl, sym, ap, ◌∙◌}
 use mathlib.Core.List.{List, [], ◌∷◌, ◌++◌}
 use native.Mathlib.Omega.{arith}
-use lib.ListN.{length, get_or, drop, length-drop}
+use lib.ListN.{length, get_or, drop, length-append}
 use lib.Seq.{drop-cons}
 use lib.Dec.{eqb}
 use borrow.Author.Tests.{eq-eqb, ne_eqb}
 use Rattle.words.specs.Reader.{Words, pick, value, refused}
+use Rattle.std.specs.Prelude.{Ok, Err}
 use Rattle.words.specs.Views.{answer}
-use Rattle.words.specs.declared.Check.TheVariants.{Passed, Refused}
 use Rattle.words.proofs.Stretches.{drop_pair}
 use Rattle.grammar.specs.Grammar.{Grammar}
 use Rattle.grammar.specs.Kinds.{children}
@@ -47,15 +47,11 @@ counts_marks g us (t ∷ v ∷ c ∷ ws) at few s r =
 
 -- THE LOOP THAT HOLDS THEM AGAINST THE MARKS
 
--- the first i counts are right
-pub record CountLoop (slip part : Words) (i : ℕ) : Type 0 where
-  pub inside : i ≤ length slip / 3
-  pub rest : answer (counts_as slip part 0) ≡ answer (counts_as (drop (3 * i) slip) (drop (2 * i) part) (3 * i))
-
-pub drop_three : (ws : Words) (i : ℕ) → 3 * i + 3 ≤ length ws → drop (3 * i) ws ≡ get_or ws (3 * i) 0 ∷ get_or ws (3 * i + 1) 0 ∷ get_or ws (3 * i + 2) 0 ∷ drop (3 * (i + 1)) ws
-drop_three ws i h =
-    let z : suc (3 * i + 2) ≡ 3 * (i + 1) = omega arith in
-    drop_pair ws (3 * i) (omega arith) ∙ ap (λ l. get_or ws (3 * i) 0 ∷ get_or ws (3 * i + 1) 0 ∷ l) (drop-cons ws (3 * i + 2) 0 (omega arith) ∙ ap (λ k. get_or ws (3 * i + 2) 0 ∷ drop k ws) z)
+-- the first i counts are right: what is left of the reading is that of the words that are left
+pub record CountsLeft (slip part ws marks : Words) (i : ℕ) : Type 0 where
+  pub left : answer (counts_as slip part 0) ≡ answer (counts_as ws marks (3 * i))
+  pub nodes : i + length ws / 3 ≡ length slip / 3
+  pub pairs : 2 * (length ws / 3) ≤ length marks
 
 few_left : (slip part : Words) (at : ℕ) → length slip < 3 → counts_as slip part at ≡ value tt at
 unfolding counts_as
@@ -64,20 +60,41 @@ few_left (t ∷ []) part at h = refl
 few_left (t ∷ v ∷ []) part at h = refl
 few_left (t ∷ v ∷ c ∷ ws) part at h = absurd (omega arith)
 
-module _ (slip part : Words) (i : ℕ) (l : CountLoop slip part i) (room : 2 * (length slip / 3) ≤ length part) where
-  module _ (more : i < length slip / 3) where
-    count_here : answer (counts_as slip part 0) ≡ answer (pick (eqb (get_or slip (3 * i + 2) 0) (size_in (get_or part (2 * i) 0))) (counts_as (drop (3 * (i + 1)) slip) (drop (2 * i + 2) part) (3 * i + 3)) (refused 34 (3 * i + 2)))
-    unfolding counts_as
-    count_here = l.rest ∙ rw (drop_three slip i (omega arith), drop_pair part (2 * i) (omega arith))
+one_count : (node pair ws marks : Words) (at : ℕ) → length node ≡ 3 → length pair ≡ 2
+    → counts_as (node ++ ws) (pair ++ marks) at ≡ pick (eqb (get_or node 2 0) (size_in (get_or pair 0 0))) (counts_as ws marks (at + 3)) (refused 34 (at + 2))
+unfolding counts_as
+one_count (t ∷ v ∷ c ∷ []) (w ∷ u ∷ []) ws marks at h k = refl
+one_count [] pair ws marks at h k = absurd (omega arith)
+one_count (t ∷ []) pair ws marks at h k = absurd (omega arith)
+one_count (t ∷ v ∷ []) pair ws marks at h k = absurd (omega arith)
+one_count (t ∷ v ∷ c ∷ d ∷ node) pair ws marks at h k = absurd (omega arith)
+one_count (t ∷ v ∷ c ∷ []) [] ws marks at h k = absurd (omega arith)
+one_count (t ∷ v ∷ c ∷ []) (w ∷ []) ws marks at h k = absurd (omega arith)
+one_count (t ∷ v ∷ c ∷ []) (w ∷ u ∷ x ∷ pair) ws marks at h k = absurd (omega arith)
 
-    pub count_wrong : (c n : ℕ) → c ≡ get_or slip (3 * i + 2) 0 → n ≡ size_in (get_or part (2 * i) 0) → (c ≡ n → ⊥) → Refused 34 (3 * i + 2) ≡ answer (counts_as slip part 0)
-    count_wrong c n ec en h = sym (count_here ∙ rw (sym ec, sym en, ne_eqb c n h))
+module _ {slip part ws marks : Words} {i : ℕ} (l : CountsLeft slip part ws marks i) where
+  module _ (node rest pair others : Words) (ew : ws ≡ node ++ rest) (three : length node ≡ 3) (em : marks ≡ pair ++ others) (two : length pair ≡ 2) where
+    count_here : answer (counts_as slip part 0) ≡ answer (pick (eqb (get_or node 2 0) (size_in (get_or pair 0 0))) (counts_as rest others (3 * i + 3)) (refused 34 (3 * i + 2)))
+    count_here = l.left ∙ rw (ew, em) (ap answer (one_count node pair rest others (3 * i) three two))
 
-    pub count_more : (c n : ℕ) → c ≡ get_or slip (3 * i + 2) 0 → n ≡ size_in (get_or part (2 * i) 0) → c ≡ n → CountLoop slip part (i + 1)
-    count_more c n ec en h =
-        let a : 3 * i + 3 ≡ 3 * (i + 1) = omega arith in
-        let b : 2 * i + 2 ≡ 2 * (i + 1) = omega arith in
-        record { inside = omega arith; rest = count_here ∙ rw (sym ec, sym en, eq-eqb c n h, a, b) }
+    pub count_wrong : {n : ℕ} → n ≡ size_in (get_or pair 0 0) → (get_or node 2 0 ≡ n → ⊥) → Err (34, 3 * i + 2) ≡ answer (counts_as slip part 0)
+    count_wrong {n} en h = sym (count_here ∙ rw (sym en, ne_eqb (get_or node 2 0) n h))
 
-  pub count_end : length slip / 3 ≤ i → Passed (3 * i) ≡ answer (counts_as slip part 0)
-  count_end h = sym (l.rest ∙ rw (few_left (drop (3 * i) slip) (drop (2 * i) part) (3 * i) (omega (arith, length-drop (3 * i) slip, l.inside))))
+    pub count_more : {n : ℕ} → n ≡ size_in (get_or pair 0 0) → get_or node 2 0 ≡ n → CountsLeft slip part rest others (i + 1)
+    count_more {n} en h =
+        let z : 3 * i + 3 ≡ 3 * (i + 1) = omega arith in
+        let a = ap length ew ∙ length-append node rest in
+        let b = ap length em ∙ length-append pair others in
+        record { left = count_here ∙ rw (sym en, eq-eqb (get_or node 2 0) n h, z); nodes = omega (arith, l.nodes); pairs = omega (arith, l.pairs) }
+
+  pub count_end : length ws < 3 → Ok (3 * (length slip / 3)) ≡ answer (counts_as slip part 0)
+  count_end h =
+      let same : length slip / 3 ≡ i = omega (arith, l.nodes) in
+      rw same (sym (l.left ∙ rw (few_left ws marks (3 * i) h)))
+
+-- THREE WORDS OF A SLIP
+
+pub drop_three : (ws : Words) (i : ℕ) → 3 * i + 3 ≤ length ws → drop (3 * i) ws ≡ get_or ws (3 * i) 0 ∷ get_or ws (3 * i + 1) 0 ∷ get_or ws (3 * i + 2) 0 ∷ drop (3 * (i + 1)) ws
+drop_three ws i h =
+    let z : suc (3 * i + 2) ≡ 3 * (i + 1) = omega arith in
+    drop_pair ws (3 * i) (omega arith) ∙ ap (λ l. get_or ws (3 * i) 0 ∷ get_or ws (3 * i + 1) 0 ∷ l) (drop-cons ws (3 * i + 2) 0 (omega arith) ∙ ap (λ k. get_or ws (3 * i + 2) 0 ∷ drop k ws) z)

@@ -1,6 +1,6 @@
 -- Laws of the tables and of the lookups in them, over plain variables. Assumes nothing.
 use Prim.Native.Nat.{ℕ, suc, ◌+◌, ◌*◌, ◌<◌, ◌≤◌}
-use mathlib.Core.Path.{◌≡◌, refl, sym, ap}
+use mathlib.Core.Path.{◌≡◌, refl, sym}
 use mathlib.Core.List.{List, [], ◌∷◌}
 use mathlib.Core.Bool.{Bool, true, false, not}
 use native.Mathlib.Omega.{arith}
@@ -13,7 +13,7 @@ use Rattle.grammar.specs.Grammar.{repeat, list, Kind, token, opt, sequence, form
 use Rattle.grammar.specs.Kinds.{kind_of, allowed, children_of, children, is_sequence_kind, is_sequence, is_number_kind, is_number, is_text_kind, is_text, forms_of}
 use Rattle.grammar.specs.Values.{values_of}
 use Rattle.grammar.proofs.Values.{values_allow}
-use Rattle.tables.specs.Tables.{map_of, is_token, Heads, Rows, row_at, Counted}
+use Rattle.tables.specs.Tables.{map_of, is_token, Heads, Rows, row_at}
 
 -- A TYPE THAT IS NOT THERE
 
@@ -107,6 +107,3 @@ module _ (g : Grammar) (rows : List ℕ) (rs : Rows g rows) (t v : ℕ) where
 
   pub child_out : (n : ℕ) → 8 ≤ n → 0 ≡ get_or (children g t v) n 0
   child_out n h = sym (get_or-eq_default (children g t v) 0 {n = n} (omega (arith, rs.most t v)))
-
-pub none_counted : (rows : List ℕ) (t v : ℕ) → ((g : Grammar) → Rows g rows → children g t v ≡ []) → Counted rows t v 0
-none_counted rows t v h = record { small = omega arith; count = λ g rs. ap length (sym (h g rs)) }

@@ -283,3 +283,20 @@ filled_tables ws g heads₀ rows₀ heads rows d eh er h r =
     let s = kinds_small ws (type_count ws) (type_count ws) 1 g d.next d.records in
     let l : length g ≤ 64 = omega (arith, decoded_length ws g d, d.high) in
     record { heads_of = rw (h, eh) (heads_shown g s l); rows_of_lem = rw (r, er) (rows_shown g s l) }
+
+-- the tables of no types are all zero
+zeros : (n i : ℕ) → ◌≡◌ {A = ℕ} (get_or (replicate n 0) i 0) 0
+zeros zero i = refl
+zeros (suc n) zero = refl
+zeros (suc n) (suc i) = zeros n i
+
+no_row : (t v : ℕ) → children [] t v ≡ []
+unfolding children children_of kind_of
+no_row t v = refl
+
+pub blank_tables : Tables [] (replicate 128 0) (replicate 9216 0)
+unfolding kind_of map_of values_of forms_of
+blank_tables = record {
+  heads_of = record { types = omega arith; forms = λ t. omega arith; map = λ t h. zeros 128 (t * 2); values = λ t h. zeros 128 (t * 2 + 1) };
+  rows_of_lem = record { types = omega arith; values = λ t v h. no_row t v; most = λ t v. rw (no_row t v) (omega arith); row = λ t v i ht hv hi. zeros 9216 (row_at t v + i) ∙ rw (no_row t v) (sym (zeros 1 i)) };
+}

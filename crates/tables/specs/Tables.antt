@@ -36,23 +36,14 @@ pub record Rows (g : Grammar) (rows : List ℕ) : Type 0 where
   pub most : (t v : ℕ) → length (children g t v) ≤ most_elements
   pub row : (t v i : ℕ) → t < most_types → v < most_forms → i ≤ most_elements → get_or rows (row_at t v + i) 0 ≡ get_or (length (children g t v) ∷ children g t v) i 0
 
--- what holds of every grammar whose tables these are
-abbrev pub InHeads : List ℕ → (Grammar → Type 0) → Type 0
-InHeads heads P = (g : Grammar) → Heads g heads → P g
-
--- .. whose rows these are
-abbrev pub InRows : List ℕ → (Grammar → Type 0) → Type 0
-InRows rows P = (g : Grammar) → Rows g rows → P g
-
--- how many children a node has: never more than an entry can say
-pub record Counted (rows : List ℕ) (t v r : ℕ) : Type 0 where
-  pub small : r ≤ 255
-  pub count : InRows rows (λ g. r ≡ length (children g t v))
-
 -- the tables of the grammar
 pub record Tables (g : Grammar) (heads rows : List ℕ) : Type 0 where
   pub heads_of : Heads g heads
   pub rows_of_lem : Rows g rows
+
+-- they are the tables of some grammar of so many types
+abbrev pub AreTables : List ℕ → List ℕ → ℕ → Type 0
+AreTables heads rows count = (g : Grammar) × Tables g heads rows × (length g ≡ count)
 
 -- the grammar that was read; none where it was refused
 abbrev pub read_of : Read Grammar → Grammar

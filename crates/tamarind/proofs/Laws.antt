@@ -7,54 +7,35 @@ use mathlib.Core.Bool.{Bool}
 use lib.ListN.{length, drop}
 use lib.Seq.{take_at}
 use Rattle.words.specs.Reader.{Words, Read, value, refused}
+use Rattle.std.specs.Prelude.{Result}
 use Rattle.words.specs.Views.{answer}
-use Rattle.words.specs.declared.Check.{Check}
-use Rattle.words.specs.declared.Check.TheVariants.{Passed, Refused}
 use Rattle.tamarind.specs.declared.Answer.{Answer}
 use Rattle.meaning.specs.Meaning.{done, stopped, cannot_go_on}
 use Rattle.meaning.specs.Outcome.{Inputs, ended, outcome, result_after, filled_by}
 use Rattle.meaning.specs.Outcome as Meant
 use Rattle.meaning.specs.Runs.{Memories, Ran}
 use Rattle.convert.specs.Conversion.{conversion, Converts}
-use Rattle.convert.specs.declared.Converted.{Converted}
-use Rattle.convert.specs.declared.Converted.TheVariants.{Filled, Refusal}
-use Rattle.tamarind.specs.declared.Stop.{Stop}
-use Rattle.tamarind.specs.declared.Counts.{Counts}
+use Rattle.convert.specs.declared.refusal.ConversionRefusal.{ConversionRefusal}
 use Rattle.tamarind.specs.declared.RunAnswer.{RunAnswer}
 use Rattle.tamarind.specs.declared.ConversionAnswer.{ConversionAnswer}
 use Rattle.tamarind.specs.declared.Outcome.{Outcome}
 use Rattle.tamarind.specs.declared.Outcome.TheVariants as Run
-use Rattle.tamarind.specs.Run.{number_of, said, filled_of, Runs}
+use Rattle.meaning.specs.Stops.{number_of}
+use Rattle.tamarind.specs.Run.{said, filled_of, Runs}
 use Rattle.tamarind.specs.Exports.{exported, exported_check, exported_counts, exported_run, exported_outcome, said_exported, RunExported, exported_converted, ConversionExported}
 
 export_answer : {A : Type 0} (q : Read A) → exported_check (answer q) ≡ exported q
 export_answer (value a next) = refl
 export_answer (refused n p) = refl
 
-pub export_check : {A : Type 0} (q : Read A) (c : Check) (r : Answer) → c ≡ answer q → r ≡ exported_check c → r ≡ exported q
+pub export_check : {A : Type 0} (q : Read A) (c : Result ℕ (ℕ × ℕ)) (r : Answer) → c ≡ answer q → r ≡ exported_check c → r ≡ exported q
 export_check q c r e f = f ∙ ap exported_check e ∙ export_answer q
-
-pub export_passed : (c : Check) {p : ℕ} → c ≡ Passed p → record { number = 0; position = 0 } ≡ exported_check c
-export_passed c e = rw e
-
-pub export_refused : (c : Check) {n p : ℕ} → c ≡ Refused n p → record { number = n; position = p } ≡ exported_check c
-export_refused c e = rw e
 
 -- A RUN
 
-module _ (o : Outcome) where
-  pub run_refused : {n p : ℕ} → o ≡ Run.Refused n p → record { ending = 2; number = n; position = p; attempts = 0; replacements = 0; filled = 0 } ≡ exported_outcome o
-  run_refused e = rw e
-
-  pub run_done : {c : Counts} {r : RunAnswer} → o ≡ Run.Done c → r ≡ exported_counts 0 0 c.attempts c.replacements c.filled → r ≡ exported_outcome o
-  run_done e f = f ∙ rw e
-
-  pub run_stopped : {s : Stop} {c : Counts} {n : ℕ} {r : RunAnswer} → o ≡ Run.Stopped s c → n ≡ number_of s → r ≡ exported_counts 1 n c.attempts c.replacements c.filled → r ≡ exported_outcome o
-  run_stopped e k f = f ∙ rw (k, e)
-
 exported_said : (o : Outcome) (result : List ℕ) → filled_of o ≡ length (filled_by (said o result)) → exported_outcome o ≡ exported_run (said o result)
 unfolding exported_run filled_by
-exported_said (Run.Refused n p) result h = refl
+exported_said (Run.Refused x) result h = refl
 exported_said (Run.Done c) result h = ap (exported_counts 0 0 c.attempts c.replacements) h
 exported_said (Run.Stopped s c) result h = ap (exported_counts 1 (number_of s) c.attempts c.replacements) h
 
@@ -83,12 +64,5 @@ exported_ran x before r after h =
 
 -- A CONVERSION
 
-module _ (c : Converted) where
-  pub conversion_filled : {n : ℕ} → c ≡ Filled n → record { number = 0; position = 0; grammar = 0; filled = n } ≡ exported_converted c
-  conversion_filled e = rw e
-
-  pub conversion_refused : {which n p : ℕ} → c ≡ Refusal which n p → record { number = n; position = p; grammar = which; filled = 0 } ≡ exported_converted c
-  conversion_refused e = rw e
-
-  pub conversion_exported : {edition : Bool} {olds news ts ss before after : Words} {r : ConversionAnswer} → Converts (conversion edition (length before) olds news ts ss) before after c → r ≡ exported_converted c → ConversionExported edition olds news ts ss before after r
-  conversion_exported d e = record { answered = e ∙ ap exported_converted d.answered; result = d.result }
+pub conversion_exported : {edition : Bool} {olds news ts ss before after : Words} (c : Result ℕ ConversionRefusal) {r : ConversionAnswer} → Converts (conversion edition (length before) olds news ts ss) before after c → r ≡ exported_converted c → ConversionExported edition olds news ts ss before after r
+conversion_exported c d e = record { answered = e ∙ ap exported_converted d.answered; result = d.result }

@@ -14,14 +14,15 @@ use Rattle.meaning.specs.Outcome.{Inputs, refused, ended, outcome, result_after,
 use Rattle.meaning.specs.Runs.{Memories, Ran, step_of, Each, Sure, Fine, zeroed}
 use Rattle.meaning.proofs.FromWords.{outcome_sure}
 use Rattle.meaning.proofs.Runs.{one_after_another}
-use Rattle.tamarind.specs.declared.Stop.{Stop}
-use Rattle.tamarind.specs.declared.Stop.TheVariants.{BudgetSpent, CallsTooDeep, TooManyNodes, NestsTooDeep, TooManyLiveNodes, OutOfRange}
+use Rattle.meaning.specs.declared.Stop.{Stop}
+use Rattle.meaning.specs.declared.Stop.TheVariants.{BudgetSpent, CallsTooDeep, TooManyNodes, NestsTooDeep, TooManyLiveNodes, OutOfRange}
 use Rattle.tamarind.specs.declared.Counts.{Counts}
 use Rattle.tamarind.specs.declared.RunAnswer.{RunAnswer}
 use Rattle.tamarind.specs.declared.Outcome.{Outcome}
 use Rattle.tamarind.specs.declared.Outcome.TheVariants.{Refused, Done, Stopped}
 use Rattle.tamarind.specs.Run as Run
-use Rattle.tamarind.specs.Run.{number_of, filled_of}
+use Rattle.meaning.specs.Stops.{number_of}
+use Rattle.tamarind.specs.Run.{filled_of}
 use Rattle.tamarind.specs.Exports.{exported_run, exported_outcome, said_exported, RunExported}
 use Rattle.tamarind.specs.Pad.{Callable, run, tamarind_run, AnswerOf, Ensures, fields, PadRun, RunOn, EachOf, filled_words, was_done, Own, step_for, Pad, CanRun}
 use Rattle.tamarind.proofs.Laws.{run_exported, exported_ran}
@@ -43,11 +44,11 @@ abbrev counts_of : RunAnswer → Counts
 counts_of r = record { attempts = r.attempts; replacements = r.replacements; filled = r.filled }
 
 abbrev answer_of : (f : Callable) → RunAnswer → AnswerOf f
-answer_of run r = pick (eqb r.ending 0) (Done (counts_of r)) (pick (eqb r.ending 1) (Stopped (cause_of r.number) (counts_of r)) (Refused r.number r.position))
+answer_of run r = pick (eqb r.ending 0) (Done (counts_of r)) (pick (eqb r.ending 1) (Stopped (cause_of r.number) (counts_of r)) (Refused (r.number, r.position)))
 answer_of tamarind_run r = r
 
 enum_of_fields : (a : Outcome) → answer_of run (exported_outcome a) ≡ a
-enum_of_fields (Refused n p) = refl
+enum_of_fields (Refused x) = refl
 enum_of_fields (Done c) = refl
 enum_of_fields (Stopped s c) = ap (λ t. Stopped t c) (cause_of_number s)
 

@@ -1,23 +1,22 @@
 -- What the exported functions hand back. Assumes nothing: these are definitions.
 use Rattle.std.specs.Prelude.{ℕ, ◌≤◌, ◌≡◌, Bool, length, take, eqb, leb}
 use Rattle.words.specs.Reader.{Words, pick, and, Read, value, refused}
-use Rattle.words.specs.declared.Check.{Check}
-use Rattle.words.specs.declared.Check.TheVariants.{Passed, Refused}
+use Rattle.std.specs.Prelude.{Result, Ok, Err}
 use Rattle.meaning.specs.Meaning.{Ending, done, stopped, cannot_go_on}
 use Rattle.meaning.specs.Outcome.{Inputs, Outcome, ended, outcome, result_after, work_after, output}
 use Rattle.meaning.specs.Outcome as Meant
 use Rattle.meaning.specs.Runs.{Memories}
 use Rattle.convert.specs.Conversion.{conversion, converted_as}
 use Rattle.convert.specs.Conversion as Conversion
-use Rattle.convert.specs.declared.Converted.{Converted}
-use Rattle.convert.specs.declared.Converted.TheVariants.{Filled, Refusal}
+use Rattle.convert.specs.Refusals.{grammar_number}
+use Rattle.convert.specs.declared.refusal.ConversionRefusal.{ConversionRefusal}
 use Rattle.tamarind.specs.declared.Answer.{Answer}
 use Rattle.tamarind.specs.declared.RunAnswer.{RunAnswer}
 use Rattle.tamarind.specs.declared.ConversionAnswer.{ConversionAnswer}
 use Rattle.tamarind.specs.declared.Posting.{Posting}
 use Rattle.tamarind.specs.declared.Outcome as Code
 use Rattle.tamarind.specs.declared.Outcome.TheVariants as Run
-use Rattle.tamarind.specs.Run.{number_of}
+use Rattle.meaning.specs.Stops.{number_of}
 
 -- the paper's number and position of the refusal; 0 and 0 where nothing is refused
 abbrev pub exported : {A : Type 0} → Read A → Answer
@@ -25,9 +24,9 @@ exported (value a next) = record { number = 0; position = 0 }
 exported (refused n p) = record { number = n; position = p }
 
 -- the same of a check's answer
-abbrev pub exported_check : Check → Answer
-exported_check (Passed p) = record { number = 0; position = 0 }
-exported_check (Refused n p) = record { number = n; position = p }
+abbrev pub exported_check : Result ℕ (ℕ × ℕ) → Answer
+exported_check (Ok p) = record { number = 0; position = 0 }
+exported_check (Err x) = record { number = x.0; position = x.1 }
 
 -- A RUN
 
@@ -45,7 +44,7 @@ exported_run (ended cannot_go_on a k ws) = exported_counts 3 0 a k (length ws)
 
 -- the same of the answer of `run`
 abbrev pub exported_outcome : Code.Outcome → RunAnswer
-exported_outcome (Run.Refused n p) = record { ending = 2; number = n; position = p; attempts = 0; replacements = 0; filled = 0 }
+exported_outcome (Run.Refused x) = record { ending = 2; number = x.0; position = x.1; attempts = 0; replacements = 0; filled = 0 }
 exported_outcome (Run.Done c) = exported_counts 0 0 c.attempts c.replacements c.filled
 exported_outcome (Run.Stopped s c) = exported_counts 1 (number_of s) c.attempts c.replacements c.filled
 
@@ -66,9 +65,9 @@ pub record RunExported (x : Inputs) (before : Memories) (r : RunAnswer) (after :
 -- A CONVERSION
 
 -- a refusal's number and position and the grammar at fault, or the count of the words filled; 0 where there is none
-abbrev pub exported_converted : Converted → ConversionAnswer
-exported_converted (Filled n) = record { number = 0; position = 0; grammar = 0; filled = n }
-exported_converted (Refusal which n p) = record { number = n; position = p; grammar = which; filled = 0 }
+abbrev pub exported_converted : Result ℕ ConversionRefusal → ConversionAnswer
+exported_converted (Ok n) = record { number = 0; position = 0; grammar = 0; filled = n }
+exported_converted (Err x) = record { number = x.refusal.0; position = x.refusal.1; grammar = grammar_number x.grammar; filled = 0 }
 
 -- the edition of the slip, what was given, the result before and after, and the answer: all are the definition's
 pub record ConversionExported (edition : Bool) (olds news ts ss before after : Words) (r : ConversionAnswer) : Type 0 where

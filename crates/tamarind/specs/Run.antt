@@ -1,10 +1,10 @@
 -- WHAT `run` PROMISES: its answer is the meaning's outcome, and both memories afterwards are the meaning's too. Assumes nothing: these are definitions.
-use Rattle.std.specs.Prelude.{ℕ, ◌-◌, ◌/◌, ◌≤◌, ◌≡◌, length, take}
+use Rattle.std.specs.Prelude.{ℕ, ◌-◌, ◌/◌, ◌≡◌, length, take, Result, Err}
 use Rattle.words.specs.Reader.{Words, Read, value, and_then, return}
 use Rattle.words.specs.Views.{answer}
-use Rattle.words.specs.declared.Check.{Check}
 use Rattle.grammar.specs.Grammar.{read_grammar}
-use Rattle.tables.specs.Tables.{Tables}
+use Rattle.tables.specs.Types.{TypesOf}
+use Rattle.tables.specs.declared.types.Types.{Types}
 use Rattle.tree.specs.Slip.{read_slip}
 use Rattle.judgement.specs.Typing.{read_rules}
 use Rattle.meaning.specs.Meaning.{Ending, done, stopped}
@@ -14,37 +14,22 @@ use Rattle.meaning.specs.Runs.{Memories, Step, Ran}
 use Rattle.rewrite.specs.Arena.{Standing}
 use Rattle.calls.specs.declared.Called.{Called}
 use Rattle.calls.specs.Engine.{EndedAs}
-use Rattle.tamarind.specs.declared.Stop.{Stop}
-use Rattle.tamarind.specs.declared.Stop.TheVariants.{BudgetSpent, CallsTooDeep, TooManyNodes, NestsTooDeep, TooManyLiveNodes, OutOfRange}
+use Rattle.meaning.specs.Stops.{number_of}
+use Rattle.tamarind.specs.declared.Request as Asked
 use Rattle.tamarind.specs.declared.Outcome as Code
 use Rattle.tamarind.specs.declared.Outcome.TheVariants.{Refused, Done, Stopped}
 
 -- THE ANSWER, in the meaning's terms
 
--- "run (a stop)", 40 to 45: the number of each cause
-abbrev pub number_of : Stop → ℕ
--- "a trial is due and the budget is spent"
-number_of BudgetSpent = 40
--- "a 33rd nested call, main being the first"
-number_of CallsTooDeep = 41
--- "a tree would pass 2,048 nodes"
-number_of TooManyNodes = 42
--- "a finished tree's nesting would pass 64"
-number_of NestsTooDeep = 43
--- "held nodes would pass 6,144"
-number_of TooManyLiveNodes = 44
--- "an operation's result under 0 or over 999,999,999, or divisor 0"; over 4,000,000,000 by T-02
-number_of OutOfRange = 45
-
 -- the outcome that an answer says, with the result memory as it is afterwards: "The filled words are those from word 0, as many as the filled count"
 abbrev pub said : Code.Outcome → Words → Outcome
-said (Refused n p) result = refused n p
+said (Refused x) result = refused x.0 x.1
 said (Done c) result = ended done c.attempts c.replacements (take c.filled result)
 said (Stopped s c) result = ended (stopped (number_of s)) c.attempts c.replacements (take c.filled result)
 
 -- the "filled count" of an answer; 0 where it has none
 abbrev pub filled_of : Code.Outcome → ℕ
-filled_of (Refused n p) = 0
+filled_of (Refused x) = 0
 filled_of (Done c) = c.filled
 filled_of (Stopped s c) = c.filled
 
@@ -53,6 +38,10 @@ filled_of (Stopped s c) = c.filled
 -- "a budget and a grammar, book and slip"
 abbrev pub inputs_of : ℕ → Words → Words → Words → Inputs
 inputs_of budget grammar rules slip = record { budget = budget; grammar = grammar; rules = rules; slip = slip }
+
+-- .. as the code holds them
+abbrev pub inputs_in : Asked.Request → Inputs
+inputs_in i = inputs_of i.budget i.grammar.now i.rules.now i.slip.now
 
 -- the two memories
 abbrev pub memories : Words → Words → Memories
@@ -71,10 +60,6 @@ pub record Runs (x : Inputs) (before : Memories) (r : Code.Outcome) (after : Mem
 
 -- ITS PARTS
 
--- the number of the cause, if it is the number of one
-abbrev pub Named : ℕ → Stop → Type 0
-Named n s = 40 ≤ n → n ≤ 45 → number_of s ≡ n
-
 -- "Places go from the top": after the call's own row the grammar, the book and the slip
 abbrev pub read_inputs : Words → Words → Words → Read Decoded
 read_inputs grammar rules slip =
@@ -83,12 +68,12 @@ read_inputs grammar rules slip =
     and_then (read_slip g slip) (λ tree.
     return (record { grammar = g; rules = rs; tree = tree }))))
 
--- all three are read; where nothing is refused the tables are the grammar's and the slip's tree stands at the bottom of work memory, marked; a refusal changes nothing
-pub record InputsRead (grammar rules slip heads rows w w' : Words) (r : Check) : Type 0 where
+-- all three are read; where nothing is refused the types are the grammar's and the slip's tree stands at the bottom of work memory, marked; a refusal changes nothing
+pub record InputsRead (grammar rules slip : Words) (types : Types) (w w' : Words) (r : Result ℕ (ℕ × ℕ)) : Type 0 where
   pub answered : r ≡ answer (read_inputs grammar rules slip)
   pub long : length w' ≡ length w
-  pub kept : {n p : ℕ} → r ≡ Check.Refused n p → w' ≡ w
-  pub tables : (d : Decoded) (next : ℕ) → read_inputs grammar rules slip ≡ value d next → Tables d.grammar heads rows
+  pub kept : {y : ℕ × ℕ} → r ≡ Err y → w' ≡ w
+  pub types_of : (d : Decoded) (next : ℕ) → read_inputs grammar rules slip ≡ value d next → TypesOf d.grammar types
   pub stands : (d : Decoded) (next : ℕ) → read_inputs grammar rules slip ≡ value d next → Standing d.grammar w' 0 (length slip / 3) 0 d.tree
 
 -- the answer says how the first call ended, and what it counted
@@ -96,12 +81,12 @@ pub record Answered (c : Called) (budget filled : ℕ) (r : Code.Outcome) : Type
   pub says : (e : Ending) (result : Words) → EndedAs c.stop e → WellEnded e → said r result ≡ ended e (budget - c.left.attempts) c.replacements (take filled result)
   pub filled_is : filled_of r ≡ filled
 
--- nothing is refused, these are the grammar's tables, and the slip's tree stands at the bottom of the work memory w
-pub record Accepted (x : Inputs) (result : ℕ) (w heads rows : Words) : Type 0 where
+-- nothing is refused, these are the grammar's types, and the slip's tree stands at the bottom of the work memory w
+pub record Accepted (x : Inputs) (result : ℕ) (w : Words) (types : Types) : Type 0 where
   pub with : Decoded
   pub next : ℕ
   pub read : decode result (length w) x ≡ value with next
-  pub tables : Tables with.grammar heads rows
+  pub types_of : TypesOf with.grammar types
   pub stands : Standing with.grammar w 0 (length x.slip / 3) 0 with.tree
 
 -- the run, whatever a work memory of that length held before the tree was laid there

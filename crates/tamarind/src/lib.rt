@@ -1,7 +1,7 @@
 // The product's face: the callable functions, and their exports for C and Rust.
 #![tactic(auto)]
 
-ghost use Rattle.std.specs.Prelude.{◌≡◌, ◌<◌, ◌≤◌, ◌^◌, length, replicate};
+ghost use Rattle.std.specs.Prelude.{◌≡◌, ◌<◌, ◌≤◌, ◌^◌, length};
 ghost use Rattle.words.specs.Reader.{Words};
 ghost use Rattle.words.specs.Views.{answer};
 ghost use Rattle.grammar.specs.Grammar.{check_grammar};
@@ -9,15 +9,18 @@ ghost use Rattle.tree.specs.Slip.{check_slip};
 ghost use Rattle.judgement.specs.Typing.{check_rules};
 ghost use Rattle.meaning.specs.Limits.{least_work};
 ghost use Rattle.meaning.specs.Outcome.{call_fits, output};
-ghost use Rattle.tamarind.specs.Run.{number_of, inputs_of, memories, Runs, RunsOver, Named, InputsRead, Answered, Accepted};
+ghost use Rattle.tables.specs.Types.{IsBlank};
+ghost use Rattle.tamarind.specs.Run.{inputs_of, inputs_in, memories, Runs, RunsOver, InputsRead, Answered, Accepted};
 ghost use Rattle.tamarind.specs.Exports.{exported, exported_check, exported_counts, exported_outcome, RunExported, exported_converted, ConversionExported, posts_result, posting, edition};
 
 use calls::Called;
-use convert::Converted;
+use convert::ConversionRefusal;
 use meaning::State;
+pub use meaning::Stop;
+use rules::Program;
 use rules::limits::MOST_VARIABLES;
-use tables::{HEADS, ROWS};
-use words::Check;
+use tables::Types;
+use words::{Fault, Refusal};
 
 // A single check's answer: the number of the refusal and its position; 0 and 0 where nothing is refused.
 #[repr(C)]
@@ -28,17 +31,17 @@ pub struct Answer {
 }
 
 // A check's answer as it is exported.
-fn export(c: Check) -> Answer
-    ensures { result ≡ exported_check c }
+fn export(checked: Result<usize, Refusal>) -> Answer
+    ensures { result ≡ exported_check checked }
 {
-    match c {
-        Check::Passed(_) => Answer {
+    match checked {
+        Ok(_) => Answer {
             number: 0,
             position: 0,
         },
-        Check::Refused(no, p) => Answer {
-            number: no,
-            position: p,
+        Err(found) => Answer {
+            number: found.number(),
+            position: found.position(),
         },
     }
 }
@@ -47,24 +50,21 @@ fn export(c: Check) -> Answer
 pub fn tamarind_check_grammar(grammar: &[u32]) -> Answer
     ensures { result ≡ exported (check_grammar grammar.now) }
 {
-    let c = grammar::check_grammar(grammar);
-    export(c)
+    export(grammar::check_grammar(grammar))
 }
 
 // The single check of a slip, given its grammar.
 pub fn tamarind_check_slip(grammar: &[u32], slip: &[u32]) -> Answer
     ensures { result ≡ exported (check_slip grammar.now slip.now) }
 {
-    let c = slips::check_slip(grammar, slip);
-    export(c)
+    export(slips::check_slip(grammar, slip))
 }
 
 // The single check of a rule book, given its grammar.
 pub fn tamarind_check_rules(grammar: &[u32], rules: &[u32]) -> Answer
     ensures { result ≡ exported (check_rules grammar.now rules.now) }
 {
-    let c = typing::check_rules(grammar, rules);
-    export(c)
+    export(typing::check_rules(grammar, rules))
 }
 
 const LEAST_RESULT: usize = 6144;
@@ -74,23 +74,6 @@ const LEAST_WORK: usize = 16384;
 const MOST_BUDGET: u32 = 1000000;
 
 const MOST_CALLS: usize = 32;
-
-// Why a run stopped.
-#[derive(Clone, Copy)]
-pub enum Stop {
-    // 40
-    BudgetSpent,
-    // 41
-    CallsTooDeep,
-    // 42
-    TooManyNodes,
-    // 43
-    NestsTooDeep,
-    // 44
-    TooManyLiveNodes,
-    // 45
-    OutOfRange,
-}
 
 // What an accepted run counted: its attempts, the first call's replacements, and the words that it filled.
 #[derive(Clone, Copy)]
@@ -103,83 +86,54 @@ pub struct Counts {
 // The outcome of a run.
 #[derive(Clone, Copy)]
 pub enum Outcome {
-    Refused(u32, usize),
+    Refused(Refusal),
     Done(Counts),
     Stopped(Stop, Counts),
 }
 
-// The cause that a stop's number names.
-fn cause(number: u32) -> Stop
-    ensures { Named number result }
-{
-    if number == 40 {
-        return Stop::BudgetSpent;
-    }
-    if number == 41 {
-        return Stop::CallsTooDeep;
-    }
-    if number == 42 {
-        return Stop::TooManyNodes;
-    }
-    if number == 43 {
-        return Stop::NestsTooDeep;
-    }
-    if number == 44 {
-        return Stop::TooManyLiveNodes;
-    }
-    Stop::OutOfRange
+// What a run is given beside its two memories.
+#[derive(Clone, Copy)]
+struct Request<'a> {
+    grammar: &'a [u32],
+    rules: &'a [u32],
+    slip: &'a [u32],
+    budget: u32,
 }
 
 // The check of the call itself: 1 to 5.
-fn call_fits(res: usize, work: usize, budget: u32, grammar: &[u32], rules: &[u32]) -> Check
-    ensures { (slip : Words) → result ≡ answer (call_fits res work (inputs_of budget grammar.now rules.now slip) 0) }
+#[tactic(auto, unfolding(meaning::specs::Outcome::call_fits, grammar::specs::Grammar::grammar_fits, rules::specs::Layout::rules_fit))]
+fn call_fits(res: usize, work: usize, request: &Request) -> Result<usize, Refusal>
+    ensures { result ≡ answer (call_fits res work (inputs_in request.now) 0) }
 {
+    let grammar = request.grammar;
+    let rules = request.rules;
     if res < LEAST_RESULT {
-        return Check::Refused(1, 0);
+        return Err(Refusal::new(Fault::ShortResult, 0));
     }
     if work < LEAST_WORK {
-        return Check::Refused(2, 0);
+        return Err(Refusal::new(Fault::ShortWork, 0));
     }
-    if budget == 0 {
-        return Check::Refused(3, 0);
-    }
-    if MOST_BUDGET < budget {
-        return Check::Refused(3, 0);
+    if !(1..=MOST_BUDGET).contains(&request.budget) {
+        return Err(Refusal::new(Fault::Budget, 0));
     }
     if grammar::limits::MOST_WORDS < grammar.len() {
-        return Check::Refused(4, 0);
+        return Err(Refusal::new(Fault::LongGrammar, 0));
     }
     if rules::limits::MOST_WORDS < rules.len() {
-        return Check::Refused(5, 0);
+        return Err(Refusal::new(Fault::LongBook, 0));
     }
-    Check::Passed(0)
+    Ok(0)
 }
 
-// The checks of the grammar, the rules and the slip, in this order. The grammar's tables are filled on the way, and at the last the slip's tree is put at the bottom of work memory.
-fn read_inputs(
-    grammar: &[u32],
-    rules: &[u32],
-    slip: &[u32],
-    heads: &mut [u32; HEADS],
-    rows: &mut [u8; ROWS],
-    work: &mut [u32],
-) -> Check
-    requires { (heads.old ≡ replicate 128 0) × (rows.old ≡ replicate 9216 0) × (length rules.now < 2 ^ 32) × (least_work ≤ length work.old) }
-    ensures { InputsRead grammar.now rules.now slip.now heads.new rows.new work.old work.new result }
+// The checks of the grammar, the rules and the slip, in this order. The grammar's types are worked out on the way, and at the last the slip's tree is put at the bottom of work memory.
+fn read_inputs(request: &Request, types: &mut Types, work: &mut [u32]) -> Result<usize, Refusal>
+    requires { IsBlank types.old × (length request.now.rules.now < 2 ^ 32) × (least_work ≤ length work.old) }
+    ensures { InputsRead request.now.grammar.now request.now.rules.now request.now.slip.now types.new work.old work.new result }
 {
-    let c = grammar::read_grammar(grammar);
-    match c {
-        Check::Refused(no, p) => Check::Refused(no, p),
-        Check::Passed(_) => {
-            tables::fill(grammar, heads, rows);
-            let types = words::word(grammar, 0);
-            let d = typing::read_rules(heads, rows, types, rules);
-            match d {
-                Check::Refused(no, p) => Check::Refused(no, p),
-                Check::Passed(_) => slips::read_slip(heads, rows, slip, work),
-            }
-        }
-    }
+    grammar::read_grammar(request.grammar)?;
+    types.fill(request.grammar);
+    typing::read_rules(types, request.rules)?;
+    slips::read_slip(types, request.slip, work)
 }
 
 // The answer that the first call gives, with so many words filled.
@@ -193,54 +147,44 @@ fn answer_of(c: Called, budget: u32, filled: usize) -> Outcome
         replacements: c.replacements,
         filled,
     };
-    if c.stop == 0 {
-        return Outcome::Done(counts);
+    match c.stop {
+        None => Outcome::Done(counts),
+        Some(halt) => Outcome::Stopped(halt.stop(), counts),
     }
-    Outcome::Stopped(cause(c.stop), counts)
 }
 
 // Runs what nothing refuses: the main rule on the slip's tree, which stands at the bottom of work memory.
-fn execute(
-    grammar: &[u32],
-    heads: &[u32; HEADS],
-    rows: &[u8; ROWS],
-    rules: &[u32],
-    slip: &[u32],
-    budget: u32,
-    res: &mut [u32],
-    work: &mut [u32],
-) -> Outcome
-    requires { Accepted (inputs_of budget grammar.now rules.now slip.now) (length res.old) work.old heads.now rows.now }
-    ensures { RunsOver (inputs_of budget grammar.now rules.now slip.now) res.old (length work.old) result (memories res.new work.new) }
+fn execute(request: &Request, types: &Types, res: &mut [u32], work: &mut [u32]) -> Outcome
+    requires { Accepted (inputs_in request.now) (length res.old) work.old types.now }
+    ensures { RunsOver (inputs_in request.now) res.old (length work.old) result (memories res.new work.new) }
 {
-    let types = words::word(grammar, 0);
-    let starts = typing::rule_starts(types, rules, words::word(rules, 0));
-    let main = rules::rule_at(&starts, 0);
+    let book = request.rules;
+    let slip = request.slip;
+    let starts = typing::rule_starts(types.count, book, words::word(book, 0));
+    let program = Program {
+        types,
+        book,
+        starts: &starts,
+    };
     // The main rule has no arguments.
     let mut places = [0u32; MOST_VARIABLES];
-    let left = State { attempts: budget };
     let c = calls::call(
-        heads,
-        rows,
-        types,
-        rules,
-        &starts,
+        &program,
         work,
-        main,
+        program.rule_at(0),
         0,
         slip.len() / 3,
         &mut places,
         0,
         0,
         MOST_CALLS - 1,
-        left,
+        State {
+            attempts: request.budget,
+        },
     );
-    let end = 2 * c.nodes;
-    let filled = 3 * c.nodes;
-    let scope = &work[..];
-    slips::write_slip(&scope[..end], res);
+    slips::write_slip(&work[..2 * c.nodes], res);
     words::clear(work);
-    answer_of(c, budget, filled)
+    answer_of(c, request.budget, 3 * c.nodes)
 }
 
 // A run: every check, then the main rule on the slip's tree.
@@ -254,20 +198,19 @@ pub fn run(
 ) -> Outcome
     ensures { Runs (inputs_of budget grammar.now rules.now slip.now) (memories res.old work.old) result (memories res.new work.new) }
 {
-    let f = call_fits(res.len(), work.len(), budget, grammar, rules);
-    match f {
-        Check::Refused(no, p) => Outcome::Refused(no, p),
-        Check::Passed(_) => {
-            let mut heads = [0u32; HEADS];
-            let mut rows = [0u8; ROWS];
-            let c = read_inputs(grammar, rules, slip, &mut heads, &mut rows, work);
-            match c {
-                Check::Refused(no, p) => Outcome::Refused(no, p),
-                Check::Passed(_) => {
-                    execute(grammar, &heads, &rows, rules, slip, budget, res, work)
-                }
-            }
-        }
+    let request = Request {
+        grammar,
+        rules,
+        slip,
+        budget,
+    };
+    if let Err(refusal) = call_fits(res.len(), work.len(), &request) {
+        return Outcome::Refused(refusal);
+    }
+    let mut types = Types::none();
+    match read_inputs(&request, &mut types, work) {
+        Err(refusal) => Outcome::Refused(refusal),
+        Ok(_) => execute(&request, &types, res, work),
     }
 }
 
@@ -275,10 +218,7 @@ pub fn run(
 fn posts_result(done: bool, filled: usize, result_len: usize) -> bool
     ensures { result ≡ posts_result done filled result_len }
 {
-    if done {
-        return filled <= result_len;
-    }
-    false
+    done && filled <= result_len
 }
 
 // The words to post: the filled part of the result if the run was done, else the slip; the slip also where the count lies past the result's end.
@@ -337,20 +277,6 @@ pub struct RunAnswer {
     pub filled: usize,
 }
 
-// A stop's number.
-pub fn number_of(cause: Stop) -> u32
-    ensures { result ≡ number_of cause }
-{
-    match cause {
-        Stop::BudgetSpent => 40,
-        Stop::CallsTooDeep => 41,
-        Stop::TooManyNodes => 42,
-        Stop::NestsTooDeep => 43,
-        Stop::TooManyLiveNodes => 44,
-        Stop::OutOfRange => 45,
-    }
-}
-
 // An accepted run's answer as it is exported.
 fn export_counts(ending: u32, number: u32, counts: Counts) -> RunAnswer
     ensures { result ≡ exported_counts ending number counts.attempts counts.replacements counts.filled }
@@ -370,16 +296,16 @@ fn export_run(outcome: Outcome) -> RunAnswer
     ensures { result ≡ exported_outcome outcome }
 {
     match outcome {
-        Outcome::Refused(number, position) => RunAnswer {
+        Outcome::Refused(refusal) => RunAnswer {
             ending: 2,
-            number,
-            position,
+            number: refusal.number(),
+            position: refusal.position(),
             attempts: 0,
             replacements: 0,
             filled: 0,
         },
         Outcome::Done(counts) => export_counts(0, 0, counts),
-        Outcome::Stopped(cause, counts) => export_counts(1, number_of(cause), counts),
+        Outcome::Stopped(cause, counts) => export_counts(1, cause.number(), counts),
     }
 }
 
@@ -394,8 +320,7 @@ pub fn tamarind_run(
 ) -> RunAnswer
     ensures { RunExported (inputs_of budget grammar.now rules.now slip.now) (memories res.old work.old) result (memories res.new work.new) }
 {
-    let r = run(grammar, rules, slip, budget, res, work);
-    export_run(r)
+    export_run(run(grammar, rules, slip, budget, res, work))
 }
 
 // A conversion's answer as it is exported: the number of the refusal and its position, the grammar at fault (1 the old one, 2 the new one), and the words
@@ -410,20 +335,20 @@ pub struct ConversionAnswer {
 }
 
 // What came of a conversion, as it is exported.
-fn export_conversion(c: Converted) -> ConversionAnswer
-    ensures { result ≡ exported_converted c }
+fn export_conversion(converted: Result<usize, ConversionRefusal>) -> ConversionAnswer
+    ensures { result ≡ exported_converted converted }
 {
-    match c {
-        Converted::Filled(filled) => ConversionAnswer {
+    match converted {
+        Ok(filled) => ConversionAnswer {
             number: 0,
             position: 0,
             grammar: 0,
             filled,
         },
-        Converted::Refusal(grammar, number, position) => ConversionAnswer {
-            number,
-            position,
-            grammar,
+        Err(found) => ConversionAnswer {
+            number: found.refusal.number(),
+            position: found.refusal.position(),
+            grammar: found.grammar.number(),
             filled: 0,
         },
     }
@@ -440,8 +365,8 @@ pub fn tamarind_convert(
 ) -> ConversionAnswer
     ensures { ConversionExported counted old_grammar.now new_grammar.now table.now slip.now res.old res.new result }
 {
-    let c = convert::convert(old_grammar, new_grammar, table, slip, counted, res);
-    export_conversion(c)
+    let converted = convert::convert(old_grammar, new_grammar, table, slip, counted, res);
+    export_conversion(converted)
 }
 
 // The number of the last change request that a caller can see.

@@ -9,7 +9,8 @@ use lib.Dec.{ltb}
 use borrow.Author.Tests.{ltb-true, ltb-false}
 use Rattle.words.specs.Reader.{Words}
 use Rattle.grammar.specs.Grammar.{Grammar}
-use Rattle.tables.specs.Tables.{InRows, Counted}
+use Rattle.tables.specs.Types.{OfTypes, Counted}
+use Rattle.tables.specs.declared.types.Types.{Types}
 use Rattle.tree.specs.Tree.{first}
 use Rattle.tree.specs.Owed as O
 use Rattle.tree.specs.Views.{Ends}
@@ -23,20 +24,20 @@ first_short g (t ∷ []) n h = refl
 first_short g (t ∷ v ∷ ws) n h = absurd (omega arith)
 
 -- so many trees are owed at the position, after the nodes before it, and some were before each of these
-pub record Owed (rows ws : Words) (owed at : ℕ) : Type 0 where
+pub record Owed (types : Types) (ws : Words) (owed at : ℕ) : Type 0 where
   pub within : at ≤ length ws
   pub few : owed ≤ 255 * at + 1
   pub nodes : ℕ
   pub twice : at ≡ 2 * nodes
-  pub count : InRows rows (λ g. O.owed g ws nodes 1 ≡ owed)
-  pub some : InRows rows (λ g. (i : ℕ) → i < nodes → 0 < O.owed g ws i 1)
+  pub count : OfTypes types (λ g. O.owed g ws nodes 1 ≡ owed)
+  pub some : OfTypes types (λ g. (i : ℕ) → i < nodes → 0 < O.owed g ws i 1)
 
-pub owed_start : {rows ws : Words} → Owed rows ws 1 0
+pub owed_start : {types : Types} {ws : Words} → Owed types ws 1 0
 unfolding O.owed
-owed_start {rows} {ws} = record { within = omega arith; few = omega arith; nodes = 0; twice = refl; count = λ g h. refl; some = λ g h i l. absurd (omega arith) }
+owed_start {types} {ws} = record { within = omega arith; few = omega arith; nodes = 0; twice = refl; count = λ g h. refl; some = λ g h i l. absurd (omega arith) }
 
-module _ {rows ws : Words} {owed at : ℕ} (o : Owed rows ws owed at) where
-  pub owed_more : 0 < owed → 2 ≤ length ws - at → {c : ℕ} → Counted rows (get_or ws at 0) (get_or ws (at + 1) 0) c → Owed rows ws (c + (owed - 1)) (at + 2)
+module _ {types : Types} {ws : Words} {owed at : ℕ} (o : Owed types ws owed at) where
+  pub owed_more : 0 < owed → at + 1 < length ws → {c : ℕ} → Counted types (get_or ws at 0) (get_or ws (at + 1) 0) c → Owed types ws (c + (owed - 1)) (at + 2)
   owed_more more two {c} counted = record {
     within = omega (arith, o.within);
     few = omega (arith, o.few, counted.small);
@@ -46,12 +47,12 @@ module _ {rows ws : Words} {owed at : ℕ} (o : Owed rows ws owed at) where
     some = some;
   }
     where
-      count : InRows rows (λ g. O.owed g ws (o.nodes + 1) 1 ≡ c + (owed - 1))
+      count : OfTypes types (λ g. O.owed g ws (o.nodes + 1) 1 ≡ c + (owed - 1))
       count g h =
           let n = rw (sym o.twice) at (owed_next g ws o.nodes 1 (omega (arith, o.twice))) in
           omega (arith, n, counted.count g h, o.count g h)
 
-      some : InRows rows (λ g. (i : ℕ) → i < o.nodes + 1 → 0 < O.owed g ws i 1)
+      some : OfTypes types (λ g. (i : ℕ) → i < o.nodes + 1 → 0 < O.owed g ws i 1)
       some g h i l = go (ltb i o.nodes) refl
         where
           go : (b : Bool) → ltb i o.nodes ≡ b → 0 < O.owed g ws i 1
@@ -61,16 +62,16 @@ module _ {rows ws : Words} {owed at : ℕ} (o : Owed rows ws owed at) where
               rw last (omega (arith, o.count g h))
 
   -- the words are the first tree as far as the loop has passed them, and then the rest of it
-  rest : InRows rows (λ g. length (first g ws 1) ≡ at + length (first g (drop at ws) owed))
+  rest : OfTypes types (λ g. length (first g ws 1) ≡ at + length (first g (drop at ws) owed))
   rest g h = rw (sym o.twice, o.count g h) at (first_owed g ws o.nodes 1 (omega (arith, o.within, o.twice)) (o.some g h))
 
-  pub owed_short : length ws - at < 2 → Ends rows ws at
+  pub owed_short : length ws ≤ at + 1 → Ends types ws at
   owed_short h = record {
     within = o.within;
     end = λ g x. let z : length (first g (drop at ws) owed) ≡ 0 = ap length (first_short g (drop at ws) owed (simp length-drop (omega arith))) in omega (arith, rest g x);
   }
 
-  pub owed_none : owed ≤ 0 → Ends rows ws at
+  pub owed_none : owed ≤ 0 → Ends types ws at
   owed_none h = record {
     within = o.within;
     end = λ g x.

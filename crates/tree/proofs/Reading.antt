@@ -3,55 +3,60 @@ use Prim.Native.Nat.{ℕ, suc, ◌+◌, ◌-◌, ◌%◌, ◌<◌, ◌≤◌}
 use mathlib.Core.Path.{◌≡◌, refl, sym, ap, ◌∙◌}
 use mathlib.Core.List.{List, [], ◌∷◌, ◌++◌, map, append-nil}
 use mathlib.Core.Bool.{Bool, true, false}
+use Rattle.std.proofs.Math.Logic.{∥∥₁_elim, ∥∥₁_map}
+use mathlib.Core.HLevel.{×_prop, ×₃_prop}
+use native.Mathlib.Bridge.{le_prop}
 use native.Mathlib.Omega.{arith}
-use native.Mathlib.Nat.{add-zero, zero-add}
+use native.Mathlib.Nat.{ℕ_set, add-zero, zero-add}
 use native.Mathlib.Numerals.{add-one}
-use lib.ListN.{length, get_or, take, drop, length-drop, drop_of_length-le}
+use lib.ListN.{length, get_or, drop, length-drop, drop_of_length-le}
 use lib.Seq.{drop-drop, drop-cons}
-use lib.Dec.{leb, eqb}
+use lib.Dec.{ltb, leb, eqb}
 use borrow.Author.Tests.{eq-eqb, ne_eqb, lt-ltb, le-ltb, le-leb, lt-leb, leb-true}
+use Rattle.std.specs.Prelude.{Result, Ok, Err}
 use Rattle.words.specs.Reader.{Words, pick, Read, value, refused, Reader, and_then, ◌>>◌}
 use Rattle.words.specs.Views.{answer, got}
-use Rattle.words.specs.declared.Check.{Check}
-use Rattle.words.specs.declared.Check.TheVariants.{Passed, Refused}
-use Rattle.words.specs.declared.Got.{Got}
-use Rattle.words.specs.declared.Got.TheVariants.{Word, Bad}
+use Rattle.words.proofs.Stretches.{drop_pair}
 use Rattle.words.proofs.Laws.{read_word, read_bad, answer_passed, answer_refused, require_value}
-use Rattle.words.proofs.Stretches.{part_rest}
 use Rattle.grammar.specs.Grammar.{Kind, token, opt, sequence, forms, Grammar}
 use Rattle.grammar.specs.Kinds.{kind_of, allowed, children_of, children, is_sequence_kind, is_sequence}
-use Rattle.tables.specs.Tables.{Tables, InHeads, InRows}
+use Rattle.tables.specs.Types.{TypesOf, OfTypes}
+use Rattle.tables.specs.declared.types.Types.{Types}
 use Rattle.tree.specs.Limits.{most_tree_words, most_nesting}
 use Rattle.tree.specs.Tree.{levels_of, levels}
 use Rattle.tree.specs.Dues.{first_word, second_word, leaves, pairs, whole}
 use Rattle.tree.specs.Reading.{Due, tree, dues_of, meets_node, read_trees, read_tree_of}
-use Rattle.tree.specs.Views.{InTables, AreTables, nesting_at, level, read_head}
+use Rattle.tree.specs.Views.{nesting_at, level, read_head}
 use Rattle.tree.proofs.Dues.{none_due, pairs_forward, pairs_split}
 use Rattle.tree.proofs.Accepted.{node_steady}
 
--- THE FIRST PAIR
+-- THE FIRST PAIR, at a position of the words
 
-module _ (g : Grammar) (k d : ℕ) (s : Words) (at : ℕ) where
-  pub head_short : length s < 2 → Bad 31 (at + length s) ≡ got (read_head g k d s at)
+module _ (g : Grammar) (k d : ℕ) (ws : Words) (at : ℕ) where
+  pub head_short : at ≤ length ws → length ws - at < 2 → Err (31, length ws) ≡ got (read_head g k d (drop at ws) at)
   unfolding read_head
-  head_short h = rw (lt-leb 2 (length s) h)
+  head_short low h =
+      let z : at + (length ws - at) ≡ length ws = omega arith in
+      rw (length-drop at ws, lt-leb 2 (length ws - at) h, z)
 
-  pub head_type : 2 ≤ length s → (get_or s 0 0 ≡ d → ⊥) → Bad 32 at ≡ got (read_head g k d s at)
-  unfolding read_head
-  head_type h t = rw (le-leb 2 (length s) h, ne_eqb (get_or s 0 0) d t, add-zero at)
-
-  pub head_deep : 2 ≤ length s → get_or s 0 0 ≡ d → most_nesting < k → Bad 33 at ≡ got (read_head g k d s at)
-  unfolding read_head
-  head_deep h t l = rw (le-leb 2 (length s) h, eq-eqb (get_or s 0 0) d t, lt-leb k most_nesting l, add-zero at)
-
-  module _ (h : 2 ≤ length s) (t : get_or s 0 0 ≡ d) (l : k ≤ most_nesting) (v : ℕ) (ev : v ≡ get_or s 1 0) (b : Bool) (eb : b ≡ allowed g d v) where
-    pub head_value : b ≡ true → Word v (at + 2) ≡ got (read_head g k d s at)
+  module _ (h : 2 ≤ length ws - at) where
+    the_pair : read_head g k d (drop at ws) at ≡ and_then (first_word (eqb (get_or ws at 0) d) 32 at) (λ u. ◌>>◌ (first_word (leb k most_nesting) 33) (◌>>◌ (second_word (allowed g d (get_or ws (at + 1) 0)) 32) (λ p. value (get_or ws (at + 1) 0) (p + 2))))
     unfolding read_head
-    head_value q = rw (le-leb 2 (length s) h, eq-eqb (get_or s 0 0) d t, le-leb k most_nesting l, ← ev, ← eb, q)
+    the_pair = rw (drop_pair ws at (omega arith), le-leb 2 (suc (suc (length (drop (at + 2) ws)))) (omega arith))
 
-    pub head_misfit : b ≡ false → Bad 32 (at + 1) ≡ got (read_head g k d s at)
-    unfolding read_head
-    head_misfit q = rw (le-leb 2 (length s) h, eq-eqb (get_or s 0 0) d t, le-leb k most_nesting l, ← ev, ← eb, q)
+    pub head_type : (get_or ws at 0 ≡ d → ⊥) → Err (32, at) ≡ got (read_head g k d (drop at ws) at)
+    head_type t = rw (the_pair, ne_eqb (get_or ws at 0) d t, add-zero at)
+
+    module _ (t : get_or ws at 0 ≡ d) where
+      pub head_deep : most_nesting < k → Err (33, at) ≡ got (read_head g k d (drop at ws) at)
+      head_deep l = rw (the_pair, eq-eqb (get_or ws at 0) d t, lt-leb k most_nesting l, add-zero at)
+
+      module _ (l : k ≤ most_nesting) (v : ℕ) (ev : v ≡ get_or ws (at + 1) 0) (b : Bool) (eb : b ≡ allowed g d v) where
+        pub head_value : b ≡ true → Ok (v, at + 2) ≡ got (read_head g k d (drop at ws) at)
+        head_value q = rw (the_pair, eq-eqb (get_or ws at 0) d t, le-leb k most_nesting l, ← ev, ← eb, q)
+
+        pub head_misfit : b ≡ false → Err (32, at + 1) ≡ got (read_head g k d (drop at ws) at)
+        head_misfit q = rw (the_pair, eq-eqb (get_or ws at 0) d t, le-leb k most_nesting l, ← ev, ← eb, q)
 
 -- what a right first pair tells
 record HeadOk (k : ℕ) (s : Words) (at next : ℕ) : Type 0 where
@@ -134,164 +139,146 @@ pub sequence_none : (g : Grammar) (d v k : ℕ) → is_sequence g d ≡ true →
 unfolding is_sequence levels children
 sequence_none g d v k h z = kind_none (kind_of g d) d v k h z
 
--- A WALK over the words s, which begin at the position `at`: the whole reading is that of what is due from j on. So for every grammar of the tables
-pub record Walk (heads rows s : Words) (at : ℕ) (all : Grammar → Read (Unit {0})) (due : Grammar → List Due) (j : ℕ) : Type 0 where
-  pub low : j ≤ length s
-  pub rest : (g : Grammar) → Tables g heads rows → all g ≡ read_trees g (drop j s) (due g) (at + j)
+-- A WALK over the words: the whole reading is that of what is due from a position on. So for every grammar with these types
+pub record Walk (types : Types) (ws : Words) (all : Grammar → Read (Unit {0})) (due : Grammar → List Due) (at : ℕ) : Type 0 where
+  pub low : at ≤ length ws
+  pub rest : OfTypes types (λ g. all g ≡ read_trees g (drop at ws) (due g) at)
 
-pub walk_start : {heads rows s : Words} {at : ℕ} (due : Grammar → List Due) → Walk heads rows s at (λ g. read_trees g s (due g) at) due 0
-walk_start {heads} {rows} {s} {at} due = record { low = omega arith; rest = λ g h. rw (add-zero at) }
+pub walk_start : {types : Types} {ws : Words} (due : Grammar → List Due) {at : ℕ} → at ≤ length ws → Walk types ws (λ g. read_trees g (drop at ws) (due g) at) due at
+walk_start due h = record { low = h; rest = λ g x. refl }
 
 -- the same dues, said otherwise
-pub walk_due : {heads rows s : Words} {at : ℕ} {all : Grammar → Read (Unit {0})} {due : Grammar → List Due} {j : ℕ} → Walk heads rows s at all due j
-    → (due' : Grammar → List Due) → ((g : Grammar) → Tables g heads rows → due g ≡ due' g) → Walk heads rows s at all due' j
-walk_due {heads} {rows} {s} {at} {all} {due} {j} w due' e = record { low = w.low; rest = λ g h. w.rest g h ∙ ap (λ l. read_trees g (drop j s) l (at + j)) (e g h) }
+pub walk_due : {types : Types} {ws : Words} {all : Grammar → Read (Unit {0})} {due : Grammar → List Due} {at : ℕ} → Walk types ws all due at
+    → (due' : Grammar → List Due) → OfTypes types (λ g. due g ≡ due' g) → Walk types ws all due' at
+walk_due {types} {ws} {all} {due} {at} w due' e = record { low = w.low; rest = λ g x. w.rest g x ∙ ap (λ l. read_trees g (drop at ws) l at) (e g x) }
 
 -- nothing is due any more
-pub walk_end : {heads rows s : Words} {at : ℕ} {all : Grammar → Read (Unit {0})} {j : ℕ} → Walk heads rows s at all (λ g. []) j
-    → InTables heads rows (λ g. Passed (at + j) ≡ answer (all g))
-walk_end {heads} {rows} {s} {at} {all} {j} w g h = sym (ap answer (w.rest g h ∙ none_due (meets_node g) 31 (drop j s) tt (at + j)))
+pub walk_end : {types : Types} {ws : Words} {all : Grammar → Read (Unit {0})} {at : ℕ} → Walk types ws all (λ g. []) at → OfTypes types (λ g. Ok at ≡ answer (all g))
+walk_end {types} {ws} {all} {at} w g x = sym (ap answer (w.rest g x ∙ none_due (meets_node g) 31 (drop at ws) tt at))
 
--- the first pair of a tree is read at j
-module _ {heads rows s : Words} {at : ℕ} {all : Grammar → Read (Unit {0})} {k d : ℕ} {ds : Grammar → List Due} {j : ℕ} (w : Walk heads rows s at all (λ g. tree k d ∷ ds g) j)
-    {part : Words} (ep : part ≡ drop j s) {p : ℕ} (ea : p ≡ at + j) {h : Got} (is : InHeads heads (λ g. h ≡ got (read_head g k d part p))) where
-  step : (g : Grammar) → Tables g heads rows → all g ≡ and_then (read_head g k d part p) (λ v next. read_trees g (drop 2 part) (dues_of (levels g d v k) (children g d v) ++ ds g) next)
-  step g x = w.rest g x ∙ rw (← ep, ← ea) (tree_step g k d (ds g) p part)
+-- what is known of some grammar with these types
+pub some_types : (types : Types) → ∥ ((g : Grammar) × TypesOf g types) ∥₁
+some_types types = ∥∥₁_map types.of_grammar (λ t. (t.0, record { heads_of = t.1.heads_of; rows_of_lem = t.1.rows_of_lem; count_of = t.2 }))
 
-  pub walk_bad : {no' q : ℕ} → h ≡ Bad no' q → InTables heads rows (λ g. Refused no' q ≡ answer (all g))
-  walk_bad {no'} {q} e g x = let z : all g ≡ refused no' q = step g x ∙ rw (read_bad (read_head g k d part p) h (is g x.heads_of) e) in sym (ap answer z)
+-- the first pair of a tree is read
+module _ {types : Types} {ws : Words} {all : Grammar → Read (Unit {0})} {k d : ℕ} {ds : Grammar → List Due} {at : ℕ} (w : Walk types ws all (λ g. tree k d ∷ ds g) at)
+    {h : Result (ℕ × ℕ) (ℕ × ℕ)} (is : OfTypes types (λ g. h ≡ got (read_head g k d (drop at ws) at))) where
+  step : OfTypes types (λ g. all g ≡ and_then (read_head g k d (drop at ws) at) (λ v next. read_trees g (drop 2 (drop at ws)) (dues_of (levels g d v k) (children g d v) ++ ds g) next))
+  step g x = w.rest g x ∙ tree_step g k d (ds g) at (drop at ws)
 
-  module _ (some : AreTables heads rows) {v next : ℕ} (e : h ≡ Word v next) where
-    ok : HeadOk k part p next
-    ok = let g = some.0 in head_ok g k d part p (read_word (read_head g k d part p) h (is g some.1.heads_of) e)
+  pub walk_bad : {r : ℕ × ℕ} → h ≡ Err r → OfTypes types (λ g. Err r ≡ answer (all g))
+  walk_bad {r} e g x = let z : all g ≡ refused r.0 r.1 = step g x ∙ rw (read_bad (read_head g k d (drop at ws) at) h (is g x) e) in sym (ap answer z)
 
-    pub walk_room : (k ≤ most_nesting) × (j + 2 ≤ length s) × (next ≡ at + (j + 2))
-    walk_room =
-        let l : length part ≡ length s - j = ap length ep ∙ length-drop j s in
-        (ok.spare, omega (arith, ok.room), omega (arith, ok.after))
+  module _ {r : ℕ × ℕ} (e : h ≡ Ok r) where
+    pub walk_room : (k ≤ most_nesting) × (at + 2 ≤ length ws) × (r.1 ≡ at + 2)
+    walk_room = ∥∥₁_elim (some_types types) (×₃_prop le_prop le_prop (ℕ_set _ _)) (λ t.
+        let o = head_ok t.0 k d (drop at ws) at (read_word (read_head t.0 k d (drop at ws) at) h (is t.0 t.1) e) in
+        (o.spare, omega (arith, o.room, w.low, length-drop at ws), o.after))
 
-    pub walk_head : Walk heads rows s at all (λ g. dues_of (levels g d v k) (children g d v) ++ ds g) (j + 2)
+    pub walk_head : Walk types ws all (λ g. dues_of (levels g d r.0 k) (children g d r.0) ++ ds g) r.1
     walk_head = record {
-      low = walk_room.1;
-      rest = λ g x. step g x ∙ rw (read_word (read_head g k d part p) h (is g x.heads_of) e, walk_room.2, ep, drop-drop 2 j s);
+      low = omega (arith, walk_room.1, walk_room.2);
+      rest = λ g x. step g x ∙ rw (read_word (read_head g k d (drop at ws) at) h (is g x) e, drop-drop 2 at ws, ← walk_room.2);
     }
 
--- a tree is read at j
-module _ {heads rows s : Words} {at : ℕ} {all : Grammar → Read (Unit {0})} {k d : ℕ} {ds : Grammar → List Due} {j : ℕ} (w : Walk heads rows s at all (λ g. tree k d ∷ ds g) j)
-    {part : Words} (ep : part ≡ drop j s) {a : Check} (is : InTables heads rows (λ g. a ≡ answer (read_trees g part (tree k d ∷ []) (at + j)))) where
-  split : (g : Grammar) → Tables g heads rows → all g ≡ and_then (read_trees g part (tree k d ∷ []) (at + j)) (λ u next. read_trees g (drop (next - (at + j)) part) (ds g) next)
-  split g x = w.rest g x ∙ rw (← ep) (pairs_split (meets_node g) 31 (node_steady g) part (tree k d ∷ []) (ds g) tt (at + j))
+-- a tree is read
+module _ {types : Types} {ws : Words} {all : Grammar → Read (Unit {0})} {k d : ℕ} {ds : Grammar → List Due} {at : ℕ} (w : Walk types ws all (λ g. tree k d ∷ ds g) at)
+    {a : Result ℕ (ℕ × ℕ)} (is : OfTypes types (λ g. a ≡ answer (read_trees g (drop at ws) (tree k d ∷ []) at))) where
+  split : OfTypes types (λ g. all g ≡ and_then (read_trees g (drop at ws) (tree k d ∷ []) at) (λ u next. read_trees g (drop (next - at) (drop at ws)) (ds g) next))
+  split g x = w.rest g x ∙ pairs_split (meets_node g) 31 (node_steady g) (drop at ws) (tree k d ∷ []) (ds g) tt at
 
-  pub walk_refused : {no' q : ℕ} → a ≡ Refused no' q → InTables heads rows (λ g. Refused no' q ≡ answer (all g))
-  walk_refused {no'} {q} e g x = let z : all g ≡ refused no' q = split g x ∙ rw (answer_refused (read_trees g part (tree k d ∷ []) (at + j)) a (is g x) e) in sym (ap answer z)
+  pub walk_refused : {r : ℕ × ℕ} → a ≡ Err r → OfTypes types (λ g. Err r ≡ answer (all g))
+  walk_refused {r} e g x = let z : all g ≡ refused r.0 r.1 = split g x ∙ rw (answer_refused (read_trees g (drop at ws) (tree k d ∷ []) at) a (is g x) e) in sym (ap answer z)
 
-  module _ (some : AreTables heads rows) {next : ℕ} (e : a ≡ Passed next) where
-    pub walk_next : (at + j ≤ next) × (next ≤ at + length s)
-    walk_next =
-        let g = some.0 in
-        let u = answer_passed (read_trees g part (tree k d ∷ []) (at + j)) a (is g some.1) e in
-        let f = pairs_forward (meets_node g) 31 (node_steady g) part (tree k d ∷ []) tt (at + j) u.0 next u.1 in
-        let l : length part ≡ length s - j = ap length ep ∙ length-drop j s in
-        (f.0, omega (arith, f.1, w.low))
+  module _ {next : ℕ} (e : a ≡ Ok next) where
+    pub walk_next : (at ≤ next) × (next ≤ length ws)
+    walk_next = ∥∥₁_elim (some_types types) (×_prop le_prop le_prop) (λ t.
+        let u = answer_passed (read_trees t.0 (drop at ws) (tree k d ∷ []) at) a (is t.0 t.1) e in
+        let f = pairs_forward (meets_node t.0) 31 (node_steady t.0) (drop at ws) (tree k d ∷ []) tt at u.0 next u.1 in
+        (f.0, omega (arith, f.1, w.low, length-drop at ws)))
 
-    pub walk_more : Walk heads rows s at all ds (next - at)
+    pub walk_more : Walk types ws all ds next
     walk_more =
         let n = walk_next in
-        let i : j + (next - (at + j)) ≡ next - at = omega arith in
-        let q : at + (next - at) ≡ next = omega arith in
-        record {
-          low = omega arith;
-          rest = λ g x.
-              let u = answer_passed (read_trees g part (tree k d ∷ []) (at + j)) a (is g x) e in
-              split g x ∙ rw (u.1, ep, drop-drop (next - (at + j)) j s, i, q);
-        }
+        let i : at + (next - at) ≡ next = omega arith in
+        record { low = n.1; rest = λ g x. split g x ∙ rw ((answer_passed (read_trees g (drop at ws) (tree k d ∷ []) at) a (is g x) e).1, drop-drop (next - at) at ws, i) }
 
 -- a child is one level deeper
 deeper : (left : ℕ) → left ≤ most_nesting → nesting_at left ≤ most_nesting → suc (nesting_at left) ≡ nesting_at (left - 1)
 deeper left few h = omega arith
 
--- THE NODE
+-- THE NODE, after its first pair
 
-module _ {heads rows : Words} (s : Words) (at d left : ℕ) (few : left ≤ most_nesting) {h : Got} (is : InHeads heads (λ g. h ≡ got (read_head g (nesting_at left) d s at))) where
-  abbrev begun : Walk heads rows s at (λ g. read_trees g s (tree (nesting_at left) d ∷ []) at) (λ g. tree (nesting_at left) d ∷ []) 0
-  begun = walk_start (λ g. tree (nesting_at left) d ∷ [])
+module _ {types : Types} (ws : Words) (at d left : ℕ) (few : left ≤ most_nesting) (low : at ≤ length ws) {h : Result (ℕ × ℕ) (ℕ × ℕ)}
+    (is : OfTypes types (λ g. h ≡ got (read_head g (nesting_at left) d (drop at ws) at))) where
+  abbrev begun : Walk types ws (λ g. read_trees g (drop at ws) (tree (nesting_at left) d ∷ []) at) (λ g. tree (nesting_at left) d ∷ []) at
+  begun = walk_start (λ g. tree (nesting_at left) d ∷ []) low
 
-  pub node_bad : {no' q : ℕ} → h ≡ Bad no' q → InTables heads rows (λ g. Refused no' q ≡ answer (read_trees g s (tree (nesting_at left) d ∷ []) at))
-  node_bad e = walk_bad begun refl (sym (add-zero at)) is e
+  pub node_bad : {r : ℕ × ℕ} → h ≡ Err r → OfTypes types (λ g. Err r ≡ answer (read_trees g (drop at ws) (tree (nesting_at left) d ∷ []) at))
+  node_bad e = walk_bad begun is e
 
-  module _ (some : AreTables heads rows) {v next : ℕ} (e : h ≡ Word v next) where
-    pub node_room : (0 < left) × (2 ≤ length s) × (next ≡ at + 2)
-    node_room = let r = walk_room begun refl (sym (add-zero at)) is some e in (omega (arith, r.0), omega (arith, r.1), omega (arith, r.2))
+  module _ {r : ℕ × ℕ} (e : h ≡ Ok r) where
+    pub node_room : (0 < left) × (r.1 ≤ length ws)
+    node_room = let z = walk_room begun is e in (omega (arith, z.0), omega (arith, z.1, z.2))
 
-    pub node_children : {b : Bool} → InHeads heads (λ g. b ≡ is_sequence g d) → b ≡ false → {part : Words} → part ≡ drop 2 s
-        → {a : Check} → InTables heads rows (λ g. a ≡ answer (read_trees g part (level (nesting_at (left - 1)) (children g d v)) next))
-        → InTables heads rows (λ g. a ≡ answer (read_trees g s (tree (nesting_at left) d ∷ []) at))
-    node_children eb no' {part} ep {a} ea g x =
-        let r = walk_room begun refl (sym (add-zero at)) is some e in
-        let w = walk_head begun refl (sym (add-zero at)) is some e in
-        let z : read_trees g s (tree (nesting_at left) d ∷ []) at ≡ read_trees g part (level (nesting_at (left - 1)) (children g d v)) next =
-        w.rest g x ∙ rw (children_dues g d v (nesting_at left) (sym (eb g x.heads_of) ∙ no'), deeper left few r.0, append-nil, ← r.2, ← ep) in
+    pub node_children : {b : Bool} → OfTypes types (λ g. b ≡ is_sequence g d) → b ≡ false
+        → {a : Result ℕ (ℕ × ℕ)} → OfTypes types (λ g. a ≡ answer (read_trees g (drop r.1 ws) (level (nesting_at (left - 1)) (children g d r.0)) r.1))
+        → OfTypes types (λ g. a ≡ answer (read_trees g (drop at ws) (tree (nesting_at left) d ∷ []) at))
+    node_children eb no' {a} ea g x =
+        let z : read_trees g (drop at ws) (tree (nesting_at left) d ∷ []) at ≡ read_trees g (drop r.1 ws) (level (nesting_at (left - 1)) (children g d r.0)) r.1 =
+        (walk_head begun is e).rest g x ∙ rw (children_dues g d r.0 (nesting_at left) (sym (eb g x) ∙ no'), deeper left few (walk_room begun is e).0, append-nil) in
         ea g x ∙ sym (ap answer z)
 
 -- THE LOOP OVER A SEQUENCE
 
-module _ {heads rows s : Words} {at d : ℕ} (left : ℕ) (few : left ≤ most_nesting) {all : Grammar → Read (Unit {0})} {j : ℕ} (w : Walk heads rows s at all (λ g. tree (nesting_at left) d ∷ []) j)
-    {part : Words} (ep : part ≡ drop j s) {h : Got} (is : InHeads heads (λ g. h ≡ got (read_head g (nesting_at left) d part (at + j)))) (some : AreTables heads rows)
-    (seq : InHeads heads (λ g. is_sequence g d ≡ true)) {v next : ℕ} (e : h ≡ Word v next) where
-  pub sequence_room : (0 < left) × (j + 2 ≤ length s)
-  sequence_room = let r = walk_room w ep refl is some e in (omega (arith, r.0), r.1)
+module _ {types : Types} {ws : Words} {d : ℕ} (left : ℕ) (few : left ≤ most_nesting) {all : Grammar → Read (Unit {0})} {at : ℕ} (w : Walk types ws all (λ g. tree (nesting_at left) d ∷ []) at)
+    {h : Result (ℕ × ℕ) (ℕ × ℕ)} (is : OfTypes types (λ g. h ≡ got (read_head g (nesting_at left) d (drop at ws) at))) (seq : OfTypes types (λ g. is_sequence g d ≡ true)) {r : ℕ × ℕ} (e : h ≡ Ok r) where
+  pub sequence_room : (0 < left) × (at + 2 ≤ length ws) × (r.1 ≡ at + 2)
+  sequence_room = let z = walk_room w is e in (omega (arith, z.0), z.1, z.2)
 
-  pub sequence_end : (v ≡ 0 → ⊥) → InTables heads rows (λ g. Passed next ≡ answer (all g))
-  sequence_end z =
-      let r = walk_room w ep refl is some e in
-      rw r.2 (walk_end (walk_due (walk_head w ep refl is some e) (λ g. []) (λ g x. rw (sequence_none g d v (nesting_at left) (seq g x.heads_of) z))))
+  pub sequence_end : (r.0 ≡ 0 → ⊥) → OfTypes types (λ g. Ok r.1 ≡ answer (all g))
+  sequence_end z = walk_end (walk_due (walk_head w is e) (λ g. []) (λ g x. rw (sequence_none g d r.0 (nesting_at left) (seq g x) z)))
 
-  pub sequence_turn : v ≡ 0 → (x : ℕ) → InRows rows (λ g. x ≡ get_or (children g d 0) 0 0) → Walk heads rows s at all (λ g. tree (nesting_at (left - 1)) x ∷ tree (nesting_at left) d ∷ []) (j + 2)
-  sequence_turn z x ex =
-      let r = walk_room w ep refl is some e in
-      walk_due (walk_head w ep refl is some e) (λ g. tree (nesting_at (left - 1)) x ∷ tree (nesting_at left) d ∷ [])
-      (λ g t. rw (z, sequence_some g d (nesting_at left) (seq g t.heads_of), deeper left few r.0, ← ex g t.rows_of_lem))
+  pub sequence_turn : r.0 ≡ 0 → (x : ℕ) → OfTypes types (λ g. x ≡ get_or (children g d 0) 0 0) → Walk types ws all (λ g. tree (nesting_at (left - 1)) x ∷ tree (nesting_at left) d ∷ []) r.1
+  sequence_turn z x ex = walk_due (walk_head w is e) (λ g. tree (nesting_at (left - 1)) x ∷ tree (nesting_at left) d ∷ [])
+      (λ g t. rw (z, sequence_some g d (nesting_at left) (seq g t), deeper left few (walk_room w is e).0, ← ex g t))
 
 -- THE LOOP OVER THE CHILDREN
 
-module _ {heads rows s : Words} {at : ℕ} {all : Grammar → Read (Unit {0})} {j : ℕ} (k t v i : ℕ) (w : Walk heads rows s at all (λ g. level k (drop i (children g t v))) j)
-    {count : ℕ} (counted : InRows rows (λ g. count ≡ length (children g t v))) where
-  pub children_end : count ≤ i → InTables heads rows (λ g. Passed (at + j) ≡ answer (all g))
-  children_end h = walk_end (walk_due w (λ g. []) (λ g x. rw (drop_of_length-le (children g t v) {i = i} (omega (arith, counted g x.rows_of_lem)))))
+module _ {types : Types} {ws : Words} {all : Grammar → Read (Unit {0})} {at : ℕ} (k t v i : ℕ) (w : Walk types ws all (λ g. level k (drop i (children g t v))) at)
+    {count : ℕ} (counted : OfTypes types (λ g. count ≡ length (children g t v))) where
+  pub children_end : count ≤ i → OfTypes types (λ g. Ok at ≡ answer (all g))
+  children_end h = walk_end (walk_due w (λ g. []) (λ g x. rw (drop_of_length-le (children g t v) {i = i} (omega (arith, counted g x)))))
 
-  pub children_turn : i < count → (x : ℕ) → InRows rows (λ g. x ≡ get_or (children g t v) i 0) → Walk heads rows s at all (λ g. tree k x ∷ level k (drop (i + 1) (children g t v))) j
-  children_turn h x ex = walk_due w (λ g. tree k x ∷ level k (drop (i + 1) (children g t v)))
-      (λ g y. rw (drop-cons (children g t v) i 0 (omega (arith, counted g y.rows_of_lem)), ← ex g y.rows_of_lem, add-one i))
-
--- a part to the end lies within what the whole fits in
-pub part_fits : (s : Words) (at j most : ℕ) → at + length s ≤ most → j ≤ length s → {p : ℕ} → p ≡ at + j → p + length (take (length s - j) (drop j s)) ≤ most
-part_fits s at j most h low e = rw (part_rest j s) (omega (arith, length-drop j s))
+  pub children_turn : i < count → (x : ℕ) → OfTypes types (λ g. x ≡ get_or (children g t v) i 0) → Walk types ws all (λ g. tree k x ∷ level k (drop (i + 1) (children g t v))) at
+  children_turn h x ex = walk_due w (λ g. tree k x ∷ level k (drop (i + 1) (children g t v))) (λ g y. rw (drop-cons (children g t v) i 0 (omega (arith, counted g y)), ← ex g y, add-one i))
 
 -- THE WHOLE CHECK
 
 module _ (g : Grammar) (t : ℕ) (ws : Words) where
-  pub tree_empty : length ws ≡ 0 → Refused 30 0 ≡ answer (read_tree_of g t ws)
+  pub tree_empty : length ws ≡ 0 → Err (30, 0) ≡ answer (read_tree_of g t ws)
   unfolding read_tree_of
   tree_empty h = rw (lt-leb 1 (length ws) (omega arith))
 
-  pub tree_long : most_tree_words < length ws → Refused 30 0 ≡ answer (read_tree_of g t ws)
+  pub tree_long : most_tree_words < length ws → Err (30, 0) ≡ answer (read_tree_of g t ws)
   unfolding read_tree_of
   tree_long h = rw (le-leb 1 (length ws) (omega arith), lt-leb (length ws) most_tree_words h)
 
   module _ (some : length ws ≡ 0 → ⊥) (most : length ws ≤ most_tree_words) where
-    pub tree_odd : (length ws % 2 ≡ 0 → ⊥) → Refused 30 0 ≡ answer (read_tree_of g t ws)
+    pub tree_odd : (length ws % 2 ≡ 0 → ⊥) → Err (30, 0) ≡ answer (read_tree_of g t ws)
     unfolding read_tree_of
     tree_odd h = rw (le-leb 1 (length ws) (omega arith), le-leb (length ws) most_tree_words most, ne_eqb (length ws % 2) 0 h)
 
-    module _ (even : length ws % 2 ≡ 0) {a : Check} (is : a ≡ answer (read_trees g ws (tree 1 t ∷ []) 0)) where
-      pub tree_refused : {no' p : ℕ} → a ≡ Refused no' p → Refused no' p ≡ answer (read_tree_of g t ws)
+    module _ (even : length ws % 2 ≡ 0) {a : Result ℕ (ℕ × ℕ)} (is : a ≡ answer (read_trees g ws (tree 1 t ∷ []) 0)) where
+      whole_tree : read_tree_of g t ws ≡ and_then (read_trees g ws (tree 1 t ∷ []) 0) (λ u next. pick (ltb next (length ws)) (refused 31 next) (value u next))
       unfolding read_tree_of whole
-      tree_refused e = rw (le-leb 1 (length ws) (omega arith), le-leb (length ws) most_tree_words most, eq-eqb (length ws % 2) 0 even, answer_refused (read_trees g ws (tree 1 t ∷ []) 0) a is e)
+      whole_tree = rw (le-leb 1 (length ws) (omega arith), le-leb (length ws) most_tree_words most, eq-eqb (length ws % 2) 0 even, zero-add (length ws))
 
-      pub tree_over : {p : ℕ} → a ≡ Passed p → p < length ws → Refused 31 p ≡ answer (read_tree_of g t ws)
-      unfolding read_tree_of whole
-      tree_over {p} e h = rw (le-leb 1 (length ws) (omega arith), le-leb (length ws) most_tree_words most, eq-eqb (length ws % 2) 0 even, (answer_passed (read_trees g ws (tree 1 t ∷ []) 0) a is e).1, zero-add (length ws), lt-ltb p (length ws) h)
+      pub tree_refused : {r : ℕ × ℕ} → a ≡ Err r → Err r ≡ answer (read_tree_of g t ws)
+      tree_refused e = rw (whole_tree, answer_refused (read_trees g ws (tree 1 t ∷ []) 0) a is e)
 
-      pub tree_whole : {p : ℕ} → a ≡ Passed p → length ws ≤ p → Passed p ≡ answer (read_tree_of g t ws)
-      unfolding read_tree_of whole
-      tree_whole {p} e h = rw (le-leb 1 (length ws) (omega arith), le-leb (length ws) most_tree_words most, eq-eqb (length ws % 2) 0 even, (answer_passed (read_trees g ws (tree 1 t ∷ []) 0) a is e).1, zero-add (length ws), le-ltb p (length ws) h)
+      pub tree_over : {p : ℕ} → a ≡ Ok p → p < length ws → Err (31, p) ≡ answer (read_tree_of g t ws)
+      tree_over {p} e h = rw (whole_tree, (answer_passed (read_trees g ws (tree 1 t ∷ []) 0) a is e).1, lt-ltb p (length ws) h)
+
+      pub tree_whole : {p : ℕ} → a ≡ Ok p → length ws ≤ p → Ok p ≡ answer (read_tree_of g t ws)
+      tree_whole {p} e h = rw (whole_tree, (answer_passed (read_trees g ws (tree 1 t ∷ []) 0) a is e).1, le-ltb p (length ws) h)

@@ -1,11 +1,9 @@
 -- The reader of a tree, run, with the grammar's check before it: document 01's cases of the slip's rows in its own edition of two words a node, each refusal's
 -- number and position, and which of two comes first. CasesSlip.antt has those that T-07 moves, with counts.
 -- Assumes nothing.
-use Rattle.std.specs.Prelude.{◌≡◌, refl, List, [], ◌∷◌, ◌++◌, map, ℕ, zero, suc, drop}
+use Rattle.std.specs.Prelude.{◌≡◌, refl, List, [], ◌∷◌, ◌++◌, map, ℕ, zero, suc, drop, Result, Ok, Err}
 use Rattle.words.specs.Reader.{Words, and_then, word, word_in, many, end}
 use Rattle.words.specs.Views.{answer}
-use Rattle.words.specs.declared.Check.{Check}
-use Rattle.words.specs.declared.Check.TheVariants.{Passed, Refused}
 use Rattle.grammar.specs.Grammar.{repeat, token, sequence, forms, Grammar, types_of, field, element, form, kind, grammar, all_known, any_form_known, finishes, round, rounds, finite, finite_records, read_grammar, grammar_fits, check_grammar}
 use Rattle.grammar.specs.Kinds.{kind_of, allows, allowed, children_of, children}
 use Rattle.tree.specs.Tree.{levels_of, levels}
@@ -48,7 +46,7 @@ times (suc n) a b = a ++ times n a b
 deep : ℕ → Words → Words
 deep n b = times n (0 ∷ 0 ∷ 1 ∷ 0 ∷ []) b
 
-run : Words × Words → Check
+run : Words × Words → Result ℕ (ℕ × ℕ)
 run p = answer (and_then (check_grammar p.0) (λ g next. read_tree g p.1))
 
 inputs : List (Words × Words)
@@ -107,51 +105,51 @@ inputs =
     ∷ (listed, times 64 (0 ∷ 0 ∷ []) (times 65 (0 ∷ 1 ∷ []) []))
     ∷ []
 
-outputs : List Check
+outputs : List (Result ℕ (ℕ × ℕ))
 outputs =
-    Passed 12
-    ∷ Passed 4
-    ∷ Refused 31 2
-    ∷ Refused 31 12
-    ∷ Passed 8
-    ∷ Refused 32 5
-    ∷ Refused 32 1
-    ∷ Refused 32 4
-    ∷ Refused 32 2
-    ∷ Refused 32 3
-    ∷ Refused 32 0
-    ∷ Refused 30 0
-    ∷ Refused 30 0
-    ∷ Refused 30 0
-    ∷ Refused 32 0
-    ∷ Passed 4096
-    ∷ Refused 30 0
-    ∷ Refused 4 0
-    ∷ Refused 12 1
-    ∷ Refused 10 3
-    ∷ Refused 11 1
-    ∷ Passed 8
-    ∷ Refused 32 3
-    ∷ Passed 6
-    ∷ Refused 32 5
-    ∷ Refused 31 6
-    ∷ Passed 128
-    ∷ Refused 33 128
-    ∷ Refused 32 128
-    ∷ Refused 33 128
-    ∷ Refused 31 128
-    ∷ Passed 284
-    ∷ Passed 282
-    ∷ Passed 254
-    ∷ Refused 33 128
-    ∷ Passed 12
-    ∷ Passed 4
-    ∷ Refused 32 3
-    ∷ Refused 32 4
-    ∷ Passed 284
-    ∷ Passed 282
-    ∷ Passed 254
-    ∷ Refused 33 128
+    Ok 12
+    ∷ Ok 4
+    ∷ Err (31, 2)
+    ∷ Err (31, 12)
+    ∷ Ok 8
+    ∷ Err (32, 5)
+    ∷ Err (32, 1)
+    ∷ Err (32, 4)
+    ∷ Err (32, 2)
+    ∷ Err (32, 3)
+    ∷ Err (32, 0)
+    ∷ Err (30, 0)
+    ∷ Err (30, 0)
+    ∷ Err (30, 0)
+    ∷ Err (32, 0)
+    ∷ Ok 4096
+    ∷ Err (30, 0)
+    ∷ Err (4, 0)
+    ∷ Err (12, 1)
+    ∷ Err (10, 3)
+    ∷ Err (11, 1)
+    ∷ Ok 8
+    ∷ Err (32, 3)
+    ∷ Ok 6
+    ∷ Err (32, 5)
+    ∷ Err (31, 6)
+    ∷ Ok 128
+    ∷ Err (33, 128)
+    ∷ Err (32, 128)
+    ∷ Err (33, 128)
+    ∷ Err (31, 128)
+    ∷ Ok 284
+    ∷ Ok 282
+    ∷ Ok 254
+    ∷ Err (33, 128)
+    ∷ Ok 12
+    ∷ Ok 4
+    ∷ Err (32, 3)
+    ∷ Err (32, 4)
+    ∷ Ok 284
+    ∷ Ok 282
+    ∷ Ok 254
+    ∷ Err (33, 128)
     ∷ []
 
 right : map run inputs ≡ outputs

@@ -3,19 +3,12 @@ use Rattle.std.specs.Prelude.{ℕ, suc, ◌+◌, ◌-◌, ◌≤◌, ◌≡◌, 
 use Rattle.words.specs.Reader.{Words, value, Reader, ◌>>◌, require}
 use Rattle.grammar.specs.Grammar.{Grammar}
 use Rattle.grammar.specs.Kinds.{allowed}
-use Rattle.tables.specs.Tables.{Tables, InRows}
+use Rattle.tables.specs.Types.{OfTypes}
+use Rattle.tables.specs.declared.types.Types.{Types}
 use Rattle.tree.specs.Limits.{most_nesting}
 use Rattle.tree.specs.Tree.{first}
 use Rattle.tree.specs.Dues.{first_word, second_word}
 use Rattle.tree.specs.Reading.{Due, tree}
-
--- what holds of every grammar whose tables these are
-abbrev pub InTables : List ℕ → List ℕ → (Grammar → Type 0) → Type 0
-InTables heads rows P = (g : Grammar) → Tables g heads rows → P g
-
--- the tables are those of a grammar: so the positions that a reader hands back are known to lie within the words
-abbrev pub AreTables : List ℕ → List ℕ → Type 0
-AreTables heads rows = (g : Grammar) × Tables g heads rows
 
 -- the nesting of a node that is read with so many levels left
 abbrev pub nesting_at : ℕ → ℕ
@@ -35,6 +28,6 @@ read_head g k d s = do
   λ at. value (get_or s 1 0) (at + 2)
 
 -- r words are the first tree
-pub record Ends (rows ws : List ℕ) (r : ℕ) : Type 0 where
+pub record Ends (types : Types) (ws : List ℕ) (r : ℕ) : Type 0 where
   pub within : r ≤ length ws
-  pub end : InRows rows (λ g. r ≡ length (first g ws 1))
+  pub end : OfTypes types (λ g. r ≡ length (first g ws 1))

@@ -1,191 +1,131 @@
 // Trees: how they are read (30 to 33, each with its position), and where a tree ends.
 //
-// Reading a node reads its children, and reading a child reads a node again: `node`, `sequence` and `children` call each other. Each is handed the part of
-// the words that starts at its node, with the position of that part beside it; the grammar is seen through its tables alone.
+// Reading a node reads its children, and reading a child reads a node again: `node`, `sequence` and `children` call each other. Each is handed all the words
+// and the position where its trees begin; the grammar is seen through its types alone.
 #![tactic(auto)]
 
-ghost use Rattle.std.specs.Prelude.{◌≡◌, true, [], ◌∷◌, ◌+◌, ◌<◌, ◌≤◌, ◌^◌, length};
+ghost use Rattle.std.specs.Prelude.{◌≡◌, true, [], ◌∷◌, ◌<◌, ◌≤◌, ◌^◌, length, drop};
 ghost use Rattle.words.specs.Views.{answer, got};
 ghost use Rattle.grammar.specs.Kinds.{children, is_sequence};
-ghost use Rattle.tables.specs.Tables.{InHeads};
+ghost use Rattle.tables.specs.Types.{OfTypes};
 ghost use Rattle.tree.specs.Limits.{most_tree_words, most_nesting};
 ghost use Rattle.tree.specs.Reading as Reading;
-ghost use Rattle.tree.specs.Views.{InTables, AreTables, nesting_at, level, read_head, Ends};
+ghost use Rattle.tree.specs.Views.{nesting_at, level, read_head, Ends};
 
 use limits::{MOST_NESTING, MOST_WORDS};
-use tables::{HEADS, ROWS};
-use words::{Check, Got};
+use tables::Types;
+use words::{Fault, Refusal};
 
 pub mod limits;
 
-// How many words the tree has that the part begins with. One loop counts the trees still owed.
-pub fn end_of_tree(rows: &[u8; ROWS], ws: &[u32]) -> usize
+// How many words the tree has that the part begins with. One loop counts the trees still owed: it ends with them, at a word that no range knows before.
+#[tactic(auto, using(crate::proofs::Ends::owed_start, crate::proofs::Ends::owed_more, crate::proofs::Ends::owed_short, crate::proofs::Ends::owed_none))]
+pub fn end_of_tree(types: &Types, ws: &[u32]) -> usize
     requires { length ws.now < 2 ^ 32 }
-    ensures { Ends rows.now ws.now result }
+    ensures { Ends types.now ws.now result }
 {
     let mut owed: usize = 1;
     let mut at: usize = 0;
-    while 0 < owed {
-        if ws.len() - at < 2 {
-            return at;
-        }
-        owed = tables::child_count(rows, ws[at], ws[at + 1]) + (owed - 1);
+    while 0 < owed && at + 1 < ws.len() {
+        owed = types.child_count(ws[at], ws[at + 1]) + (owed - 1);
         at = at + 2;
     }
     at
 }
 
-// The first pair of s, where a tree of type d is due with `left` levels of nesting to spend: its value, or a refusal.
-fn head(heads: &[u32; HEADS], s: &[u32], at: usize, d: u32, left: usize) -> Got
-    requires { (at + length s.now ≤ most_tree_words) × (left ≤ most_nesting) }
-    ensures { InHeads heads.now (λ g. result ≡ got (read_head g (nesting_at left) d s.now at)) }
+// The pair at a position where a tree of type d is due, with `left` levels of nesting to spend: its value and the position after it, or a refusal.
+#[tactic(auto, using(crate::proofs::Reading::head_short, crate::proofs::Reading::head_type, crate::proofs::Reading::head_deep, crate::proofs::Reading::head_value, crate::proofs::Reading::head_misfit))]
+fn head(types: &Types, ws: &[u32], at: usize, d: u32, left: usize) -> Result<(u32, usize), Refusal>
+    requires { (at ≤ length ws.now) × (length ws.now ≤ most_tree_words) × (left ≤ most_nesting) }
+    ensures { OfTypes types.now (λ g. result ≡ got (read_head g (nesting_at left) d (drop at ws.now) at)) }
 {
-    if s.len() < 2 {
-        return Got::Bad(31, at + s.len());
+    if ws.len() - at < 2 {
+        return Err(Refusal::new(Fault::SlipEnds, ws.len()));
     }
-    if s[0] != d {
-        return Got::Bad(32, at);
+    if ws[at] != d {
+        return Err(Refusal::new(Fault::SlipWord, at));
     }
     if left == 0 {
-        return Got::Bad(33, at);
+        return Err(Refusal::new(Fault::SlipNesting, at));
     }
-    let v = s[1];
-    let ok = tables::is_allowed(heads, d, v);
-    if ok {
-        Got::Word(v, at + 2)
+    let v = ws[at + 1];
+    if types.is_allowed(d, v) {
+        Ok((v, at + 2))
     } else {
-        Got::Bad(32, at + 1)
+        Err(Refusal::new(Fault::SlipWord, at + 1))
     }
 }
 
-// Reads the tree of type d at the start of s.
-#[cycle(children_node_sequence)]
-pub fn node(
-    heads: &[u32; HEADS],
-    rows: &[u8; ROWS],
-    s: &[u32],
-    at: usize,
-    d: u32,
-    left: usize,
-) -> Check
-    requires { AreTables heads.now rows.now × (at + length s.now ≤ most_tree_words) × (left ≤ most_nesting) }
-    ensures { InTables heads.now rows.now (λ g. result ≡ answer (Reading.read_trees g s.now (Reading.tree (nesting_at left) d ∷ []) at)) }
+// Reads the tree of type d at a position.
+#[cycle(reading)]
+pub fn node(types: &Types, ws: &[u32], at: usize, d: u32, left: usize) -> Result<usize, Refusal>
+    requires { (at ≤ length ws.now) × (length ws.now ≤ most_tree_words) × (left ≤ most_nesting) }
+    ensures { OfTypes types.now (λ g. result ≡ answer (Reading.read_trees g (drop at ws.now) (Reading.tree (nesting_at left) d ∷ []) at)) }
 {
-    let b = tables::is_sequence(heads, d);
-    if b {
-        return sequence(heads, rows, s, at, d, left);
+    if types.is_sequence(d) {
+        return sequence(types, ws, at, d, left);
     }
-    let h = head(heads, s, at, d, left);
-    match h {
-        Got::Bad(no, p) => Check::Refused(no, p),
-        Got::Word(v, next) => children(heads, rows, &s[2..], next, d, v, left - 1),
-    }
+    let (v, next) = head(types, ws, at, d, left)?;
+    children(types, ws, next, d, v, left - 1)
 }
 
-// Reads a sequence of type d at the start of s. Its rest has its parent's nesting and is walked in a loop: one turn an element.
-#[cycle(children_node_sequence)]
-fn sequence(
-    heads: &[u32; HEADS],
-    rows: &[u8; ROWS],
-    s: &[u32],
-    at: usize,
-    d: u32,
-    left: usize,
-) -> Check
-    requires { AreTables heads.now rows.now × (at + length s.now ≤ most_tree_words) × (left ≤ most_nesting) × InHeads heads.now (λ g. is_sequence g d ≡ true) }
-    ensures { InTables heads.now rows.now (λ g. result ≡ answer (Reading.read_trees g s.now (Reading.tree (nesting_at left) d ∷ []) at)) }
+// Reads a sequence of type d. Its rest has its parent's nesting and is walked in a loop: one turn an element, each beginning where the one before ended.
+#[cycle(reading)]
+fn sequence(types: &Types, ws: &[u32], start: usize, d: u32, left: usize) -> Result<usize, Refusal>
+    requires { (start ≤ length ws.now) × (length ws.now ≤ most_tree_words) × (left ≤ most_nesting) × OfTypes types.now (λ g. is_sequence g d ≡ true) }
+    ensures { OfTypes types.now (λ g. result ≡ answer (Reading.read_trees g (drop start ws.now) (Reading.tree (nesting_at left) d ∷ []) start)) }
 {
-    let e = tables::child(rows, d, 0, 0);
-    let mut j: usize = 0;
+    let element = types.child(d, 0, 0);
+    let mut at = start;
     loop {
-        let h = head(heads, &s[j..], at + j, d, left);
-        match h {
-            Got::Bad(no, p) => {
-                return Check::Refused(no, p);
-            }
-            Got::Word(v, next) => {
-                if v != 0 {
-                    return Check::Passed(next);
-                }
-                let from = j + 2;
-                let a = node(heads, rows, &s[from..], at + from, e, left - 1);
-                match a {
-                    Check::Refused(no, p) => {
-                        return Check::Refused(no, p);
-                    }
-                    Check::Passed(rest) => {
-                        j = rest - at;
-                    }
-                }
-            }
+        let (v, next) = head(types, ws, at, d, left)?;
+        if v != 0 {
+            return Ok(next);
         }
+        at = node(types, ws, next, element, left - 1)?;
     }
 }
 
 // Reads, one after the other, the trees of the children of a node (t, v), which is no sequence.
-#[cycle(children_node_sequence)]
+#[cycle(reading)]
 fn children(
-    heads: &[u32; HEADS],
-    rows: &[u8; ROWS],
-    s: &[u32],
-    at: usize,
+    types: &Types,
+    ws: &[u32],
+    start: usize,
     t: u32,
     v: u32,
     left: usize,
-) -> Check
-    requires { AreTables heads.now rows.now × (at + length s.now ≤ most_tree_words) × (left ≤ most_nesting) }
-    ensures { InTables heads.now rows.now (λ g. result ≡ answer (Reading.read_trees g s.now (level (nesting_at left) (children g t v)) at)) }
+) -> Result<usize, Refusal>
+    requires { (start ≤ length ws.now) × (length ws.now ≤ most_tree_words) × (left ≤ most_nesting) }
+    ensures { OfTypes types.now (λ g. result ≡ answer (Reading.read_trees g (drop start ws.now) (level (nesting_at left) (children g t v)) start)) }
 {
-    let count = tables::child_count(rows, t, v);
-    let mut j: usize = 0;
-    let mut i: usize = 0;
-    while i < count {
-        let e = tables::child(rows, t, v, i);
-        let a = node(heads, rows, &s[j..], at + j, e, left);
-        match a {
-            Check::Refused(no, p) => {
-                return Check::Refused(no, p);
-            }
-            Check::Passed(next) => {
-                j = next - at;
-                i = i + 1;
-            }
-        }
+    let mut at = start;
+    for i in 0..types.child_count(t, v) {
+        let child = types.child(t, v, i);
+        at = node(types, ws, at, child, left)?;
     }
-    Check::Passed(at + j)
+    Ok(at)
 }
 
 // The check of one tree of type t, with nothing left over.
-pub fn read_tree_of(heads: &[u32; HEADS], rows: &[u8; ROWS], s: &[u32], t: u32) -> Check
-    requires { AreTables heads.now rows.now }
-    ensures { InTables heads.now rows.now (λ g. result ≡ answer (Reading.read_tree_of g t s.now)) }
+#[tactic(auto, using(crate::proofs::Reading::tree_empty, crate::proofs::Reading::tree_long, crate::proofs::Reading::tree_odd, crate::proofs::Reading::tree_refused, crate::proofs::Reading::tree_over, crate::proofs::Reading::tree_whole))]
+pub fn read_tree_of(types: &Types, s: &[u32], t: u32) -> Result<usize, Refusal>
+    ensures { OfTypes types.now (λ g. result ≡ answer (Reading.read_tree_of g t s.now)) }
 {
-    if s.len() == 0 {
-        return Check::Refused(30, 0);
+    if s.is_empty() || MOST_WORDS < s.len() || s.len() % 2 != 0 {
+        return Err(Refusal::new(Fault::SlipLength, 0));
     }
-    if MOST_WORDS < s.len() {
-        return Check::Refused(30, 0);
-    }
-    if s.len() % 2 != 0 {
-        return Check::Refused(30, 0);
-    }
-    let a = node(heads, rows, s, 0, t, MOST_NESTING);
-    match a {
-        Check::Refused(no, p) => Check::Refused(no, p),
-        Check::Passed(p) => {
-            if p < s.len() {
-                Check::Refused(31, p)
-            } else {
-                Check::Passed(p)
-            }
-        }
+    let end = node(types, s, 0, t, MOST_NESTING)?;
+    if end < s.len() {
+        Err(Refusal::new(Fault::SlipEnds, end))
+    } else {
+        Ok(end)
     }
 }
 
-// The check of a tree against the grammar whose tables these are.
-pub fn read_tree(heads: &[u32; HEADS], rows: &[u8; ROWS], s: &[u32]) -> Check
-    requires { AreTables heads.now rows.now }
-    ensures { InTables heads.now rows.now (λ g. result ≡ answer (Reading.read_tree g s.now)) }
+// The check of a tree against the grammar whose types these are.
+pub fn read_tree(types: &Types, s: &[u32]) -> Result<usize, Refusal>
+    ensures { OfTypes types.now (λ g. result ≡ answer (Reading.read_tree g s.now)) }
 {
-    read_tree_of(heads, rows, s, 0)
+    read_tree_of(types, s, 0)
 }

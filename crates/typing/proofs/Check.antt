@@ -7,27 +7,28 @@ use mathlib.Core.Option.{Option, none, some}
 use native.Mathlib.Omega.{arith}
 use native.Mathlib.Nat.{add-zero}
 use native.Mathlib.Numerals.{add-one}
-use lib.ListN.{length, get_or, take, set, replicate, get_elem?}
-use lib.Seq.{sets, take-suc-set}
+use lib.ListN.{length, get_or, set, replicate, get_elem?}
+use lib.Seq.{sets}
 use lib.Dec.{ltb}
 use borrow.Author.Tests.{le-leb, lt-leb}
+use Rattle.std.specs.Prelude.{Result, Ok, Err}
 use Rattle.words.specs.Reader.{Words, pick, Read, value, refused, Reader, and_then, return, many, end, accepted, ◌>>=◌, ◌>>◌}
 use Rattle.words.specs.Views.{answer}
-use Rattle.words.specs.declared.Check.{Check}
-use Rattle.words.specs.declared.Check.TheVariants.{Passed, Refused}
 use Rattle.words.proofs.Laws.{answer_passed, answer_refused, then_value, require_value, in_value, many_suc, many_length, accepted_value}
 use Rattle.words.proofs.Sets.{get_d_within}
-use Rattle.grammar.specs.Limits.{most_types, most_grammar_words}
-use Rattle.grammar.specs.Grammar.{Grammar, read_grammar, grammar_fits, finite_records, finite}
-use Rattle.grammar.specs.Grammar as Grammars
+use Rattle.grammar.specs.Limits.{most_grammar_words}
+use Rattle.grammar.specs.Grammar.{Grammar, read_grammar, grammar_fits}
 use Rattle.tables.specs.Tables.{read_of}
+use Rattle.tables.specs.declared.types.Types.{Types}
+use Rattle.std.proofs.Math.Logic.{∥∥₁_map}
+use Rattle.std.specs.Result.{result_unwrap_or}
 use Rattle.rules.specs.Limits.{most_rules, most_rule_words}
 use Rattle.rules.specs.Rules.{Rule, Rules, Piece, pieces}
 use Rattle.rules.specs.Layout.{bit, only_if, stretch, field, pairs, replacement, main_fits, main_bits, rule, layout, read_layout, rules_fit}
 use Rattle.judgement.specs.Typing.{is_some, fits_scope, no_rule, rule_typed, main_target, rules_typed, read_rules, check_rules}
 use Rattle.dues.specs.Views.{words_at}
-use Rattle.pairs.specs.Views.{Headed, Book, Given}
-use Rattle.typing.specs.Views.{AreTablesOf, positions}
+use Rattle.pairs.specs.Book.{Headed, Book, Given}
+use Rattle.typing.specs.Views.{positions}
 use Rattle.typing.proofs.Places.{rule_shape, rule_next}
 
 -- PARAMETERS
@@ -41,37 +42,25 @@ pub parameters_none : (ws : Words) (first : ℕ) → [] ≡ words_at ws first 0
 unfolding words_at
 parameters_none ws first = refl
 
-pub parameters_more : (ws : Words) (first i w : ℕ) (types : Words) → i < length types → w ≡ get_or ws (first + i) 0 → take i types ≡ words_at ws first i → take (i + 1) (set types i w) ≡ words_at ws first (i + 1)
-parameters_more ws first i w types h e k = rw (add-one i) (take-suc-set types i w h ∙ rw (k, e) (sym (words_more ws first i)))
+pub parameters_more : (ws : Words) (first i : ℕ) {w : ℕ} {Γ Δ : Words} → w ≡ get_or ws (first + i) 0 → Γ ≡ words_at ws first i → Δ ≡ Γ ++ w ∷ [] → Δ ≡ words_at ws first (i + 1)
+parameters_more ws first i e k d = d ∙ rw (add-one i, k, e) (sym (words_more ws first i))
 
-pub parameters_all : (ws : Words) (first i n k : ℕ) (types : Words) → n ≤ i → i ≤ n → n ≡ k → take i types ≡ words_at ws first i → take n types ≡ words_at ws first k
-parameters_all ws first i n k types h l e t = let z : i ≡ n = omega arith in let y : i ≡ k = omega arith in ap (λ x. take x types) (sym z) ∙ t ∙ ap (words_at ws first) y
+pub parameters_length : (ws : Words) (first i : ℕ) → length (words_at ws first i) ≡ i
+unfolding words_at
+parameters_length ws first zero = refl
+parameters_length ws first (suc i) = ap suc (parameters_length ws (first + 1) i)
 
 -- WHERE THE RULES STAND
 
-module _ {A : Type 0} (r : Reader A) (left at : ℕ) (h : 0 < left) (a : accepted (many left r at) ≡ true) where
-  -- where so many readings pass, the first and the others pass
-  many_first : (x : A) × (p : ℕ) × (r at ≡ value x p) × (accepted (many (left - 1) r p) ≡ true)
+module _ {A : Type 0} (r : Reader A) (k i at : ℕ) (h : i < k) (a : accepted (many (k - i) r at) ≡ true) where
+  -- where the readings left pass, the first and the others pass
+  many_first : (x : A) × (p : ℕ) × (r at ≡ value x p) × (accepted (many (k - (i + 1)) r p) ≡ true)
   many_first =
-      let u = accepted_value (many left r at) a in
-      let z : left ≡ suc (left - 1) = omega arith in
-      let e : many (suc (left - 1)) r at ≡ value u.0 u.1 = ap (λ k. many k r at) (sym z) ∙ u.2 in
-      let v = many_suc r (left - 1) at e in
+      let u = accepted_value (many (k - i) r at) a in
+      let z : k - i ≡ suc (k - (i + 1)) = omega arith in
+      let e : many (suc (k - (i + 1))) r at ≡ value u.0 u.1 = ap (λ n. many n r at) (sym z) ∙ u.2 in
+      let v = many_suc r (k - (i + 1)) at e in
       (v.0, v.1, v.3, rw v.4)
-
-  pub many_refused : {B : Type 0} {c : Check} → c ≡ answer (r at) → {n p : ℕ} → c ≡ Refused n p → B
-  many_refused {c = c} d {n} {p} e =
-      let u = many_first in
-      let x : value u.0 u.1 ≡ refused n p = sym u.2 ∙ answer_refused (r at) c d e in
-      let z : ◌≡◌ {A = ℕ} 0 1 = cc x in absurd (omega arith)
-
-  pub many_passed : {c : Check} → c ≡ answer (r at) → {next : ℕ} → c ≡ Passed next → accepted (many (left - 1) r next) ≡ true
-  many_passed {c} d {next} e =
-      let u = many_first in
-      let v = answer_passed (r at) c d e in
-      let x : value u.0 u.1 ≡ value v.0 next = sym u.2 ∙ v.1 in
-      let y : u.1 ≡ next = cc x in
-      ap (λ p. accepted (many (left - 1) r p)) (sym y) ∙ u.3
 
 module _ (types : ℕ) (ws : Words) where
   positions_length : (n at : ℕ) → length (positions types ws n at) ≡ n
@@ -79,25 +68,25 @@ module _ (types : ℕ) (ws : Words) where
   positions_length zero at = refl
   positions_length (suc n) at = ap suc (positions_length n _)
 
-  pub positions_none : (left at : ℕ) → left ≤ 0 → positions types ws left at ≡ []
+  positions_more : (k i at : ℕ) {r : Rule} {next : ℕ} → i < k → rule types ws at ≡ value r next → positions types ws (k - i) at ≡ at ∷ positions types ws (k - (i + 1)) next
   unfolding positions
-  positions_none zero at h = refl
-  positions_none (suc left) at h = absurd (omega arith)
+  positions_more k i at h e = let z : k - i ≡ suc (k - (i + 1)) = omega arith in rw (z, e)
 
-  positions_more : (left at : ℕ) {r : Rule} {next : ℕ} → 0 < left → rule types ws at ≡ value r next → positions types ws left at ≡ at ∷ positions types ws (left - 1) next
+  positions_none : (k i at : ℕ) → k ≤ i → positions types ws (k - i) at ≡ []
   unfolding positions
-  positions_more zero at h e = absurd (omega arith)
-  positions_more (suc left) at h e = let z : suc left - 1 ≡ left = omega arith in rw (z, e)
+  positions_none k i at h = let z : k - i ≡ 0 = omega arith in rw z
 
-  pub starts_more : (starts all : Words) (left i at : ℕ) {c : Check} → 0 < left → c ≡ answer (rule types ws at) → {next : ℕ} → c ≡ Passed next
-      → sets starts i (positions types ws left at) ≡ all → sets (set starts i at) (i + 1) (positions types ws (left - 1) next) ≡ all
-  starts_more starts all left i at {c} h d {next} e k =
-      let v = answer_passed (rule types ws at) c d e in
-      let m : sets starts i (at ∷ positions types ws (left - 1) next) ≡ all = rw (positions_more left at h v.1) at k in
-      rw (add-one i) m
+  module _ (starts all : Words) (k i at : ℕ) (s : sets starts i (positions types ws (k - i) at) ≡ all) where
+    pub starts_more : i < k → accepted (many (k - i) (rule types ws) at) ≡ true → {c : Result ℕ (ℕ × ℕ)} → c ≡ answer (rule types ws at)
+        → (accepted (many (k - (i + 1)) (rule types ws) (result_unwrap_or c at)) ≡ true) × (sets (set starts i at) (i + 1) (positions types ws (k - (i + 1)) (result_unwrap_or c at)) ≡ all)
+    starts_more h a {c} d =
+        let u = many_first (rule types ws) k i at h a in
+        let z : result_unwrap_or c at ≡ u.1 = rw (d, u.2) in
+        let m : sets starts i (at ∷ positions types ws (k - (i + 1)) u.1) ≡ all = rw (positions_more k i at h u.2) at s in
+        (rw z u.3, rw z (ap (λ j. sets (set starts i at) j (positions types ws (k - (i + 1)) u.1)) (add-one i) ∙ m))
 
-  pub starts_end : (starts all : Words) (left i at : ℕ) → left ≤ 0 → sets starts i (positions types ws left at) ≡ all → starts ≡ all
-  starts_end starts all left i at h k = rw (positions_none left at h) at k
+    pub starts_end : k ≤ i → starts ≡ all
+    starts_end h = rw (positions_none k i at h) at s
 
   replacement_some : (m at n : ℕ) (o : Option (List Piece)) → replacement ws m at ≡ value o n → is_some o ≡ bit 3 m
   unfolding replacement is_some
@@ -156,17 +145,17 @@ module _ (types : ℕ) (ws : Words) where
 
 -- ALL THE RULES
 
-module _ (g : Grammar) (rules : Rules) (types : ℕ) (ws : Words) (l : length g ≡ types) (left at : ℕ) (h : 0 < left) (a : accepted (many left (rule types ws) at) ≡ true) where
+module _ (types : ℕ) (ws : Words) (k i at : ℕ) (h : i < k) (a : accepted (many (k - i) (rule types ws) at) ≡ true) where
   pub rule_accepted : accepted (rule types ws at) ≡ true
-  rule_accepted = let u = many_first (rule types ws) left at h a in rw u.2
+  rule_accepted = let u = many_first (rule types ws) k i at h a in rw u.2
 
-  pub rules_more : {c : Check} → c ≡ answer (rule_typed g rules ws at) → {next : ℕ} → c ≡ Passed next → accepted (many (left - 1) (rule types ws) next) ≡ true
-  rules_more {c} d {next} e =
-      let u = many_first (rule types ws) left at h a in
+  pub rules_more : (g : Grammar) (rules : Rules) → length g ≡ types → {c : Result ℕ (ℕ × ℕ)} → c ≡ answer (rule_typed g rules ws at) → {next : ℕ} → c ≡ Ok next → accepted (many (k - (i + 1)) (rule types ws) next) ≡ true
+  rules_more g rules l {c} d {next} e =
+      let u = many_first (rule types ws) k i at h a in
       let v = answer_passed (rule_typed g rules ws at) c d e in
       let s = (rule_shape types ws at u.0 u.1 u.2).0 in
       let z : next ≡ u.1 = rule_next g rules types ws l at u.1 s next v.1 in
-      ap (λ p. accepted (many (left - 1) (rule types ws) p)) z ∙ u.3
+      ap (λ p. accepted (many (k - (i + 1)) (rule types ws) p)) z ∙ u.3
 
 -- what an accepted layout went through
 pub record LayoutOf (types : ℕ) (ws : Words) : Type 0 where
@@ -207,18 +196,15 @@ layout_of types ws a = let u = accepted_value (read_layout types ws) a in go u.0
     go : (rules : Rules) (last : ℕ) → read_layout types ws ≡ value rules last → (n : ℕ) × (n ≡ get_or ws 0 0) × (1 ≤ n) × (n ≤ 64) × (many n (rule types ws) 1 ≡ value rules last) → LayoutOf types ws
     go rules last e u = record { rules = rules; last = last; whole = e; each = ap (λ n. many n (rule types ws) 1) (sym u.1) ∙ u.4; few = omega (arith, u.1, u.3); some = omega (arith, u.1, u.2) }
 
-module _ (types : ℕ) (ws : Words) (a : accepted (read_layout types ws) ≡ true) {n : ℕ} (en : n ≡ get_or ws 0 0) where
-  pub layout_starts : (n ≤ 64) × (accepted (many n (rule types ws) 1) ≡ true)
-  layout_starts = let l = layout_of types ws a in (omega (arith, l.few), rw (en, l.each))
+module _ (types : ℕ) (ws : Words) (a : accepted (read_layout types ws) ≡ true) where
+  pub layout_starts : {n : ℕ} → n ≡ get_or ws 0 0 → (n ≤ 64) × (accepted (many n (rule types ws) 1) ≡ true)
+  layout_starts en = let l = layout_of types ws a in (omega (arith, l.few, en), rw (en, l.each))
 
-  module _ {starts : Words} (s : starts ≡ sets (replicate 64 0) 0 (positions types ws n 1)) where
+  module _ {n : ℕ} (en : n ≡ get_or ws 0 0) {starts : Words} (s : starts ≡ sets (replicate 64 0) 0 (positions types ws n 1)) where
     pub layout_book : Book types ws starts (layout_of types ws a).rules
     layout_book =
         let l = layout_of types ws a in
-        book_of types ws starts n l.rules l.last (ap (λ k. many k (rule types ws) 1) en ∙ l.each) en (omega (arith, l.few)) s
-
-    pub layout_given : {heads rows : Words} → AreTablesOf types heads rows → Given types heads rows ws starts
-    layout_given t = record { grammar = t.0; tables = t.1; types_are = t.2; rules = (layout_of types ws a).rules; book = layout_book; few = (layout_of types ws a).few }
+        book_of types ws starts n l.rules l.last (ap (λ k. many k (rule types ws) 1) en ∙ l.each) en (omega (arith, l.few, en)) s
 
     module _ (g : Grammar) (k : length g ≡ types) {ok : Bool} (m : (r : Rule) → Headed types ws (get_or starts 0 0) r → ok ≡ fits_scope r 0) where
       main_is : ok ≡ fits_scope (get_or (layout_of types ws a).rules 0 no_rule) 0
@@ -227,20 +213,24 @@ module _ (types : ℕ) (ws : Words) (a : accepted (read_layout types ws) ≡ tru
       rules_are : read_layout (length g) ws ≡ value (layout_of types ws a).rules (layout_of types ws a).last
       rules_are = ap (λ t. read_layout t ws) k ∙ (layout_of types ws a).whole
 
-      pub main_refused : ok ≡ false → Refused 23 2 ≡ answer (read_rules g ws)
+      pub main_refused : ok ≡ false → Err (23, 2) ≡ answer (read_rules g ws)
       unfolding read_rules rules_typed main_target
       main_refused h = rw (rules_are, ← main_is, h)
 
-      pub rules_done : ok ≡ true → {c : Check} → c ≡ answer (many n (rule_typed g (layout_of types ws a).rules ws) 1) → c ≡ answer (read_rules g ws)
+      pub rules_done : ok ≡ true → {c : Result ℕ (ℕ × ℕ)} → c ≡ answer (many (get_or ws 0 0) (rule_typed g (layout_of types ws a).rules ws) 1) → c ≡ answer (read_rules g ws)
       unfolding read_rules rules_typed main_target
       rules_done h {c} d =
           let l = layout_of types ws a in
-          let z : length l.rules ≡ n = layout_book.count ∙ sym en in
-          d ∙ rw (rules_are, ← main_is, h, z) (go (many n (rule_typed g l.rules ws) 1))
+          d ∙ rw (rules_are, ← main_is, h, layout_book.count) (go (many (get_or ws 0 0) (rule_typed g l.rules ws) 1))
         where
           go : (q : Read (List (Unit {0}))) → answer q ≡ answer (and_then (and_then q (λ us. return (tt {0}))) (λ u. return (layout_of types ws a).rules))
           go (value us next) = refl
           go (refused i p) = refl
+
+-- what is known of the rule book whose layout passes, with the types of some grammar
+pub layout_given : {types : Types} {ws : Words} → accepted (read_layout types.count ws) ≡ true → {n : ℕ} → n ≡ get_or ws 0 0 → {starts : Words} → starts ≡ sets (replicate 64 0) 0 (positions types.count ws n 1) → ∥ Given types ws starts ∥₁
+layout_given {types} {ws} a en s = ∥∥₁_map types.of_grammar (λ t.
+    record { grammar = t.0; types_of = record { heads_of = t.1.heads_of; rows_of_lem = t.1.rows_of_lem; count_of = t.2 }; rules = (layout_of types.count ws a).rules; book = layout_book types.count ws a en s })
 
 -- THE RULES THAT WERE READ stand where the table says
 
@@ -266,51 +256,35 @@ module _ (g : Grammar) (types : ℕ) (ws : Words) (rules : Rules) (last : ℕ) (
 
 -- THE PLACES BOOK, LAYOUT AND BOOK, TYPING
 
-module _ (types : ℕ) (ws : Words) {c : Check} (is : c ≡ answer (read_layout types ws)) where
-  pub layout_accepted : {p : ℕ} → c ≡ Passed p → accepted (read_layout types ws) ≡ true
+module _ (types : ℕ) (ws : Words) {c : Result ℕ (ℕ × ℕ)} (is : c ≡ answer (read_layout types ws)) where
+  pub layout_accepted : {p : ℕ} → c ≡ Ok p → accepted (read_layout types ws) ≡ true
   layout_accepted e = rw (answer_passed (read_layout types ws) c is e).1
 
-  pub layout_refused : (g : Grammar) → length g ≡ types → {n p : ℕ} → c ≡ Refused n p → Refused n p ≡ answer (read_rules g ws)
+  pub layout_refused : (g : Grammar) → length g ≡ types → {x : ℕ × ℕ} → c ≡ Err x → Err x ≡ answer (read_rules g ws)
   unfolding read_rules
   layout_refused g k e = rw (k, answer_refused (read_layout types ws) c is e)
 
 -- THE SINGLE CHECK
 
 module _ (gs ws : Words) where
-  pub check_long : most_grammar_words < length gs → Refused 4 0 ≡ answer (check_rules gs ws)
+  pub check_long : most_grammar_words < length gs → Err (4, 0) ≡ answer (check_rules gs ws)
   unfolding check_rules grammar_fits
   check_long h = rw (lt-leb (length gs) most_grammar_words h)
 
   module _ (h : length gs ≤ most_grammar_words) where
-    pub check_long_rules : most_rule_words < length ws → Refused 5 0 ≡ answer (check_rules gs ws)
+    pub check_long_rules : most_rule_words < length ws → Err (5, 0) ≡ answer (check_rules gs ws)
     unfolding check_rules grammar_fits rules_fit
     check_long_rules i = rw (le-leb (length gs) most_grammar_words h, lt-leb (length ws) most_rule_words i)
 
-    module _ (i : length ws ≤ most_rule_words) {c : Check} (is : c ≡ answer (read_grammar gs)) where
-      pub check_refused : {n p : ℕ} → c ≡ Refused n p → Refused n p ≡ answer (check_rules gs ws)
+    module _ (i : length ws ≤ most_rule_words) {c : Result ℕ (ℕ × ℕ)} (is : c ≡ answer (read_grammar gs)) where
+      pub check_refused : {x : ℕ × ℕ} → c ≡ Err x → Err x ≡ answer (check_rules gs ws)
       unfolding check_rules grammar_fits rules_fit
       check_refused e = rw (le-leb (length gs) most_grammar_words h, le-leb (length ws) most_rule_words i, answer_refused (read_grammar gs) c is e)
 
-      module _ {p : ℕ} (e : c ≡ Passed p) where
+      module _ {p : ℕ} (e : c ≡ Ok p) where
         pub check_accepted : accepted (read_grammar gs) ≡ true
         check_accepted = rw (answer_passed (read_grammar gs) c is e).1
 
-        pub check_read : {r : Check} → r ≡ answer (read_rules (read_of (read_grammar gs)) ws) → r ≡ answer (check_rules gs ws)
+        pub check_read : {r : Result ℕ (ℕ × ℕ)} → r ≡ answer (read_rules (read_of (read_grammar gs)) ws) → r ≡ answer (check_rules gs ws)
         unfolding check_rules grammar_fits rules_fit
         check_read d = let u = answer_passed (read_grammar gs) c is e in d ∙ rw (le-leb (length gs) most_grammar_words h, le-leb (length ws) most_rule_words i, u.1)
-
--- the number of types is the grammar's first word
-pub grammar_types : (gs : Words) → accepted (read_grammar gs) ≡ true → (length (read_of (read_grammar gs)) ≡ get_or gs 0 0) × (1 ≤ get_or gs 0 0)
-unfolding read_grammar Grammars.grammar Grammars.field
-grammar_types gs a =
-    let w = accepted_value (read_grammar gs) a in
-    let u = then_value (Grammars.grammar gs 0) (λ g next. and_then (finite_records gs (length g) (finite g) 1) (λ t. return g)) w.2 in
-    let f = then_value (finite_records gs (length u.0) (finite u.0) 1) (λ t. return u.0) u.3 in
-    let v = then_value (Grammars.field gs 1 most_types 0) (λ n. ◌>>=◌ (many n (Grammars.kind gs n)) (λ ks. ◌>>◌ (end 10 gs) (return ks))) u.2 in
-    let x = then_value (many v.0 (Grammars.kind gs v.0) v.1) (λ ks. ◌>>◌ (end 10 gs) (return ks)) v.3 in
-    let y = then_value (end 10 gs x.1) (λ t. return x.0) x.3 in
-    let i = in_value 10 11 gs 1 most_types 0 v.2 in
-    let m = many_length (Grammars.kind gs v.0) v.0 v.1 x.0 x.1 x.2 in
-    let p : x.0 ≡ u.0 = cc y.3 in
-    let q : u.0 ≡ w.0 = cc f.3 in
-    (ap (λ r. length (read_of r)) w.2 ∙ ap length (sym q) ∙ ap length (sym p) ∙ m ∙ i.0, omega (arith, i.0, i.2))

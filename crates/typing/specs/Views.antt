@@ -1,26 +1,26 @@
--- How the code of the typing sees a grammar and the fields of a rule, and where the rules stand. Assumes nothing: these are definitions.
-use Rattle.std.specs.Prelude.{ℕ, zero, suc, ◌≡◌, [], ◌∷◌, length}
+-- How the code of the typing sees the fields of a rule, and where the rules stand. Assumes nothing: these are definitions.
+use Rattle.std.specs.Prelude.{ℕ, zero, suc, [], ◌∷◌, Option, None, Some}
+use Rattle.std.proofs.Math.Option.{Option as Found, none, some}
 use Rattle.words.specs.Reader.{Words, Reader, ◌>>=◌, return}
 use Rattle.grammar.specs.Grammar.{Grammar}
-use Rattle.tables.specs.Tables.{Tables}
 use Rattle.tables.specs.Filling.{next_of}
 use Rattle.tree.specs.Reading.{tree}
 use Rattle.rules.specs.Rules.{Rules}
 use Rattle.rules.specs.Layout as Layout
 use Rattle.rules.specs.Layout.{PartAt, deconstruct_at, bit, only_if, field}
-use Rattle.rules.specs.Views.{searched_type}
 use Rattle.rules.specs.declared.Deconstruct.{Deconstruct}
 use Rattle.judgement.specs.Typing.{a_tree, Context, in_replacement, typed, parts_typed}
 
--- the tables are those of a grammar of so many types
-abbrev pub AreTablesOf : ℕ → Words → Words → Type 0
-AreTablesOf types heads rows = (g : Grammar) × Tables g heads rows × (length g ≡ types)
-
 -- THE FIELDS OF A RULE
+
+-- the searched type, if there is one
+abbrev pub searched_of : Option ℕ → Found ℕ
+searched_of None = none
+searched_of (Some s) = some s
 
 -- the part, by the fields that the code has
 abbrev pub deconstruct_of : Deconstruct → PartAt
-deconstruct_of d = deconstruct_at (searched_type d.searches d.searched) d.variable d.pattern
+deconstruct_of d = deconstruct_at (searched_of d.searched) d.variable d.pattern
 
 module _ (g : Grammar) (rules : Rules) (ws : Words) where
   -- the parts, where the map announces them

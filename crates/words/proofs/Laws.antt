@@ -6,32 +6,57 @@ use mathlib.Core.Bool.{Bool, true, false}
 use mathlib.Core.Option.{none, some}
 use native.Mathlib.Omega.{arith}
 use lib.ListN.{length, get_or, get_elem?}
+use Rattle.std.specs.Prelude.{Result, Ok, Err, IsErr, IsErrAnd}
+use Rattle.std.proofs.lemmas.Result.{err_from_is_err_and}
 use lib.Dec.{ltb, leb}
-use borrow.Author.Tests.{lt-ltb, le-ltb, le-leb, lt-leb, ltb-true, leb-true}
+use borrow.Author.Tests.{lt-ltb, le-ltb, ltb-true, leb-true}
 use Rattle.words.specs.Reader.{Words, pick, and, or, between, Read, value, refused, Reader, and_then, ◌>>=◌, return, require, word, word_in, many, accepted}
-use Rattle.words.specs.declared.Check.{Check}
-use Rattle.words.specs.declared.Check.TheVariants.{Passed, Refused}
-use Rattle.words.specs.declared.Got.{Got}
-use Rattle.words.specs.declared.Got.TheVariants.{Word, Bad}
-use Rattle.words.specs.Views.{answer, got}
+use Rattle.words.specs.Views.{answer, got, shown}
 
 -- WHAT THE CODE'S ANSWER TELLS OF THE READING
 
-pub read_word : (r : Read ℕ) (g : Got) → g ≡ got r → {w next : ℕ} → g ≡ Word w next → r ≡ value w next
-read_word (value a b) g d e = cc
-read_word (refused n p) g d e = let z : ◌≡◌ {A = ℕ} 0 1 = cc in absurd (omega arith)
+pub read_word : (r : Read ℕ) (g : Result (ℕ × ℕ) (ℕ × ℕ)) → g ≡ got r → {x : ℕ × ℕ} → g ≡ Ok x → r ≡ value x.0 x.1
+read_word (value a b) g d e = let p = sym e ∙ d in cc
+read_word (refused n p) g d e = let z = sym e ∙ d in cc
 
-pub read_bad : (r : Read ℕ) (g : Got) → g ≡ got r → {n p : ℕ} → g ≡ Bad n p → r ≡ refused n p
-read_bad (value a b) g d e = let z : ◌≡◌ {A = ℕ} 0 1 = cc in absurd (omega arith)
-read_bad (refused n p) g d e = cc
+pub read_bad : (r : Read ℕ) (g : Result (ℕ × ℕ) (ℕ × ℕ)) → g ≡ got r → {x : ℕ × ℕ} → g ≡ Err x → r ≡ refused x.0 x.1
+read_bad (value a b) g d e = let z = sym e ∙ d in cc
+read_bad (refused n p) g d e = let p = sym e ∙ d in cc
 
-pub answer_passed : {A : Type 0} (r : Read A) (c : Check) → c ≡ answer r → {p : ℕ} → c ≡ Passed p → (a : A) × (r ≡ value a p)
+pub answer_passed : {A : Type 0} (r : Read A) (c : Result ℕ (ℕ × ℕ)) → c ≡ answer r → {p : ℕ} → c ≡ Ok p → (a : A) × (r ≡ value a p)
 answer_passed (value a q) c d e = (a, cc)
-answer_passed (refused n q) c d e = let z : ◌≡◌ {A = ℕ} 0 1 = cc in absurd (omega arith)
+answer_passed (refused n q) c d e = let z = sym e ∙ d in cc
 
-pub answer_refused : {A : Type 0} (r : Read A) (c : Check) → c ≡ answer r → {n p : ℕ} → c ≡ Refused n p → r ≡ refused n p
-answer_refused (value a q) c d e = let z : ◌≡◌ {A = ℕ} 0 1 = cc in absurd (omega arith)
+pub answer_refused : {A : Type 0} (r : Read A) (c : Result ℕ (ℕ × ℕ)) → c ≡ answer r → {x : ℕ × ℕ} → c ≡ Err x → r ≡ refused x.0 x.1
+answer_refused (value a q) c d e = let z = sym e ∙ d in cc
 answer_refused (refused n q) c d e = cc
+
+-- what a `?` hands on is the error that it met
+pub exits : {T E : Type 0} (r : Result T E) {y : E} → IsErr r × IsErrAnd r (λ e. e ≡ y) → r ≡ Err y
+exits r h = let p = err_from_is_err_and r h.1 in p.1 ∙ ap Err p.2
+
+pub pair_is : {A B : Type 0} {a c : A} {b d : B} → ◌≡◌ {A = A × B} (a, b) (c, d) → (a ≡ c) × (b ≡ d)
+pair_is e = (ap (λ p. p.0) e, ap (λ p. p.1) e)
+
+pub shown_ok : {A B : Type 0} (f : A → B) (r : Read A) {b : B} {next : ℕ} → Ok (b, next) ≡ shown f r → (a : A) × (r ≡ value a next) × (b ≡ f a)
+shown_ok f (value a q) {b} {next} d =
+    let p = pair_is {a = b} {c = f a} {b = next} {d = q} cc in
+    (a, ap (value a) (sym p.1), p.0)
+shown_ok f (refused n q) d = cc
+
+pub shown_err : {A B : Type 0} (f : A → B) (r : Read A) {x : ℕ × ℕ} → Err x ≡ shown f r → r ≡ refused x.0 x.1
+shown_err f (value a q) d = cc
+shown_err f (refused n q) d = cc
+
+-- what is made of the value, then of that
+pub shown_map : {A B C : Type 0} (f : B → C) (h : A → B) (q : Read A) → shown f (and_then q (λ a. return (h a))) ≡ shown (λ a. f (h a)) q
+shown_map f h (value a next) = refl
+shown_map f h (refused n p) = refl
+
+-- .. is the same, if the same is made of each value
+pub shown_same : {A B : Type 0} (f h : A → B) → ((a : A) → f a ≡ h a) → (q : Read A) → shown f q ≡ shown h q
+shown_same f h e (value a next) = ap (λ b. Ok (b, next)) (e a)
+shown_same f h e (refused n p) = refl
 
 -- what is made of the value does not change the answer
 pub answer_map : {A B : Type 0} (q : Read A) (f : A → B) → answer q ≡ answer (and_then q (λ a. return (f a)))
@@ -113,30 +138,26 @@ past_none (x ∷ l) (suc i) h = past_none l i (omega arith)
 -- ONE WORD
 
 module _ (ends : ℕ) (ws : Words) (at : ℕ) where
-  pub word_there : at < length ws → Word (get_or ws at 0) (at + 1) ≡ got (word ends ws at)
+  pub word_there : at < length ws → Ok (get_or ws at 0, at + 1) ≡ got (word ends ws at)
   unfolding word
   word_there h = rw (lt-ltb at (length ws) h)
 
-  pub word_ends : length ws ≤ at → Bad ends (length ws) ≡ got (word ends ws at)
+  pub word_ends : length ws ≤ at → Err (ends, length ws) ≡ got (word ends ws at)
   unfolding word
   word_ends h = rw (le-ltb at (length ws) h)
 
-  module _ (fault low high : ℕ) (g : Got) (e : g ≡ got (word ends ws at)) where
-    pub in_bad : {no' p : ℕ} → g ≡ Bad no' p → Bad no' p ≡ got (word_in ends fault ws low high at)
+  module _ (fault low high : ℕ) (g : Result (ℕ × ℕ) (ℕ × ℕ)) (e : g ≡ got (word ends ws at)) where
+    pub in_bad : {x : ℕ × ℕ} → g ≡ Err x → Err x ≡ got (word_in ends fault ws low high at)
     unfolding word_in
     in_bad b = rw (read_bad (word ends ws at) g e b)
 
-    pub in_low : {w next : ℕ} → g ≡ Word w next → w < low → Bad fault at ≡ got (word_in ends fault ws low high at)
+    pub in_out : {x : ℕ × ℕ} → g ≡ Ok x → between low high x.0 ≡ false → Err (fault, at) ≡ got (word_in ends fault ws low high at)
     unfolding word_in
-    in_low {w} b h = rw (read_word (word ends ws at) g e b, lt-leb low w h)
+    in_out b h = rw (read_word (word ends ws at) g e b, h)
 
-    pub in_high : {w next : ℕ} → g ≡ Word w next → low ≤ w → high < w → Bad fault at ≡ got (word_in ends fault ws low high at)
+    pub in_there : {x : ℕ × ℕ} → g ≡ Ok x → between low high x.0 ≡ true → Ok x ≡ got (word_in ends fault ws low high at)
     unfolding word_in
-    in_high {w} b h i = rw (read_word (word ends ws at) g e b, le-leb low w h, lt-leb w high i)
-
-    pub in_there : {w next : ℕ} → g ≡ Word w next → low ≤ w → w ≤ high → Word w next ≡ got (word_in ends fault ws low high at)
-    unfolding word_in
-    in_there {w} b h i = rw (read_word (word ends ws at) g e b, le-leb low w h, le-leb w high i)
+    in_there b h = rw (read_word (word ends ws at) g e b, h)
 
 -- A READER MANY TIMES
 
@@ -159,6 +180,18 @@ module _ {A : Type 0} (r : Reader A) where
       the_rest : suc k - 1 ≡ k
       the_rest = omega arith
 
+  -- in a loop that has read i of k: nothing is left, or one more is read
+  pub many_done : (k i at : ℕ) → k ≤ i → many (k - i) r at ≡ value [] at
+  many_done k i at h = many_none (k - i) at (omega arith)
+
+  pub many_stop : (k i at : ℕ) {n p : ℕ} → i < k → r at ≡ refused n p → many (k - i) r at ≡ refused n p
+  many_stop k i at h e = many_bad (k - i) at (omega arith) e
+
+  pub many_next : (k i at : ℕ) {a : A} {next : ℕ} → i < k → r at ≡ value a next → many (k - i) r at ≡ and_then (many (k - (i + 1)) r next) (λ more. return (a ∷ more))
+  many_next k i at {a} {next} h e =
+      let z : k - i - 1 ≡ k - (i + 1) = omega arith in
+      many_more (k - i) at (omega arith) e ∙ rw z
+
   -- what k readings give: the first, then the others
   pub many_suc : (k at : ℕ) {xs : List A} {next : ℕ} → many (suc k) r at ≡ value xs next → (a : A) × (p : ℕ) × (more : List A) × (r at ≡ value a p) × (many k r p ≡ value more next) × (xs ≡ a ∷ more)
   unfolding many
@@ -172,14 +205,30 @@ module _ {A : Type 0} (r : Reader A) where
   many_length zero at xs next e = let z : [] ≡ xs = cc in rw (← z)
   many_length (suc k) at xs next e = let u = many_suc k at e in rw u.5 (ap suc (many_length k u.1 u.2 next u.4))
 
--- A LOOP THAT CHECKS MANY READINGS: left of them are still due, from `at` on
+-- A LOOP THAT HAS READ i OF k, and stands at `at`
 
-module _ {A : Type 0} (r : Reader A) (left at : ℕ) (whole : Check) (inv : whole ≡ answer (many left r at)) where
-  pub loop_end : left ≤ 0 → Passed at ≡ whole
-  loop_end h = sym (inv ∙ rw (many_none r left at h))
+module _ {A : Type 0} (r : Reader A) (k i at : ℕ) where
+  -- it hands back the position alone
+  pub answer_done : k ≤ i → Ok at ≡ answer (many (k - i) r at)
+  answer_done h = rw (many_done r k i at h)
 
-  pub loop_refused : 0 < left → {n p : ℕ} → r at ≡ refused n p → Refused n p ≡ whole
-  loop_refused h e = sym (inv ∙ rw (many_bad r left at h e))
+  pub answer_stop : i < k → {x : ℕ × ℕ} → r at ≡ refused x.0 x.1 → Err x ≡ answer (many (k - i) r at)
+  answer_stop h e = rw (many_stop r k i at h e)
 
-  pub loop_more : 0 < left → {a : A} {next : ℕ} → r at ≡ value a next → whole ≡ answer (many (left - 1) r next)
-  loop_more h {a} {next} e = inv ∙ rw (many_more r left at h e) (sym (answer_map (many (left - 1) r next) (λ more. a ∷ more)))
+  pub answer_next : i < k → {a : A} {next : ℕ} → r at ≡ value a next → answer (many (k - i) r at) ≡ answer (many (k - (i + 1)) r next)
+  answer_next h {a} {next} e = rw (many_next r k i at h e) (sym (answer_map (many (k - (i + 1)) r next) (λ more. a ∷ more)))
+
+  -- it gathers something as it goes, `acc` so far
+  module _ {B C D : Type 0} (f : A → B) (all : D → List A → C) (acc : D) where
+    pub shown_done : k ≤ i → Ok (all acc [], at) ≡ shown (all acc) (many (k - i) r at)
+    shown_done h = rw (many_done r k i at h)
+
+    pub shown_stop : i < k → {x : ℕ × ℕ} → Err x ≡ shown f (r at) → Err x ≡ shown (all acc) (many (k - i) r at)
+    shown_stop h e = rw (many_stop r k i at h (shown_err f (r at) e))
+
+    pub shown_next : (with : D → B → D) → ((a : A) (more : List A) → all acc (a ∷ more) ≡ all (with acc (f a)) more) → i < k → {b : B} {next : ℕ} → Ok (b, next) ≡ shown f (r at)
+        → (m : D) → m ≡ with acc b → shown (all acc) (many (k - i) r at) ≡ shown (all m) (many (k - (i + 1)) r next)
+    shown_next with step h {b} {next} e m d =
+        let s = shown_ok f (r at) e in
+        rw (many_next r k i at h s.1) (shown_map (all acc) (λ more. s.0 ∷ more) (many (k - (i + 1)) r next)
+        ∙ shown_same _ _ (λ more. step s.0 more ∙ ap (λ x. all x more) (ap (with acc) (sym s.2) ∙ sym d)) (many (k - (i + 1)) r next))

@@ -1,18 +1,19 @@
 -- Laws of stretches that are copied, cleared and compared word by word. Assumes nothing.
 use mathlib.Core.Path.{◌≡◌, refl, sym, ap, ap₂, ◌∙◌}
-use mathlib.Core.List.{List, [], ◌∷◌, ◌++◌, map, append-nil}
-use mathlib.Core.Bool.{Bool, true, false}
+use mathlib.Core.List.{List, [], ◌∷◌, ◌++◌, map}
+use mathlib.Core.Bool.{Bool, true, false, ◌&&◌}
 use Prim.Native.Nat.{ℕ, zero, suc, ◌+◌, ◌-◌, ◌≤◌, ◌<◌}
 use native.Mathlib.Numerals.{add-one, add-two}
 use native.Mathlib.Nat.{zero-add}
 use native.Mathlib.Omega.{arith}
-use lib.ListN.{length, drop, take, get_or, set, replicate, length-append, length-replicate, length-drop, get_or-replicate, drop_of_length-le, get_or-append}
-use lib.Seq.{paste, paste-suc, drop-paste, take-paste, get_or-append-add, get_or-drop, get_or-take, drop-length, take-length, drop-cons, take_all, length-take-le}
+use lib.ListN.{length, drop, take, get_or, set, length-append, length-drop, drop_of_length-le, get_or-append}
+use lib.Seq.{paste, paste-suc, drop-paste, take-paste, get_or-append-add, get_or-drop, get_or-take, take-length, drop-cons, take_all, length-take-le}
 use lib.Dec.{eqb, ltb}
 use borrow.Author.Tests.{eq-eqb, ne_eqb, eqb-true, ltb-true, ltb-false}
 use Rattle.words.specs.Reader.{pick, and}
 use Rattle.words.specs.Views.{equal_words}
 use Rattle.words.proofs.Laws.{and_true}
+use lib.Pointwise.{pointwise}
 
 -- a part to the end
 pub part_rest : (i : ℕ) (ws : List ℕ) → take (length ws - i) (drop i ws) ≡ drop i ws
@@ -63,26 +64,6 @@ pub up_turn : (d : List ℕ) (from to n i : ℕ) → from + n ≤ to → to + n 
     → set (paste d to (drop from d) i) (to + i) (get_or (paste d to (drop from d) i) (from + i) 0) ≡ paste d to (drop from d) (i + 1)
 up_turn d from to n i h hn hi =
     copy_turn d from to i (paste_below d (drop from d) to i (from + i) (omega arith) (omega (arith, length-drop from d)) (omega arith)) (omega arith) (omega arith)
-
--- CLEARING
-
-abbrev pub zeros : ℕ → List ℕ
-zeros n = replicate n 0
-
-pub zero_turn : (d : List ℕ) (i : ℕ) → i < length d → set (paste d 0 (zeros (length d)) i) i 0 ≡ paste d 0 (zeros (length d)) (i + 1)
-zero_turn d i h =
-    let l : length (zeros (length d)) ≡ length d = length-replicate (length d) 0 in
-    let z : 0 + i ≡ i = zero-add i in
-    let g : get_or (zeros (length d)) i 0 ≡ 0 = get_or-replicate (length d) i 0 0 h in
-    let p : set (paste d 0 (zeros (length d)) i) (0 + i) (get_or (zeros (length d)) i 0) ≡ paste d 0 (zeros (length d)) (suc i) = paste-suc d 0 (zeros (length d)) i 0 (omega arith) (omega arith) in
-    rw (add-one i)
-    (ap (λ (k : ℕ). set (paste d 0 (zeros (length d)) i) k 0) (sym z) ∙ ap (λ (v : ℕ). set (paste d 0 (zeros (length d)) i) (0 + i) v) (sym g) ∙ p)
-
-pub zero_all : (d : List ℕ) (i : ℕ) → i ≡ length d → paste d 0 (zeros (length d)) i ≡ zeros (length d)
-zero_all d i e =
-    let l : length (zeros (length d)) ≡ length d = length-replicate (length d) 0 in
-    let t : take (length d) (zeros (length d)) ≡ zeros (length d) = rw l at (take-length (zeros (length d))) in
-    rw (e, zero-add, t, drop-length, append-nil)
 
 -- COMPARING
 
@@ -186,3 +167,15 @@ over_store ws r₀ r j x e ex h l =
 
 pub over_all : (ws r₀ : List ℕ) (j : ℕ) → j ≡ length ws → over ws r₀ j ≡ ws ++ drop (length ws) r₀
 over_all ws r₀ j e = rw (e, take-length ws)
+
+both_and : (a b : Bool) → (a && b) ≡ and a b
+both_and true b = refl
+both_and false b = refl
+
+-- slices compare as words do
+pub pointwise_equal : (a b : List ℕ) → pointwise eqb a b ≡ equal_words a b
+unfolding equal_words
+pointwise_equal [] [] = refl
+pointwise_equal [] (w ∷ ws) = refl
+pointwise_equal (t ∷ ts) [] = refl
+pointwise_equal (t ∷ ts) (w ∷ ws) = both_and (eqb t w) (pointwise eqb ts ws) ∙ ap (and (eqb t w)) (pointwise_equal ts ws)

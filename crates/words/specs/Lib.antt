@@ -1,2 +1,4 @@
 pub mod Reader
 pub mod Views
+pub mod Faults
+pub mod Refusals

@@ -144,81 +144,174 @@ fn crates() -> Vec<Crate> {
 /// The calls of these crates. A call is a name with `(` right behind it. Behind the
 /// name of a crate it is one of that crate; else it may be any function of that
 /// name in its own crate or in one below. No import may give a function another
-/// name. So no call is missed, and one that is taken for more than it is leads
-/// down, where no chain comes back.
+/// name. Behind the name of a type it is that type's method, and behind a `.` any
+/// method of that name, unless the value is `self` or a field of it, whose type
+/// says which. So no call is missed, and one that is taken for more than it is
+/// leads down, where no chain comes back.
 fn calls_of(crates: &[Crate]) -> Calls {
     let mut named = Vec::new();
     for each in crates {
+        let fields: BTreeMap<_, _> = each.files.iter().flat_map(|text| fields(text)).collect();
         let files = each.files.iter();
-        named.extend(files.flat_map(|text| functions(text)).map(|f| (each, f)));
+        let found = files.flat_map(|text| functions(text, &fields));
+        named.extend(found.map(|function| (each, function)));
     }
-    let known: BTreeSet<String> = named
-        .iter()
-        .map(|(of, function)| format!("{}::{}", of.name, function.name))
-        .collect();
     let mut calls = Calls::new();
-    for (of, function) in named {
-        let entry = calls.entry(format!("{}::{}", of.name, function.name));
-        let meant = function.called.iter().flat_map(|path| meant_by(of, path));
-        entry
-            .or_default()
-            .extend(meant.filter(|name| known.contains(name)));
+    for (of, function) in &named {
+        let meant = function.called.iter().flat_map(|path| {
+            let may = named.iter().filter(|(it, to)| is_meant(of, path, it, to));
+            may.map(|(it, to)| full_name(&named, it, to))
+        });
+        let entry = calls.entry(full_name(&named, of, function));
+        entry.or_default().extend(meant);
     }
     calls
 }
 
-/// The functions that a path may mean in a crate.
-fn meant_by(of: &Crate, path: &str) -> Vec<String> {
-    let (first, last) = match path.split_once("::") {
-        Some((first, rest)) => (first, rest.rsplit("::").next().unwrap_or(rest)),
-        None => ("", path),
-    };
-    let own = std::iter::once(&of.name);
-    let all = own.chain(&of.below);
-    let crates: Vec<&String> = match of.below.iter().find(|below| *below == first) {
-        Some(named) => vec![named],
-        None => all.collect(),
-    };
-    crates
+/// `crate::name`; a method of which its crate has another of that name says its
+/// type too.
+fn full_name(named: &[(&Crate, Function)], of: &Crate, function: &Function) -> String {
+    let (name, owner) = (&function.name, &function.owner);
+    let mut others = named
         .iter()
-        .map(|name| format!("{name}::{last}"))
-        .collect()
+        .filter(|(it, other)| it.name == of.name && other.name == *name && other.owner != *owner);
+    match owner {
+        Some(owner) if others.next().is_some() => format!("{}::{owner}::{name}", of.name),
+        _ => format!("{}::{name}", of.name),
+    }
 }
 
-/// A function of a file with the paths that stand before a `(` in it.
+/// May a path in a crate mean this function of another, or of its own?
+fn is_meant(of: &Crate, path: &str, its: &Crate, function: &Function) -> bool {
+    let seen = its.name == of.name || of.below.contains(&its.name);
+    if let Some(name) = path.strip_prefix('.') {
+        return seen && function.owner.is_some() && function.name == name;
+    }
+    let parts: Vec<&str> = path.split("::").collect();
+    let [before @ .., name] = &parts[..] else {
+        return false;
+    };
+    let named = of
+        .below
+        .iter()
+        .find(|below| before.first() == Some(&below.as_str()));
+    let owner = before
+        .last()
+        .filter(|part| part.starts_with(char::is_uppercase));
+    seen && named.is_none_or(|named| *named == its.name)
+        && function.name == *name
+        && function.owner.as_deref() == owner.copied()
+}
+
+/// A function of a file with the paths that stand before a `(` in it, and the type
+/// whose method it is.
 struct Function {
     name: String,
+    owner: Option<String>,
     called: Vec<String>,
 }
 
-fn functions(text: &str) -> Vec<Function> {
+/// Each field of a file's structs, behind the struct's name, with its type's name.
+type Fields = BTreeMap<(String, String), String>;
+
+fn fields(text: &str) -> Fields {
+    let mut found = Fields::new();
+    let mut owner = None;
+    for line in text.lines() {
+        if let Some((_, rest)) = line.split_once("struct ") {
+            owner = rest.split([' ', '<', '(']).next().map(str::to_string);
+        } else if line.starts_with('}') {
+            owner = None;
+        } else if let (Some(owner), Some((field, its))) = (&owner, line.split_once(": ")) {
+            let field = field.trim().trim_start_matches("pub ");
+            let its = its.trim_start_matches('&').trim_start_matches("'a ");
+            let named = its.trim_start_matches("mut ").split(['<', ',', ' ']).next();
+            let named = named.and_then(|path| path.rsplit("::").next());
+            let key = (owner.clone(), field.to_string());
+            found.insert(key, named.unwrap_or("").to_string());
+        }
+    }
+    found
+}
+
+fn functions(text: &str, fields: &Fields) -> Vec<Function> {
     let mut functions: Vec<Function> = Vec::new();
+    let mut owner = None;
     for line in text.lines() {
         let mut code = line.split("//").next().unwrap_or(line);
         let renames = code.starts_with("use ") && code.contains(" as ");
         assert!(!renames, "{line}: calls by another name would be missed");
+        if code.starts_with("impl") {
+            owner = owner_of(code);
+        } else if code.starts_with('}') {
+            owner = None;
+        }
         if let Some((_, rest)) = code.split_once("fn ") {
             let (name, after) = rest.split_once('(').expect("arguments");
             functions.push(Function {
-                name: name.trim().to_string(),
+                name: name.split('<').next().unwrap_or(name).trim().to_string(),
+                owner: owner.clone(),
                 called: Vec::new(),
             });
             code = after;
         }
         if let Some(function) = functions.last_mut() {
-            function.called.extend(paths_before_brackets(code));
+            let found = paths_before_brackets(code);
+            let meant = found.filter_map(|(path, value)| called_by(&owner, fields, path, value));
+            function.called.extend(meant);
         }
     }
     functions
 }
 
-fn paths_before_brackets(code: &str) -> Vec<String> {
-    let mut pieces: Vec<&str> = code.split('(').collect();
-    pieces.pop();
+/// The type whose methods an `impl` has.
+fn owner_of(code: &str) -> Option<String> {
+    let named = match code.split_once(" for ") {
+        Some((_, named)) => named,
+        None => code.trim_start_matches("impl").trim_start_matches("<'a>"),
+    };
+    let name = named.trim().split(['<', ' ']).next()?;
+    Some(name.to_string())
+}
+
+/// What a path calls on a value: `None` for a method of a type that is none of
+/// ours.
+fn called_by(
+    owner: &Option<String>,
+    fields: &Fields,
+    path: &str,
+    value: Option<&str>,
+) -> Option<String> {
+    let (Some(value), Some(owner)) = (value, owner) else {
+        let own = |owner: &String| path.replace("Self::", &format!("{owner}::"));
+        let plain = owner.as_ref().map_or(path.to_string(), own);
+        return Some(value.map_or(plain, |_| format!(".{path}")));
+    };
+    let taken = value.rsplit(|c: char| !(c.is_alphanumeric() || "_.".contains(c)));
+    let taken = taken.take(1).next().unwrap_or("");
+    if taken == "self" {
+        return Some(format!("{owner}::{path}"));
+    }
+    if value.ends_with(']') && value.rsplit('[').next()?.contains("..") {
+        return None;
+    }
+    let field = taken.strip_prefix("self.").unwrap_or("");
+    match fields.get(&(owner.clone(), field.to_string())) {
+        Some(its) if its.starts_with(char::is_uppercase) => Some(format!("{its}::{path}")),
+        Some(_) => None,
+        None => Some(format!(".{path}")),
+    }
+}
+
+/// The paths before a `(`, each with what stands before the `.` if it is a method.
+fn paths_before_brackets(code: &str) -> impl Iterator<Item = (&str, Option<&str>)> {
+    let ends = code.match_indices('(').map(|(at, _)| &code[..at]);
     let in_path = |c: char| c.is_alphanumeric() || c == '_' || c == ':';
-    let path = |piece: &&str| piece.rsplit(|c| !in_path(c)).next().map(str::to_string);
-    let paths = pieces.iter().filter_map(path);
-    paths.filter(|path| !path.is_empty()).collect()
+    let split = ends.map(move |before| {
+        let value = before.trim_end_matches(in_path);
+        (&before[value.len()..], value.strip_suffix('.'))
+    });
+    split.filter(|(path, _)| !path.is_empty())
 }
 
 #[cfg(test)]
@@ -282,7 +375,7 @@ fn k(x: u32) -> u32 {
     #[test]
     #[should_panic(expected = "calls by another name would be missed")]
     fn an_import_by_another_name_is_seen() {
-        functions("use low::f as g;");
+        functions("use low::f as g;", &Fields::new());
     }
 
     #[test]
@@ -293,5 +386,41 @@ fn k(x: u32) -> u32 {
         assert_eq!(depth(&calls, "low::f"), Some(1));
         assert_eq!(depth(&calls, "high::k"), Some(0));
         assert_eq!(depth(&calls, "high::h"), None);
+    }
+
+    const METHODS: &str = "
+struct Inner {
+    words: [u32; 4],
+}
+struct Outer<'a> {
+    pub inner: &'a Inner,
+}
+impl Inner {
+    fn count(&self) -> usize { self.words[..2].get(self.first()) }
+    fn get(&self) -> usize { self.words.get(0) }
+    fn first(&self) -> usize { count(self) }
+}
+impl<'a> Outer<'a> {
+    fn count(&self, other: &Outer) -> usize { self.inner.count() }
+    fn again(&self, other: &Outer) -> usize { other.again() + Self::made() + Inner::first() }
+    fn made() -> usize { 0 }
+}
+fn count(x: &Inner) -> usize { x.get(0) }
+";
+
+    #[test]
+    fn calls_of_methods_are_read_from_a_source() {
+        let calls = calls_of(&[Crate {
+            name: "low".to_string(),
+            below: vec![],
+            files: vec![METHODS.to_string()],
+        }]);
+        assert_eq!(calls["low::Inner::count"], set("low::first"));
+        assert_eq!(calls["low::get"], set(""));
+        assert_eq!(calls["low::first"], set("low::count"));
+        assert_eq!(calls["low::Outer::count"], set("low::Inner::count"));
+        assert_eq!(calls["low::again"], set("low::again low::made low::first"));
+        assert_eq!(calls["low::count"], set("low::get"));
+        assert_eq!(cyclic(&calls), set("low::again"));
     }
 }

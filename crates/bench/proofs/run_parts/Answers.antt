@@ -1,5 +1,6 @@
 -- `bench::run_parts` meets its contract. Assumes nothing.
-use Rattle.bench.proofs.Answering.{filled_there, parts_answer}
+use Rattle.bench.proofs.Answering.{filled_there, ran_answers}
+use Rattle.decimal.specs.Input.{inputs_of}
 use Rattle.tamarind.specs.Run.{memories}
 use Rattle.bench.proofs.run_parts.Goals as goal
 
@@ -7,4 +8,4 @@ pub print_outcome-requires : goal.print_outcome-requires
 print_outcome-requires c = filled_there c.run-outcome.result _ c.run-outcome.ensures.filled
 
 pub returns : goal.returns
-returns c = parts_answer c.args.numbers.now c.args.lengths.grammar c.args.lengths.rules c.args.lengths.slip c.requires (memories c.args.res.now c.args.work.now) _ c.run-outcome.result c.args.out.now _ _ c.run-outcome.ensures c.run-outcome.auto.res c.print_outcome.ensures
+returns c = ran_answers (inputs_of c.args.parts) (memories c.args.res.now c.args.work.now) _ c.run-outcome.result c.args.out.now _ _ c.run-outcome.ensures c.run-outcome.auto.res c.print_outcome.ensures

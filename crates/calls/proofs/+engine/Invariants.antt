@@ -1,4 +1,5 @@
 -- The cycle of calls: the measures, the depth of calls left spread by the members' order, and what each loop keeps. Assumes nothing.
+use Rattle.std.specs.Prelude.{None}
 use Rattle.calls.specs.Engine.{given_of, open_of}
 use Rattle.calls.proofs.Testing.{Trying}
 use Rattle.rewrite.specs.Vars.{vars_of}
@@ -54,42 +55,32 @@ decreases-step l = l.deep * 16 + 10
 abbrev pub decreases-succeeds : goal.decreases-succeeds
 decreases-succeeds l = l.deep * 16 + 7
 
-abbrev pub invariant-any_succeeds-loop-k : goal.invariant-any_succeeds-loop-k
-invariant-any_succeeds-loop-k l = Trying (given_of l.heads l.rows l.types l.book l.starts) l.initial.w l.pairs l.start l.n (open_of l.places l.frame) l.deep l.initial.fuel l.w l.k l.at l.fuel
-
-abbrev pub decreases-any_succeeds-loop-k : goal.decreases-any_succeeds-loop-k
-decreases-any_succeeds-loop-k l = l.k
+abbrev pub invariant-any_succeeds-loop : goal.invariant-any_succeeds-loop
+invariant-any_succeeds-loop l = Trying (given_of l.program) l.initial.w l.pairs l.start l.n (open_of l.places l.frame) l.deep l.initial.fuel l.w (l.k - l.counter) l.at l.fuel
 
 abbrev pub invariant-call-loop-plan : goal.invariant-call-loop-plan
 invariant-call-loop-plan l =
-    Calling (given_of l.heads l.rows l.types l.book l.starts) l.initial.w l.at l.base l.n (vars_of l.initial.places l.bound) l.besides l.deep l.initial.fuel l.w l.nodes l.fuel l.count l.from × Still l.initial.places l.places l.bound
+    Calling (given_of l.program) l.initial.w l.at l.base l.n (vars_of l.initial.places l.bound) l.besides l.deep l.initial.c.left l.w l.c.nodes l.c.left l.c.replacements l.from × Still l.initial.places l.places l.bound × (l.c.stop ≡ None)
 
 abbrev pub decreases-call-loop-plan : goal.decreases-call-loop-plan
-decreases-call-loop-plan l = l.fuel.attempts
+decreases-call-loop-plan l = l.c.left.attempts
 
-abbrev pub invariant-chain-loop-k : goal.invariant-chain-loop-k
-invariant-chain-loop-k l = Chaining (given_of l.heads l.rows l.types l.book l.starts) l.initial.w l.pairs l.from l.base l.n (vars_of l.places l.bound) l.besides l.under l.deep l.initial.fuel l.w l.k l.at l.fuel l.nodes
-
-abbrev pub decreases-chain-loop-k : goal.decreases-chain-loop-k
-decreases-chain-loop-k l = l.k
+abbrev pub invariant-chain-loop : goal.invariant-chain-loop
+invariant-chain-loop l = Chaining (given_of l.program) l.initial.w l.pairs l.from l.base l.n (vars_of l.places l.bound) l.besides l.under l.deep l.initial.fuel l.w (l.k - l.counter) l.at l.fuel l.nodes
 
 abbrev pub invariant-fill-loop-i : goal.invariant-fill-loop-i
-invariant-fill-loop-i l = Filling (given_of l.heads l.rows l.types l.book l.starts) l.initial.w l.pairs (open_of l.places l.frame) l.deep l.initial.fuel l.w l.fuel l.n l.i
+invariant-fill-loop-i l = Filling (given_of l.program) l.initial.w l.pairs (open_of l.places l.frame) l.deep l.initial.fuel l.w l.fuel l.n l.i
 
 abbrev pub decreases-fill-loop-i : goal.decreases-fill-loop-i
 decreases-fill-loop-i l = length l.pairs - l.i
 
-abbrev pub invariant-seek-loop-k : goal.invariant-seek-loop-k
-invariant-seek-loop-k l =
-    (l.i ≡ l.initial.i) × Parting (given_of l.heads l.rows l.types l.book l.starts) l.deep l.initial.w l.initial.fuel (open_of l.initial.places l.initial.now) l.initial.at l.initial.k l.w l.fuel (open_of l.places l.now) l.at l.k
-
-abbrev pub decreases-seek-loop-k : goal.decreases-seek-loop-k
-decreases-seek-loop-k l =
-    l.k
+abbrev pub invariant-seek-loop : goal.invariant-seek-loop
+invariant-seek-loop l =
+    (l.i ≡ l.initial.i) × Parting (given_of l.program) l.deep l.initial.w l.initial.fuel (open_of l.initial.places l.initial.now) l.initial.at l.plan.count l.w l.fuel (open_of l.places l.now) l.at (l.plan.count - l.counter)
 
 abbrev pub invariant-seek-nodes : goal.invariant-seek-nodes
 invariant-seek-nodes l =
-    Still l.initial.places l.places l.frame.bound × Searching (given_of l.heads l.rows l.types l.book l.starts) l.initial.w l.plan l.base l.n (open_of l.initial.places l.frame) l.deep l.initial.fuel l.from l.w l.fuel l.i
+    Still l.initial.places l.places l.frame.bound × Searching (given_of l.program) l.initial.w l.plan l.base l.n (open_of l.initial.places l.frame) l.deep l.initial.fuel l.from l.w l.fuel l.i
 
 abbrev pub decreases-seek-nodes : goal.decreases-seek-nodes
 decreases-seek-nodes l =

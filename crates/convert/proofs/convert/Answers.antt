@@ -1,25 +1,21 @@
--- `convert::convert` meets its contract. Assumes nothing.
-use native.Mathlib.Omega.{arith}
-use Rattle.convert.proofs.Outcome.{whole_small, whole_old_long, whole_new_long, whole_old, whole_new, whole_both, whole_between}
+use Rattle.words.proofs.Laws.{exits}
+use Rattle.convert.proofs.Outcome.{whole_small, old_long, new_long, old_refused, new_refused, whole_between}
 use Rattle.convert.proofs.convert.Goals as goal
 
 pub returns-then-res-lt-MOST_SLIP_WORDS : goal.returns-then-res-lt-MOST_SLIP_WORDS
-returns-then-res-lt-MOST_SLIP_WORDS c = whole_small c.args.counted c.args.old.now c.args.new.now c.args.table.now c.args.slip.now c.args.res.now c.if-res-lt-MOST_SLIP_WORDS.true
+returns-then-res-lt-MOST_SLIP_WORDS c = rw (c.from.ensures, c.new.ensures) (whole_small c.args.counted c.args.old.now c.args.new.now c.args.table.now c.args.slip.now c.args.res.now c.if-res-lt-MOST_SLIP_WORDS.true)
 
-pub returns-then-old-gt-MOST_WORDS : goal.returns-then-old-gt-MOST_WORDS
-returns-then-old-gt-MOST_WORDS c = whole_old_long c.args.counted c.args.old.now c.args.new.now c.args.table.now c.args.slip.now c.args.res.now c.if-res-lt-MOST_SLIP_WORDS.false c.if-old-gt-MOST_WORDS.true
+pub returns-in_err-check_length : goal.returns-in_err-check_length
+returns-in_err-check_length c = rw (exits c.from_residual.result c.from_residual.ensures) (old_long c.args.counted c.args.old.now c.args.new.now c.args.table.now c.args.slip.now c.args.res.now c.if-res-lt-MOST_SLIP_WORDS.false c.check_length.ensures c.in_err-check_length.was)
 
-pub returns-then-new-gt-MOST_WORDS : goal.returns-then-new-gt-MOST_WORDS
-returns-then-new-gt-MOST_WORDS c = whole_new_long c.args.counted c.args.old.now c.args.new.now c.args.table.now c.args.slip.now c.args.res.now c.if-res-lt-MOST_SLIP_WORDS.false (omega arith) c.if-new-gt-MOST_WORDS.true
+pub returns-in_err-check_length-2 : goal.returns-in_err-check_length-2
+returns-in_err-check_length-2 c = rw (exits c.from_residual-in_err-check_length-2.result c.from_residual-in_err-check_length-2.ensures) (new_long c.args.counted c.args.old.now c.args.new.now c.args.table.now c.args.slip.now c.args.res.now c.if-res-lt-MOST_SLIP_WORDS.false c.check_length.ensures c.in_ok-check_length.was c.check_length-2.ensures c.in_err-check_length-2.was)
 
-pub convert_between-requires : goal.convert_between-requires
-convert_between-requires c = let both = whole_both c.args.counted c.args.old.now c.args.new.now c.args.table.now c.args.slip.now c.args.res.now c.if-res-lt-MOST_SLIP_WORDS.false c.if-old-gt-MOST_WORDS.false c.if-new-gt-MOST_WORDS.false _ c.read_grammar-a.ensures c.in-Passed.is _ c.read_grammar-b.ensures c.in-Passed-b.is in (both.0, both.1, c.if-res-lt-MOST_SLIP_WORDS.false)
+pub returns-in_err-check_words : goal.returns-in_err-check_words
+returns-in_err-check_words c = rw (exits c.from_residual-in_err-check_words.result c.from_residual-in_err-check_words.ensures) (old_refused c.args.counted c.args.old.now c.args.new.now c.args.table.now c.args.slip.now c.args.res.now c.if-res-lt-MOST_SLIP_WORDS.false c.check_length.ensures c.in_ok-check_length.was c.check_length-2.ensures c.in_ok-check_length-2.was c.check_words.ensures c.in_err-check_words.was)
 
-pub returns-in-Refused : goal.returns-in-Refused
-returns-in-Refused c = whole_old c.args.counted c.args.old.now c.args.new.now c.args.table.now c.args.slip.now c.args.res.now c.if-res-lt-MOST_SLIP_WORDS.false c.if-old-gt-MOST_WORDS.false c.if-new-gt-MOST_WORDS.false _ c.read_grammar-a.ensures c.in-Refused.is
+pub returns-in_err-check_words-2 : goal.returns-in_err-check_words-2
+returns-in_err-check_words-2 c = rw (exits c.from_residual-in_err-check_words-2.result c.from_residual-in_err-check_words-2.ensures) (new_refused c.args.counted c.args.old.now c.args.new.now c.args.table.now c.args.slip.now c.args.res.now c.if-res-lt-MOST_SLIP_WORDS.false c.check_length.ensures c.in_ok-check_length.was c.check_length-2.ensures c.in_ok-check_length-2.was c.check_words.ensures c.in_ok-check_words.was c.check_words-2.ensures c.in_err-check_words-2.was)
 
-pub returns-in-Refused-b : goal.returns-in-Refused-b
-returns-in-Refused-b c = whole_new c.args.counted c.args.old.now c.args.new.now c.args.table.now c.args.slip.now c.args.res.now c.if-res-lt-MOST_SLIP_WORDS.false c.if-old-gt-MOST_WORDS.false c.if-new-gt-MOST_WORDS.false _ c.read_grammar-a.ensures c.in-Passed.is _ c.read_grammar-b.ensures c.in-Refused-b.is
-
-pub returns-in-Passed-b : goal.returns-in-Passed-b
-returns-in-Passed-b c = whole_between c.args.counted c.args.old.now c.args.new.now c.args.table.now c.args.slip.now c.args.res.now c.if-res-lt-MOST_SLIP_WORDS.false c.if-old-gt-MOST_WORDS.false c.if-new-gt-MOST_WORDS.false _ c.read_grammar-a.ensures c.in-Passed.is _ c.read_grammar-b.ensures c.in-Passed-b.is _ _ c.convert_between.ensures
+pub returns : goal.returns
+returns c = whole_between c.args.counted c.args.old.now c.args.new.now c.args.table.now c.args.slip.now c.args.res.now c.if-res-lt-MOST_SLIP_WORDS.false c.check_length.ensures c.in_ok-check_length.was c.check_length-2.ensures c.in_ok-check_length-2.was c.check_words.ensures c.in_ok-check_words.was c.check_words-2.ensures c.in_ok-check_words-2.was c.convert_between.ensures

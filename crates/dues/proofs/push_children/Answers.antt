@@ -1,12 +1,17 @@
--- `dues::push_children` meets its contract. Assumes nothing.
-use Rattle.dues.proofs.Stack.{pushed_none, pushed_as, level_due, last_due, sequence_pushed}
+use mathlib.Core.List.{◌∷◌, ◌++◌}
+use mathlib.Core.Path.{ap, ◌∙◌}
+use Prim.Native.Nat.{◌+◌}
+use Rattle.tree.specs.Reading.{tree}
+use Rattle.judgement.specs.Typing.{a_tree}
+use Rattle.dues.proofs.Row.{level_due, last_due, some_due}
 use Rattle.dues.proofs.push_children.Goals as goal
 
-pub returns-then-not-b : goal.returns-then-not-b
-returns-then-not-b c = λ g h. pushed_as (c.push_level.ensures g h.rows_of_lem) (level_due g c.args.d c.args.v c.args.nesting (c.is_sequence-b.ensures g h.heads_of) c.if-not-b.true)
+pub returns-then-not-is_sequence : goal.returns-then-not-is_sequence
+returns-then-not-is_sequence c = λ g h. c.push_level.ensures g h ∙ ap (λ l. l ++ c.args.stack.now) (level_due g c.args.d c.args.v c.args.nesting (c.is_sequence.ensures g h) c.if-not-is_sequence.true)
 
-pub returns-then-v-ne0 : goal.returns-then-v-ne0
-returns-then-v-ne0 c = λ g h. pushed_as (pushed_none c.args.st.now c.args.sp) (last_due g c.args.d c.args.v c.args.nesting (c.is_sequence-b.ensures g h.heads_of) c.if-not-b.false c.if-v-ne0.true)
+pub returns-then-v-eq0 : goal.returns-then-v-eq0
+returns-then-v-eq0 c = λ g h. c.push-then-v-eq0.ensures ∙ ap (λ s. a_tree (tree (c.args.nesting + 1) c.child.result) ∷ s) c.push.ensures
+    ∙ ap (λ l. l ++ c.args.stack.now) (some_due g c.args.d c.args.v c.args.nesting (c.is_sequence.ensures g h) c.if-not-is_sequence.false c.if-v-eq0.true (c.child.ensures g h))
 
-pub returns : goal.returns
-returns c = λ g h. sequence_pushed g c.args.d c.args.v c.args.nesting (c.is_sequence-b.ensures g h.heads_of) c.if-not-b.false c.if-v-ne0.false (c.child-e.ensures g h.rows_of_lem) c.requires.1 c.push.ensures c.push-2.ensures
+pub returns-else-v-eq0 : goal.returns-else-v-eq0
+returns-else-v-eq0 c = λ g h. ap (λ l. l ++ c.args.stack.now) (last_due g c.args.d c.args.v c.args.nesting (c.is_sequence.ensures g h) c.if-not-is_sequence.false c.if-v-eq0.false)

@@ -1,19 +1,18 @@
 use native.Mathlib.Omega.{arith}
-use mathlib.Core.Path.{refl}
-use Rattle.grammar.proofs.Laws.{records_end, records_false, records_fault, records_more}
+use mathlib.Core.Path.{◌∙◌, sym, ap}
+use Rattle.std.specs.Prelude.{Err}
+use Rattle.words.proofs.Laws.{exits}
+use Rattle.grammar.proofs.Laws.{records_done, records_endless, records_stop, records_next}
 use Rattle.grammar.proofs.finite_records.Goals as goal
 
-pub loop-i-init : goal.loop-i-init
-loop-i-init c = (omega arith, refl)
+pub returns-then-not-flag : goal.returns-then-not-flag
+returns-then-not-flag c = ap Err c.new.ensures ∙ records_endless c.args.ws.now c.args.known.now c.args.n c.loop-t.t c.loop-t.at (omega (arith, c.requires)) c.loop-t-test.true (sym c.flag.ensures ∙ c.if-not-flag.true) ∙ sym c.loop-t.invariant
 
-pub returns-then-not-b : goal.returns-then-not-b
-returns-then-not-b c = records_false c.args.ws.now c.args.known.now c.args.n c.loop-i.i c.loop-i.at (omega (arith, c.requires)) _ c.loop-i.invariant.1 c.loop-i-test.true _ c.flag-b.ensures c.if-not-b.true
+pub returns-in_err-next : goal.returns-in_err-next
+returns-in_err-next c = exits c.from_residual.result c.from_residual.ensures ∙ records_stop c.args.ws.now c.args.known.now c.args.n c.loop-t.t c.loop-t.at (omega (arith, c.requires)) c.loop-t-test.true (sym c.flag.ensures ∙ c.if-not-flag.false) c.in_err-next.ensures ∙ sym c.loop-t.invariant
 
-pub returns-in-Fault : goal.returns-in-Fault
-returns-in-Fault c = records_fault c.args.ws.now c.args.known.now c.args.n c.loop-i.i c.loop-i.at (omega (arith, c.requires)) _ c.loop-i.invariant.1 c.loop-i-test.true _ c.flag-b.ensures c.if-not-b.false _ c.kind-s.ensures c.in-Fault.is
-
-pub loop-i-preserved : goal.loop-i-preserved
-loop-i-preserved c = (omega (arith, c.loop-i-test.true), records_more c.args.ws.now c.args.known.now c.args.n c.loop-i.i c.loop-i.at (omega (arith, c.requires)) _ c.loop-i.invariant.1 c.loop-i-test.true _ c.flag-b.ensures c.if-not-b.false _ c.kind-s.ensures c.in-Whole.is)
+pub loop-t-preserved : goal.loop-t-preserved
+loop-t-preserved c = c.loop-t.invariant ∙ records_next c.args.ws.now c.args.known.now c.args.n c.loop-t.t c.loop-t.at (omega (arith, c.requires)) c.loop-t-test.true (sym c.flag.ensures ∙ c.if-not-flag.false) c.in_ok-next.ensures
 
 pub returns : goal.returns
-returns c = records_end c.args.ws.now c.args.known.now c.args.n c.loop-i.i c.loop-i.at (omega (arith, c.requires)) _ c.loop-i.invariant.1 c.loop-i-test.false
+returns c = records_done c.args.ws.now c.args.known.now c.args.n c.loop-t.t c.loop-t.at (omega (arith, c.requires)) c.loop-t-test.false ∙ sym c.loop-t.invariant

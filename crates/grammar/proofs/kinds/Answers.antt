@@ -1,17 +1,13 @@
-use Rattle.grammar.specs.Grammar.{kind}
-use mathlib.Core.Path.{refl}
-use Rattle.words.proofs.Laws.{loop_end}
-use Rattle.grammar.proofs.Laws.{kinds_fault, kinds_more}
+use mathlib.Core.Path.{◌∙◌, sym}
+use Rattle.words.proofs.Laws.{exits, answer_done, answer_stop, answer_next, shown_ok, shown_err}
+use Rattle.grammar.specs.Grammar.{kind, finishes}
 use Rattle.grammar.proofs.kinds.Goals as goal
 
-pub loop-left-init : goal.loop-left-init
-loop-left-init c = refl
+pub returns-in_err-next : goal.returns-in_err-next
+returns-in_err-next c = exits c.from_residual.result c.from_residual.ensures ∙ answer_stop (kind c.args.ws.now c.args.n) c.args.k c.loop.counter c.loop.at c.loop-test.true (shown_err (finishes c.args.known.now) _ c.in_err-next.ensures) ∙ sym c.loop.invariant
 
-pub returns-in-Fault : goal.returns-in-Fault
-returns-in-Fault c = kinds_fault c.args.ws.now c.args.known.now c.args.n c.loop-left.left c.loop-left.at _ c.loop-left.invariant c.loop-left-test.true _ c.kind-s.ensures c.in-Fault.is
-
-pub loop-left-preserved : goal.loop-left-preserved
-loop-left-preserved c = kinds_more c.args.ws.now c.args.known.now c.args.n c.loop-left.left c.loop-left.at _ c.loop-left.invariant c.loop-left-test.true _ c.kind-s.ensures c.in-Whole.is
+pub loop-preserved : goal.loop-preserved
+loop-preserved c = c.loop.invariant ∙ answer_next (kind c.args.ws.now c.args.n) c.args.k c.loop.counter c.loop.at c.loop-test.true (shown_ok (finishes c.args.known.now) _ c.in_ok-next.ensures).1
 
 pub returns : goal.returns
-returns c = loop_end (kind c.args.ws.now c.args.n) c.loop-left.left c.loop-left.at _ c.loop-left.invariant c.loop-left-test.false
+returns c = answer_done (kind c.args.ws.now c.args.n) c.args.k c.loop.counter c.loop.at c.loop-test.false ∙ sym c.loop.invariant

@@ -1,25 +1,27 @@
--- `grammar::read_grammar` meets its contract. Assumes nothing.
 use native.Mathlib.Omega.{arith}
-use Rattle.grammar.proofs.Laws.{count_next, check_bad, check_fault, check_over, check_finite}
+use mathlib.Core.Path.{◌∙◌, ap}
+use Rattle.std.specs.Prelude.{Err}
+use Rattle.words.proofs.Laws.{exits}
+use Rattle.grammar.proofs.Laws.{count_next, check_bad, check_stop, check_over, check_finite}
 use Rattle.grammar.proofs.read_grammar.Goals as goal
 
-pub kinds-c-requires : goal.kinds-c-requires
-kinds-c-requires c = let n = count_next c.args.ws.now _ c.field-g.ensures c.in-Word.is in (n.1, n.2)
+pub returns-in_err-n : goal.returns-in_err-n
+returns-in_err-n c = exits c.from_residual.result c.from_residual.ensures ∙ check_bad c.args.ws.now c.in_err-n.ensures
 
-pub returns-then-e-ws : goal.returns-then-e-ws
-returns-then-e-ws c = check_over c.args.ws.now _ c.field-g.ensures c.in-Word.is _ c.kinds-c.ensures c.in-Passed.is c.if-e-ws.true
+pub kinds-requires : goal.kinds-requires
+kinds-requires c = let n = count_next c.args.ws.now c.in_ok-n.ensures in (n.1, n.2)
+
+pub returns-in_err-end : goal.returns-in_err-end
+returns-in_err-end c = exits c.from_residual-in_err-end.result c.from_residual-in_err-end.ensures ∙ check_stop c.args.ws.now c.in_ok-n.ensures c.in_err-end.ensures
+
+pub returns-then-end-ws : goal.returns-then-end-ws
+returns-then-end-ws c = ap Err c.new.ensures ∙ check_over c.args.ws.now c.in_ok-n.ensures c.in_ok-end.ensures c.if-end-ws.true
 
 pub finite-known-requires : goal.finite-known-requires
-finite-known-requires c = let n = count_next c.args.ws.now _ c.field-g.ensures c.in-Word.is in (n.1, n.2)
+finite-known-requires c = let n = count_next c.args.ws.now c.in_ok-n.ensures in (n.1, n.2)
 
 pub finite_records-requires : goal.finite_records-requires
-finite_records-requires c = let n = count_next c.args.ws.now _ c.field-g.ensures c.in-Word.is in (n.1, n.2, omega (arith, c.finite-known.type_inv))
+finite_records-requires c = let n = count_next c.args.ws.now c.in_ok-n.ensures in (n.1, n.2, omega (arith, c.finite-known.type_inv))
 
-pub returns-in-Bad : goal.returns-in-Bad
-returns-in-Bad c = check_bad c.args.ws.now _ c.field-g.ensures c.in-Bad.is
-
-pub returns-in-Refused : goal.returns-in-Refused
-returns-in-Refused c = check_fault c.args.ws.now _ c.field-g.ensures c.in-Word.is _ c.kinds-c.ensures c.in-Refused.is
-
-pub returns-else-e-ws : goal.returns-else-e-ws
-returns-else-e-ws c = check_finite c.args.ws.now _ c.field-g.ensures c.in-Word.is _ c.kinds-c.ensures c.in-Passed.is c.if-e-ws.false _ c.finite-known.ensures _ c.finite_records.ensures
+pub returns : goal.returns
+returns c = check_finite c.args.ws.now c.in_ok-n.ensures c.in_ok-end.ensures c.if-end-ws.false _ c.finite-known.ensures _ c.finite_records.ensures

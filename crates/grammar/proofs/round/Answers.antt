@@ -1,16 +1,12 @@
-use Rattle.grammar.proofs.Laws.{round_end, round_fault, round_more}
-use native.Mathlib.Omega.{arith}
-use mathlib.Core.Path.{refl}
+use mathlib.Core.Path.{◌∙◌, sym}
+use Rattle.grammar.proofs.Laws.{round_done, round_stop, round_more}
 use Rattle.grammar.proofs.round.Goals as goal
 
-pub loop-left-init : goal.loop-left-init
-loop-left-init c = (omega arith, refl)
+pub returns-in-Err : goal.returns-in-Err
+returns-in-Err c = round_stop c.args.ws.now c.args.known c.args.n c.args.n c.loop-t.t c.loop-t.at c.loop-t.flags c.loop-t-test.true c.in-Err.ensures ∙ sym c.loop-t.invariant
 
-pub returns-in-Fault : goal.returns-in-Fault
-returns-in-Fault c = round_fault c.args.ws.now c.args.known c.args.n c.loop-left.left c.loop-left.at c.loop-left.flags c.loop-left.t _ c.loop-left.invariant.1 c.loop-left-test.true _ c.kind-s.ensures c.in-Fault.is
-
-pub loop-left-preserved : goal.loop-left-preserved
-loop-left-preserved c = (omega (arith, c.loop-left.invariant.0, c.loop-left-test.true), round_more c.args.ws.now c.args.known c.args.n c.loop-left.left c.loop-left.at c.loop-left.flags c.loop-left.t _ c.loop-left.invariant.1 c.loop-left-test.true _ c.kind-s.ensures c.in-Whole.is)
+pub loop-t-preserved : goal.loop-t-preserved
+loop-t-preserved c = c.loop-t.invariant ∙ round_more c.args.ws.now c.args.known c.args.n c.args.n c.loop-t.t c.loop-t.at c.loop-t.flags c.loop-t-test.true c.in-Ok.ensures
 
 pub returns : goal.returns
-returns c = round_end c.args.ws.now c.args.known c.args.n c.loop-left.left c.loop-left.at c.loop-left.flags c.loop-left.t _ c.loop-left.invariant.1 c.loop-left-test.false
+returns c = round_done c.args.ws.now c.args.known c.args.n c.args.n c.loop-t.t c.loop-t.at c.loop-t.flags c.loop-t-test.false ∙ sym c.loop-t.invariant

@@ -3,4 +3,4 @@ use Rattle.marks.proofs.Spans.{node_marked}
 use Rattle.marks.proofs.mark_node.Goals as goal
 
 pub returns : goal.returns
-returns c = node_marked c.args.heads.now c.args.rows.now c.args.w.now c.args.p c.args.top c.type_in-t.result c.mark_of-m.result c.type_in-t.ensures c.mark_of-m.ensures
+returns c = node_marked c.args.types.now c.args.w.now c.args.p c.args.top c.type_in-t.result c.mark_of-m.result c.type_in-t.ensures c.mark_of-m.ensures

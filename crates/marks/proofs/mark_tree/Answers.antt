@@ -3,29 +3,17 @@ use Rattle.marks.proofs.Laying.{tree_skip, tree_end}
 use Rattle.marks.specs.Post.{span}
 use Rattle.marks.specs.Marked.{UnderWay}
 use native.Mathlib.Omega.{arith}
-use mathlib.Core.Path.{refl, ◌∙◌}
+use mathlib.Core.Path.{◌∙◌}
 use Rattle.marks.proofs.mark_tree.Goals as goal
 
-pub loop-p-init : goal.loop-p-init
-loop-p-init c = mark_start (λ g ws. UnderWay g (span c.args.w.now c.args.base c.args.top) ws) c.args.heads.now c.args.rows.now c.args.w.now c.args.base c.args.top c.args.top c.requires.0
+pub loop-i-init : goal.loop-i-init
+loop-i-init c = mark_start (λ g ws. UnderWay g (span c.args.w.now c.args.base c.args.top) ws) c.args.types.now c.args.w.now c.args.base c.args.top c.args.top c.requires.0
 
-pub overflow_sub-p : goal.overflow_sub-p
-overflow_sub-p c = omega (arith, c.loop-p.invariant.low)
+pub loop-i-preserved-then-size_in-eq0 : goal.loop-i-preserved-then-size_in-eq0
+loop-i-preserved-then-size_in-eq0 c = mark_more (λ g ws. UnderWay g (span c.args.w.now c.args.base c.args.top) ws) c.args.types.now c.args.w.now c.loop-i.w c.args.base c.args.top c.args.top _ c.loop-i.invariant (omega arith) c.requires.1 (omega (arith, c.loop-i-test.true)) _ (omega (arith, c.loop-i-test.true)) _ c.mark_node.ensures
 
-pub bounds-w-p : goal.bounds-w-p
-bounds-w-p c = omega (arith, c.loop-p.invariant.high, c.loop-p.invariant.long, c.requires.1, c.loop-p-test.true)
-
-pub mark_node-requires : goal.mark_node-requires
-mark_node-requires c = (omega (arith, c.loop-p.invariant.high, c.loop-p-test.true), omega (arith, c.loop-p.invariant.long, c.requires.1))
-
-pub loop-p-preserved-then-size_in-eq0 : goal.loop-p-preserved-then-size_in-eq0
-loop-p-preserved-then-size_in-eq0 c = mark_more (λ g ws. UnderWay g (span c.args.w.now c.args.base c.args.top) ws) c.args.heads.now c.args.rows.now c.args.w.now c.loop-p.w c.args.base c.args.top c.args.top c.loop-p.p c.loop-p.invariant (omega arith) c.requires.1 c.loop-p-test.true _ refl _ c.mark_node.ensures
-
-pub loop-p-preserved : goal.loop-p-preserved
-loop-p-preserved c = tree_skip c.args.heads.now c.args.rows.now c.args.w.now c.loop-p.w c.args.base c.args.top c.loop-p.p c.loop-p.invariant c.requires.1 c.loop-p-test.true _ refl (λ z. c.if-size_in-eq0.false (c.size_in.ensures.0 ∙ z))
-
-pub shape_of-w : goal.shape_of-w
-shape_of-w c = c.loop-p.invariant.long
+pub loop-i-preserved : goal.loop-i-preserved
+loop-i-preserved c = tree_skip c.args.types.now c.args.w.now c.loop-i.w c.args.base c.args.top _ c.loop-i.invariant c.requires.1 (omega (arith, c.loop-i-test.true)) _ (omega (arith, c.loop-i-test.true)) (λ z. c.if-size_in-eq0.false (c.size_in.ensures.0 ∙ z))
 
 pub returns : goal.returns
-returns c = tree_end c.args.heads.now c.args.rows.now c.args.w.now c.loop-p.w c.args.base c.args.top c.loop-p.p c.loop-p.invariant c.requires.1 c.loop-p-test.false
+returns c = tree_end c.args.types.now c.args.w.now c.loop-i.w c.args.base c.args.top _ c.loop-i.invariant c.requires.1 (omega (arith, c.loop-i-test.false))

@@ -4,4 +4,4 @@ use mathlib.Core.Path.{refl}
 use Rattle.marks.proofs.pack.Goals as goal
 
 pub returns : goal.returns
-returns c = packed c.args.t _ c.args.n c.args.k _ c.wide.ensures refl
+returns c = packed c.args.t c.args.n c.args.k _ refl

@@ -1,42 +1,58 @@
-use borrow.Author.Rules.{rules}
-use lib.ListN.{take}
-use mathlib.Core.Path.{refl}
 use native.Mathlib.Omega.{arith}
+use Prim.Native.Nat.{◌+◌, ◌≤◌}
+use lib.ListN.{length, length-append}
+use mathlib.Core.List.{[], ◌∷◌}
+use Rattle.std.proofs.Math.Logic.{∥∥₁_elim}
+use Rattle.std.specs.Coded.{le_prop}
+use mathlib.Core.Path.{◌∙◌, sym, ap}
+use Rattle.std.specs.Prelude.{Ok, Err}
 use Rattle.judgement.specs.Typing.{meets}
 use Rattle.judgement.proofs.Accept.{meets_steady}
-use Rattle.pairs.proofs.Loop.{rest_all, loop_passed, loop_short, loop_fault, loop_next, loop_new, loop_over, loop_whole}
-use Rattle.dues.specs.Views.{place_as, context_of}
+use Rattle.dues.specs.Due.{due_as}
+use Rattle.dues.specs.Views.{place_as}
+use Rattle.words.proofs.Laws.{exits}
+use Rattle.pairs.specs.Views.{typed_as}
+use Rattle.pairs.proofs.Loop.{rest, rest_all, rest_short, rest_fault, rest_next, rest_new, rest_over, rest_whole, met_few, met_room, pop_some, pop_none, not_some, taken_off}
 use Rattle.pairs.proofs.pairs_typed.Goals as goal
 
-pub push-requires : goal.push-requires
-push-requires c = (omega arith, c.requires.7)
-
-pub loop-sp-init : goal.loop-sp-init
-loop-sp-init c = (omega (arith, c.push.auto.st, c.requires.7), omega (arith, c.requires.4), omega arith, (search (rules, c.well_formed), c.requires.6), λ g h rules b. rest_all (meets g rules (place_as c.args.here)) c.args.ps.now c.args.start c.args.a c.args.b (context_of c.args.ctx) c.args.st.now _ c.push.ensures)
-
-pub pass_tokens-from-requires : goal.pass_tokens-from-requires
-pass_tokens-from-requires c = c.loop-sp.invariant.2
+pub loop-due-init : goal.loop-due-init
+loop-due-init c = record { low = omega (arith, ap length c.push.ensures, ap length c.clear.ensures, c.requires.0); within = omega arith; few = c.copy-known.ensures.1; same = λ g h rules b. rw (c.push.ensures, c.clear.ensures, c.copy-known.ensures.0) (rest_all (meets g rules (place_as c.args.here)) c.args.ps.now c.args.start (due_as c.args.first) c.args.variables.now) }
 
 pub returns-then-ps-from-lt2 : goal.returns-then-ps-from-lt2
-returns-then-ps-from-lt2 c = λ g h rules b. loop_short (meets g rules (place_as c.args.here)) c.args.ps.now c.args.start c.pass_tokens-from.result c.loop-sp.sp c.loop-sp.st (take c.loop-sp.n c.loop-sp.known) _ ((loop_passed (meets g rules (place_as c.args.here)) c.args.ps.now c.args.start c.loop-sp.i c.loop-sp.sp c.loop-sp.st (take c.loop-sp.n c.loop-sp.known) _ (c.loop-sp.invariant.4 g h rules b) c.loop-sp-test.true c.pass_tokens-from.result (c.pass_tokens-from.ensures.same g h rules))) c.loop-sp-test.true c.args.ctx c.pass_tokens-from.ensures.within c.if-ps-from-lt2.true
+returns-then-ps-from-lt2 c = λ g h rules b. ap Err c.new.ensures ∙ rest_short (meets g rules (place_as c.args.here)) c.args.ps.now c.args.start c.pass_tokens-from.result c.loop-due.known (due_as c.in-Some.due) c.pop.new.self c.pass_tokens-from.ensures.within c.if-ps-from-lt2.true ∙ ap typed_as (sym (taken_off (meets g rules (place_as c.args.here)) c.args.ps.now c.args.start c.loop-due.i c.pass_tokens-from.result c.loop-due.known c.loop-due.stack c.pop.new.self (due_as c.in-Some.due) (c.loop-due.invariant.same g h rules b) (pop_some c.loop-due.stack c.pop.new.self c.pop.ensures c.in-Some.is) (c.pass_tokens-from.ensures.same g h rules)))
 
-pub meet-m-requires : goal.meet-m-requires
-meet-m-requires c = ((c.requires.0.grammar, c.requires.0.tables), c.requires.1, c.requires.2, c.requires.3, c.loop-sp.invariant.3, omega (arith, c.loop-sp.invariant.1, c.pass_tokens-from.ensures.later, c.pass_tokens-from.ensures.within, c.if-ps-from-lt2.false, c.loop-sp-test.true), omega (arith, c.requires.5, c.requires.4, c.pass_tokens-from.ensures.within), c.loop-sp.invariant.0)
+pub returns-in_err-met : goal.returns-in_err-met
+returns-in_err-met c = λ g h rules b. exits c.from_residual.result c.from_residual.ensures ∙ rest_fault (meets g rules (place_as c.args.here)) c.args.ps.now c.args.start c.pass_tokens-from.result c.loop-due.known (due_as c.in-Some.due) c.pop.new.self (omega arith) (c.in_err-met.ensures g h rules b) ∙ ap typed_as (sym (taken_off (meets g rules (place_as c.args.here)) c.args.ps.now c.args.start c.loop-due.i c.pass_tokens-from.result c.loop-due.known c.loop-due.stack c.pop.new.self (due_as c.in-Some.due) (c.loop-due.invariant.same g h rules b) (pop_some c.loop-due.stack c.pop.new.self c.pop.ensures c.in-Some.is) (c.pass_tokens-from.ensures.same g h rules)))
 
-pub returns-in-Bad : goal.returns-in-Bad
-returns-in-Bad c = λ g h rules b. loop_fault (meets g rules (place_as c.args.here)) c.args.ps.now c.args.start c.pass_tokens-from.result c.loop-sp.sp c.loop-sp.st (take c.loop-sp.n c.loop-sp.known) _ ((loop_passed (meets g rules (place_as c.args.here)) c.args.ps.now c.args.start c.loop-sp.i c.loop-sp.sp c.loop-sp.st (take c.loop-sp.n c.loop-sp.known) _ (c.loop-sp.invariant.4 g h rules b) c.loop-sp-test.true c.pass_tokens-from.result (c.pass_tokens-from.ensures.same g h rules))) c.loop-sp-test.true (omega (arith, c.if-ps-from-lt2.false, c.pass_tokens-from.ensures.within)) c.meet-m.result _ (c.meet-m.ensures g h rules b) c.args.ctx c.in-Bad.is
+pub push-requires-in-Some-met : goal.push-requires-in-Some-met
+push-requires-in-Some-met c = ∥∥₁_elim c.args.book.now.given le_prop (λ G. met_room (c.meet.ensures G.grammar G.types_of G.rules G.book) (c.in_ok-met.was ∙ ap Ok c.in-Some-met.is))
 
-pub loop-sp-preserved-in-Top : goal.loop-sp-preserved-in-Top
-loop-sp-preserved-in-Top c = let u = loop_next (meets c.requires.0.grammar c.requires.0.rules (place_as c.args.here)) c.args.ps.now c.args.start c.pass_tokens-from.result c.loop-sp.sp c.loop-sp.st (take c.loop-sp.n c.loop-sp.known) _ ((loop_passed (meets c.requires.0.grammar c.requires.0.rules (place_as c.args.here)) c.args.ps.now c.args.start c.loop-sp.i c.loop-sp.sp c.loop-sp.st (take c.loop-sp.n c.loop-sp.known) _ (c.loop-sp.invariant.4 c.requires.0.grammar c.requires.0.tables c.requires.0.rules c.requires.0.book) c.loop-sp-test.true c.pass_tokens-from.result (c.pass_tokens-from.ensures.same c.requires.0.grammar c.requires.0.tables c.requires.0.rules))) c.loop-sp-test.true (omega (arith, c.if-ps-from-lt2.false, c.pass_tokens-from.ensures.within)) c.meet-m.result _ (c.meet-m.ensures c.requires.0.grammar c.requires.0.tables c.requires.0.rules c.requires.0.book) (meets_steady c.requires.0.grammar c.requires.0.rules (place_as c.args.here) _ _ _ _) c.in-Top.is in (omega (arith, c.meet-m.auto.st, c.loop-sp.invariant.0), omega (arith, u.1, c.loop-sp.invariant.1, c.pass_tokens-from.ensures.later, c.pass_tokens-from.ensures.within, c.if-ps-from-lt2.false, c.loop-sp-test.true), omega (arith, c.if-ps-from-lt2.false, c.pass_tokens-from.ensures.within), c.loop-sp.invariant.3, λ g h rules b. (loop_next (meets g rules (place_as c.args.here)) c.args.ps.now c.args.start c.pass_tokens-from.result c.loop-sp.sp c.loop-sp.st (take c.loop-sp.n c.loop-sp.known) _ ((loop_passed (meets g rules (place_as c.args.here)) c.args.ps.now c.args.start c.loop-sp.i c.loop-sp.sp c.loop-sp.st (take c.loop-sp.n c.loop-sp.known) _ (c.loop-sp.invariant.4 g h rules b) c.loop-sp-test.true c.pass_tokens-from.result (c.pass_tokens-from.ensures.same g h rules))) c.loop-sp-test.true (omega (arith, c.if-ps-from-lt2.false, c.pass_tokens-from.ensures.within)) c.meet-m.result _ (c.meet-m.ensures g h rules b) (meets_steady g rules (place_as c.args.here) _ _ _ _) c.in-Top.is).0)
+pub loop-due-preserved-in-Some-met : goal.loop-due-preserved-in-Some-met
+loop-due-preserved-in-Some-met c =
+    let more : length c.meet.new.stack ≤ length c.pop.new.self + 8 = ∥∥₁_elim c.args.book.now.given le_prop (λ G. met_few (c.meet.ensures G.grammar G.types_of G.rules G.book) c.in_ok-met.met c.in_ok-met.was) in
+    let top = ap length (pop_some c.loop-due.stack c.pop.new.self c.pop.ensures c.in-Some.is) in
+    record {
+      low = omega (arith, c.loop-due.invariant.low, c.pass_tokens-from.ensures.later, c.if-ps-from-lt2.false);
+      within = omega (arith, c.if-ps-from-lt2.false);
+      few = omega (arith, ap length c.push-in-Some-met.ensures, length-append c.loop-due.known (c.in-Some-met.d ∷ []), ∥∥₁_elim c.args.book.now.given le_prop (λ G. met_room (c.meet.ensures G.grammar G.types_of G.rules G.book) (c.in_ok-met.was ∙ ap Ok c.in-Some-met.is)));
+      same = λ g h rules b. taken_off (meets g rules (place_as c.args.here)) c.args.ps.now c.args.start c.loop-due.i c.pass_tokens-from.result c.loop-due.known c.loop-due.stack c.pop.new.self (due_as c.in-Some.due) (c.loop-due.invariant.same g h rules b) (pop_some c.loop-due.stack c.pop.new.self c.pop.ensures c.in-Some.is) (c.pass_tokens-from.ensures.same g h rules)
+          ∙ rest_new (meets g rules (place_as c.args.here)) c.args.ps.now c.args.start c.pass_tokens-from.result c.loop-due.known (due_as c.in-Some.due) c.pop.new.self (omega arith) (meets_steady g rules (place_as c.args.here) (due_as c.in-Some.due) c.loop-due.known _ _) (c.meet.ensures g h rules b) (c.in_ok-met.was ∙ ap Ok c.in-Some-met.is) ∙ rw c.push-in-Some-met.ensures;
+    }
 
-pub bounds-known-n : goal.bounds-known-n
-bounds-known-n c = let u = loop_new (meets c.requires.0.grammar c.requires.0.rules (place_as c.args.here)) c.args.ps.now c.args.start c.pass_tokens-from.result c.loop-sp.sp c.loop-sp.st (take c.loop-sp.n c.loop-sp.known) _ ((loop_passed (meets c.requires.0.grammar c.requires.0.rules (place_as c.args.here)) c.args.ps.now c.args.start c.loop-sp.i c.loop-sp.sp c.loop-sp.st (take c.loop-sp.n c.loop-sp.known) _ (c.loop-sp.invariant.4 c.requires.0.grammar c.requires.0.tables c.requires.0.rules c.requires.0.book) c.loop-sp-test.true c.pass_tokens-from.result (c.pass_tokens-from.ensures.same c.requires.0.grammar c.requires.0.tables c.requires.0.rules))) c.loop-sp-test.true (omega (arith, c.if-ps-from-lt2.false, c.pass_tokens-from.ensures.within)) c.meet-m.result _ (c.meet-m.ensures c.requires.0.grammar c.requires.0.tables c.requires.0.rules c.requires.0.book) (meets_steady c.requires.0.grammar c.requires.0.rules (place_as c.args.here) _ _ _ _) c.loop-sp.known c.loop-sp.invariant.3 refl c.in-New.is in omega (arith, u.1.1)
-
-pub loop-sp-preserved : goal.loop-sp-preserved
-loop-sp-preserved c = let u = loop_new (meets c.requires.0.grammar c.requires.0.rules (place_as c.args.here)) c.args.ps.now c.args.start c.pass_tokens-from.result c.loop-sp.sp c.loop-sp.st (take c.loop-sp.n c.loop-sp.known) _ ((loop_passed (meets c.requires.0.grammar c.requires.0.rules (place_as c.args.here)) c.args.ps.now c.args.start c.loop-sp.i c.loop-sp.sp c.loop-sp.st (take c.loop-sp.n c.loop-sp.known) _ (c.loop-sp.invariant.4 c.requires.0.grammar c.requires.0.tables c.requires.0.rules c.requires.0.book) c.loop-sp-test.true c.pass_tokens-from.result (c.pass_tokens-from.ensures.same c.requires.0.grammar c.requires.0.tables c.requires.0.rules))) c.loop-sp-test.true (omega (arith, c.if-ps-from-lt2.false, c.pass_tokens-from.ensures.within)) c.meet-m.result _ (c.meet-m.ensures c.requires.0.grammar c.requires.0.tables c.requires.0.rules c.requires.0.book) (meets_steady c.requires.0.grammar c.requires.0.rules (place_as c.args.here) _ _ _ _) c.loop-sp.known c.loop-sp.invariant.3 refl c.in-New.is in (omega (arith, c.meet-m.auto.st, c.loop-sp.invariant.0), omega (arith, c.loop-sp.invariant.1, c.pass_tokens-from.ensures.later, c.pass_tokens-from.ensures.within, c.if-ps-from-lt2.false, c.loop-sp-test.true), omega (arith, c.if-ps-from-lt2.false, c.pass_tokens-from.ensures.within), u.1, λ g h rules b. (loop_new (meets g rules (place_as c.args.here)) c.args.ps.now c.args.start c.pass_tokens-from.result c.loop-sp.sp c.loop-sp.st (take c.loop-sp.n c.loop-sp.known) _ ((loop_passed (meets g rules (place_as c.args.here)) c.args.ps.now c.args.start c.loop-sp.i c.loop-sp.sp c.loop-sp.st (take c.loop-sp.n c.loop-sp.known) _ (c.loop-sp.invariant.4 g h rules b) c.loop-sp-test.true c.pass_tokens-from.result (c.pass_tokens-from.ensures.same g h rules))) c.loop-sp-test.true (omega (arith, c.if-ps-from-lt2.false, c.pass_tokens-from.ensures.within)) c.meet-m.result _ (c.meet-m.ensures g h rules b) (meets_steady g rules (place_as c.args.here) _ _ _ _) c.loop-sp.known c.loop-sp.invariant.3 refl c.in-New.is).0)
+pub loop-due-preserved : goal.loop-due-preserved
+loop-due-preserved c =
+    let more : length c.meet.new.stack ≤ length c.pop.new.self + 8 = ∥∥₁_elim c.args.book.now.given le_prop (λ G. met_few (c.meet.ensures G.grammar G.types_of G.rules G.book) c.in_ok-met.met c.in_ok-met.was) in
+    let top = ap length (pop_some c.loop-due.stack c.pop.new.self c.pop.ensures c.in-Some.is) in
+    record {
+      low = omega (arith, c.loop-due.invariant.low, c.pass_tokens-from.ensures.later, c.if-ps-from-lt2.false);
+      within = omega (arith, c.if-ps-from-lt2.false);
+      few = c.loop-due.invariant.few;
+      same = λ g h rules b. taken_off (meets g rules (place_as c.args.here)) c.args.ps.now c.args.start c.loop-due.i c.pass_tokens-from.result c.loop-due.known c.loop-due.stack c.pop.new.self (due_as c.in-Some.due) (c.loop-due.invariant.same g h rules b) (pop_some c.loop-due.stack c.pop.new.self c.pop.ensures c.in-Some.is) (c.pass_tokens-from.ensures.same g h rules)
+          ∙ rest_next (meets g rules (place_as c.args.here)) c.args.ps.now c.args.start c.pass_tokens-from.result c.loop-due.known (due_as c.in-Some.due) c.pop.new.self (omega arith) (meets_steady g rules (place_as c.args.here) (due_as c.in-Some.due) c.loop-due.known _ _) (c.meet.ensures g h rules b) (c.in_ok-met.was ∙ ap Ok (not_some c.in_ok-met.met c.in_default-met.not-Some));
+    }
 
 pub returns-then-i-ps : goal.returns-then-i-ps
-returns-then-i-ps c = λ g h rules b. loop_over (meets g rules (place_as c.args.here)) c.args.ps.now c.args.start c.loop-sp.i c.loop-sp.sp c.loop-sp.st (take c.loop-sp.n c.loop-sp.known) _ (c.loop-sp.invariant.4 g h rules b) c.loop-sp-test.false c.args.ctx c.if-i-ps.true
+returns-then-i-ps c = λ g h rules b. cc (rest_over (meets g rules (place_as c.args.here)) c.args.ps.now c.args.start c.loop-due.i c.loop-due.known c.if-i-ps.true ∙ ap typed_as (sym (c.loop-due.invariant.same g h rules b ∙ ap (λ s. rest (meets g rules (place_as c.args.here)) c.args.ps.now c.args.start c.loop-due.i s c.loop-due.known) (pop_none c.loop-due.stack c.pop.new.self c.pop.ensures c.in_default.not-Some))))
 
 pub returns : goal.returns
-returns c = λ g h rules b. loop_whole (meets g rules (place_as c.args.here)) c.args.ps.now c.args.start c.loop-sp.i c.loop-sp.sp c.loop-sp.st (take c.loop-sp.n c.loop-sp.known) _ (c.loop-sp.invariant.4 g h rules b) c.loop-sp-test.false (record { types = c.loop-sp.known; n = c.loop-sp.n }) c.if-i-ps.false refl c.loop-sp.invariant.3.1
+returns c = λ g h rules b. rest_whole (meets g rules (place_as c.args.here)) c.args.ps.now c.args.start c.loop-due.i c.loop-due.known c.if-i-ps.false ∙ ap typed_as (sym (c.loop-due.invariant.same g h rules b ∙ ap (λ s. rest (meets g rules (place_as c.args.here)) c.args.ps.now c.args.start c.loop-due.i s c.loop-due.known) (pop_none c.loop-due.stack c.pop.new.self c.pop.ensures c.in_default.not-Some)))

@@ -1,13 +1,10 @@
--- `pairs::rule_usable` meets its contract. Assumes nothing.
-use Rattle.pairs.proofs.Book.{headed_at, unheaded, usable_not, usable_fits}
+use mathlib.Core.Path.{◌∙◌}
 use Rattle.dues.specs.Views.{place_as}
+use Rattle.pairs.proofs.Heads.{headed_at, usable_fits, usable_not}
 use Rattle.pairs.proofs.rule_usable.Goals as goal
 
-pub returns-then-not-b : goal.returns-then-not-b
-returns-then-not-b c = λ rule h. usable_not c.args.types c.args.ws.now c.rule_at-at.result _ c.read_head-h.ensures rule (headed_at (c.rule_at-at.ensures c.requires.1) h) c.in-Header.is (place_as c.args.here) c.args.s c.applies_rule-b.ensures c.if-not-b.true
+pub returns-then-applies_rule : goal.returns-then-applies_rule
+returns-then-applies_rule c = λ rule h. usable_fits _ _ _ c.in-Ok.ensures rule (headed_at (c.rule_at.ensures c.requires) h) (place_as c.args.here) c.args.s c.applies_rule.ensures c.if-applies_rule.true c.fits_scope.ensures
 
-pub returns-in-NoHead : goal.returns-in-NoHead
-returns-in-NoHead c = λ rule h. unheaded c.args.types c.args.ws.now c.rule_at-at.result _ c.read_head-h.ensures rule (headed_at (c.rule_at-at.ensures c.requires.1) h) c.in-NoHead.is
-
-pub returns-else-not-b : goal.returns-else-not-b
-returns-else-not-b c = λ rule h. usable_fits c.args.types c.args.ws.now c.rule_at-at.result _ c.read_head-h.ensures rule (headed_at (c.rule_at-at.ensures c.requires.1) h) c.in-Header.is (place_as c.args.here) c.args.s c.applies_rule-b.ensures c.if-not-b.false c.fits_scope.ensures
+pub returns-else-applies_rule : goal.returns-else-applies_rule
+returns-else-applies_rule c = λ rule h. c.if-applies_rule.false ∙ usable_not _ _ _ c.in-Ok.ensures rule (headed_at (c.rule_at.ensures c.requires) h) (place_as c.args.here) c.args.s c.applies_rule.ensures c.if-applies_rule.false

@@ -1,13 +1,13 @@
--- `pairs::usable` meets its contract. Assumes nothing.
-use Rattle.pairs.proofs.Book.{usable_rule, rule_head, usable_other, usable_operation}
+use mathlib.Core.Path.{◌∙◌}
 use Rattle.dues.specs.Views.{place_as}
+use Rattle.pairs.proofs.Heads.{rule_head, usable_rule, usable_operation, usable_other}
 use Rattle.pairs.proofs.usable.Goals as goal
 
-pub returns-then-a-n : goal.returns-then-a-n
-returns-then-a-n c = λ g h rules b. usable_rule g rules (place_as c.args.here) c.args.s c.args.a c.args.ws.now c.args.starts.now c.args.types b c.word-n.ensures c.if-a-n.true (c.rule_usable.ensures _ (rule_head g rules (place_as c.args.here) c.args.s c.args.a c.args.ws.now c.args.starts.now c.args.types b c.word-n.ensures c.if-a-n.true))
+pub returns-then-a-count : goal.returns-then-a-count
+returns-then-a-count c = λ g h rules b. usable_rule g rules (place_as c.args.here) c.args.s c.args.a c.args.book.now.words.now c.args.book.now.starts.now c.args.book.now.types.now.count b c.count.ensures.0 c.if-a-count.true (c.rule_usable.ensures _ (rule_head g rules (place_as c.args.here) c.args.s c.args.a c.args.book.now.words.now c.args.book.now.starts.now c.args.book.now.types.now.count b c.count.ensures.0 c.if-a-count.true))
 
-pub returns-then-not-b : goal.returns-then-not-b
-returns-then-not-b c = λ g h rules b. usable_other g rules (place_as c.args.here) c.args.s c.args.a c.args.ws.now c.args.starts.now c.args.types b c.word-n.ensures c.if-a-n.false c.applies_operation-b.ensures c.if-not-b.true
+pub returns-then-applies_operation : goal.returns-then-applies_operation
+returns-then-applies_operation c = λ g h rules b. usable_operation g rules (place_as c.args.here) c.args.s c.args.a c.args.book.now.words.now c.args.book.now.starts.now c.args.book.now.types.now.count b c.count.ensures.0 c.if-a-count.false c.applies_operation.ensures c.if-applies_operation.true (c.operates_on.ensures g h)
 
-pub returns : goal.returns
-returns c = λ g h rules b. usable_operation g rules (place_as c.args.here) c.args.s c.args.a c.args.ws.now c.args.starts.now c.args.types b c.word-n.ensures c.if-a-n.false c.applies_operation-b.ensures c.if-not-b.false (c.operates_on.ensures g h)
+pub returns-else-applies_operation : goal.returns-else-applies_operation
+returns-else-applies_operation c = λ g h rules b. c.if-applies_operation.false ∙ usable_other g rules (place_as c.args.here) c.args.s c.args.a c.args.book.now.words.now c.args.book.now.starts.now c.args.book.now.types.now.count b c.count.ensures.0 c.if-a-count.false c.applies_operation.ensures c.if-applies_operation.false

@@ -5,53 +5,30 @@ use Rattle.rewrite.proofs.Matcher.{answers_kept, kept_same, kept_more, kept_back
 use Rattle.rewrite.proofs.Finding.{finding_start, finding_none, finding_other, finding_matches, finding_stops, finding_differs}
 use Rattle.words.proofs.Stretches.{part_rest}
 use native.Mathlib.Omega.{arith}
-use mathlib.Core.Path.{refl, sym, ap, ◌∙◌}
+use mathlib.Core.Path.{◌≡◌, refl, sym, ◌∙◌}
+use Prim.Native.Nat.{◌+◌, ◌*◌}
+use mathlib.Core.Logic.{⊎_elim}
 use Rattle.rewrite.proofs.match_first.Goals as goal
+use Rattle.rewrite.proofs.match_first.Goals.{then-type_in-ty+in-Differs, else-type_in-ty}
 
-pub loop-p-init : goal.loop-p-init
-loop-p-init c = (finding_start c.args.heads.now c.args.ty c.args.pairs.now c.args.arena.now c.args.part.now c.args.at (vars_of c.args.places.now c.args.bound) c.args.live c.requires.2 c.requires.3, c.requires.2, kept_same (vars_of c.args.places.now c.args.bound))
-
-pub overflow_sub-part : goal.overflow_sub-part
-overflow_sub-part c = omega (arith, c.loop-p.invariant.0.near)
-
-pub bounds-part-p : goal.bounds-part-p
-bounds-part-p c = omega (arith, c.loop-p.invariant.0.near, c.loop-p-test.true)
-
-pub slice_bounds-match_pattern-count : goal.slice_bounds-match_pattern-count
-slice_bounds-match_pattern-count c = omega (arith, c.loop-p.invariant.0.near)
-
-pub slice_bounds-match_pattern-start : goal.slice_bounds-match_pattern-start
-slice_bounds-match_pattern-start c = omega (arith, c.loop-p.invariant.0.near)
-
-pub overflow_add-at : goal.overflow_add-at
-overflow_add-at c = omega (arith, c.loop-p.invariant.0.near, c.requires.1)
-
-pub match_pattern-m-requires : goal.match_pattern-m-requires
-match_pattern-m-requires c = (c.requires.0, omega (arith, c.loop-p.invariant.0.near, c.requires.1), c.loop-p.invariant.1, c.requires.3)
+pub loop-i-init : goal.loop-i-init
+loop-i-init c = (finding_start _ _ _ _ _ _ _ _ c.requires.2 c.requires.3, c.requires.2, kept_same _)
 
 pub returns-in-Matches : goal.returns-in-Matches
-returns-in-Matches c = finding_matches c.args.heads.now c.args.ty c.args.pairs.now c.args.arena.now c.args.part.now c.args.at (vars_of c.args.places.now c.args.bound) c.args.live c.loop-p.p c.loop-p.invariant.0 c.loop-p-test.true _ refl (sym c.type_in.ensures ∙ c.if-type_in-ty.true) _ _ (part_rest c.loop-p.p c.args.part.now) (λ strict. answers_kept (vars_of c.args.places.now c.args.bound) (vars_of c.loop-p.places c.args.bound) refl c.loop-p.invariant.2 (c.match_pattern-m.ensures strict)) c.in-Matches.is
+returns-in-Matches c = ⊎_elim
+    (λ e. finding_matches _ _ _ _ _ _ _ _ _ c.loop-i.invariant.0 (omega (arith, c.loop-i-test.true)) _ refl (sym c.type_in.ensures ∙ c.if-type_in-ty.true) _ _ (part_rest (2 * c.loop-i.i) c.args.part.now) (λ strict. answers_kept _ _ refl c.loop-i.invariant.2 (c.match_pattern-m.ensures strict)) e)
+    (λ e. finding_stops _ _ _ _ _ _ _ _ _ c.loop-i.invariant.0 (omega (arith, c.loop-i-test.true)) _ refl (sym c.type_in.ensures ∙ c.if-type_in-ty.true) _ _ (part_rest (2 * c.loop-i.i) c.args.part.now) (λ strict. answers_kept _ _ refl c.loop-i.invariant.2 (c.match_pattern-m.ensures strict)) e.1)
+    c.in-Matches.is
 
-pub returns-in-Stops : goal.returns-in-Stops
-returns-in-Stops c = finding_stops c.args.heads.now c.args.ty c.args.pairs.now c.args.arena.now c.args.part.now c.args.at (vars_of c.args.places.now c.args.bound) c.args.live c.loop-p.p c.loop-p.invariant.0 c.loop-p-test.true _ refl (sym c.type_in.ensures ∙ c.if-type_in-ty.true) _ _ (part_rest c.loop-p.p c.args.part.now) (λ strict. answers_kept (vars_of c.args.places.now c.args.bound) (vars_of c.loop-p.places c.args.bound) refl c.loop-p.invariant.2 (c.match_pattern-m.ensures strict)) c.in-Stops.is
-
-pub overflow_add-p : goal.overflow_add-p
-overflow_add-p c = omega (arith, c.loop-p.invariant.0.near, c.loop-p-test.true)
-
-pub loop-p-smaller-in-Differs : goal.loop-p-smaller-in-Differs
-loop-p-smaller-in-Differs c = omega (arith, c.loop-p.invariant.0.near, c.loop-p-test.true)
-
-pub loop-p-preserved-in-Differs : goal.loop-p-preserved-in-Differs
-loop-p-preserved-in-Differs c = (finding_differs c.args.heads.now c.args.ty c.args.pairs.now c.args.arena.now c.args.part.now c.args.at (vars_of c.args.places.now c.args.bound) c.args.live c.loop-p.p c.loop-p.invariant.0 c.loop-p-test.true _ refl (sym c.type_in.ensures ∙ c.if-type_in-ty.true) _ _ (part_rest c.loop-p.p c.args.part.now) (λ strict. answers_kept (vars_of c.args.places.now c.args.bound) (vars_of c.loop-p.places c.args.bound) refl c.loop-p.invariant.2 (c.match_pattern-m.ensures strict)) c.in-Differs.is, sound_back (vars_of c.loop-p.places c.args.bound) (match_in c.match_pattern-m.new.places c.match_pattern-m.result).vars c.loop-p.invariant.1 (c.match_pattern-m.ensures false).sound, kept_more c.loop-p.invariant.2 (kept_back (vars_of c.loop-p.places c.args.bound) (match_in c.match_pattern-m.new.places c.match_pattern-m.result).vars (c.match_pattern-m.ensures false).kept))
-
-pub overflow_add-p-else-type_in-ty : goal.overflow_add-p-else-type_in-ty
-overflow_add-p-else-type_in-ty c = omega (arith, c.loop-p.invariant.0.near, c.loop-p-test.true)
-
-pub loop-p-smaller : goal.loop-p-smaller
-loop-p-smaller c = omega (arith, c.loop-p.invariant.0.near, c.loop-p-test.true)
-
-pub loop-p-preserved : goal.loop-p-preserved
-loop-p-preserved c = (finding_other c.args.heads.now c.args.ty c.args.pairs.now c.args.arena.now c.args.part.now c.args.at (vars_of c.args.places.now c.args.bound) c.args.live c.loop-p.p c.loop-p.invariant.0 c.loop-p-test.true _ refl (λ e. c.if-type_in-ty.false (c.type_in.ensures ∙ e)), c.loop-p.invariant.1, c.loop-p.invariant.2)
+pub loop-i-preserved : goal.loop-i-preserved
+loop-i-preserved c = let e : 2 * (c.loop-i.i + 1) ≡ 2 * c.loop-i.i + 2 = omega arith in elim c.if-type_in-ty.branch [
+  | then-type_in-ty+in-Differs w ↦ (
+    rw e (finding_differs _ _ _ _ _ _ _ _ _ c.loop-i.invariant.0 (omega (arith, c.loop-i-test.true)) _ refl (sym c.type_in.ensures ∙ w.if-type_in-ty.true) _ _ (part_rest (2 * c.loop-i.i) c.args.part.now) (λ strict. answers_kept _ _ refl c.loop-i.invariant.2 (w.match_pattern-m.ensures strict)) w.in-Differs.is),
+    rw w.places-is (sound_back _ (match_in w.match_pattern-m.new.places w.match_pattern-m.result).vars c.loop-i.invariant.1 (w.match_pattern-m.ensures false).sound),
+    rw w.places-is (kept_more c.loop-i.invariant.2 (kept_back _ (match_in w.match_pattern-m.new.places w.match_pattern-m.result).vars (w.match_pattern-m.ensures false).kept)),
+  )
+  | else-type_in-ty w ↦ (rw e (finding_other _ _ _ _ _ _ _ _ _ c.loop-i.invariant.0 (omega (arith, c.loop-i-test.true)) _ refl (λ q. w.if-type_in-ty.false (c.type_in.ensures ∙ q))), rw w.places-is c.loop-i.invariant.1, rw w.places-is c.loop-i.invariant.2)
+]
 
 pub returns : goal.returns
-returns c = finding_none c.args.heads.now c.args.ty c.args.pairs.now c.args.arena.now c.args.part.now c.args.at (vars_of c.args.places.now c.args.bound) c.args.live c.loop-p.p c.loop-p.invariant.0 c.loop-p-test.false (vars_of c.loop-p.places c.args.bound) c.loop-p.invariant.1 c.loop-p.invariant.2 _ (ap (match_in c.loop-p.places) c.differs.ensures)
+returns c = finding_none _ _ _ _ _ _ _ _ _ c.loop-i.invariant.0 (omega (arith, c.loop-i-test.false)) (vars_of c.loop-i.places c.args.bound) c.loop-i.invariant.1 c.loop-i.invariant.2 _ refl

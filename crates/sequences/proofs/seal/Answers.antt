@@ -1,12 +1,17 @@
 -- `sequences::seal` meets its contract. Assumes nothing.
+use Rattle.std.proofs.lemmas.Result.{err_from_is_err_and}
 use Rattle.sequences.proofs.Sealing.{sealed_deep, sealed_over, sealed_there}
 use Rattle.sequences.proofs.seal.Goals as goal
 
-pub returns-then-deep-ne0 : goal.returns-then-deep-ne0
-returns-then-deep-ne0 c = sealed_deep c.args.heads.now c.args.rows.now c.args.w.now _ c.args.base c.args.n c.args.besides c.close-deep.result c.close-deep.ensures c.requires.0 c.requires.2 c.if-deep-ne0.true _ c.stopped.ensures
+pub returns-in_err-close : goal.returns-in_err-close
+returns-in_err-close c =
+    let p = err_from_is_err_and c.from_residual.result c.from_residual.ensures.1 in
+    rw (p.1, p.2) (sealed_deep c.args.types.now c.args.w.now _ c.args.base c.args.n c.args.besides c.close.result c.close.ensures c.requires.0 c.requires.2 c.in_err-close.was)
 
-pub returns-then-besides-n-gt-MOST_LIVE : goal.returns-then-besides-n-gt-MOST_LIVE
-returns-then-besides-n-gt-MOST_LIVE c = sealed_over c.args.heads.now c.args.rows.now c.args.w.now _ c.args.base c.args.n c.args.besides c.close-deep.result c.close-deep.ensures c.requires.0 c.requires.2 c.if-deep-ne0.false c.if-besides-n-gt-MOST_LIVE.true _ c.stopped-then-besides-n-gt-MOST_LIVE.ensures
+pub returns-in_err-check_live : goal.returns-in_err-check_live
+returns-in_err-check_live c =
+    let p = err_from_is_err_and c.from_residual-in_err-check_live.result c.from_residual-in_err-check_live.ensures.1 in
+    rw (p.1, p.2) (sealed_over c.args.types.now c.args.w.now _ c.args.base c.args.n c.args.besides c.close.result c.close.ensures c.requires.0 c.requires.2 c.in_ok-close.was c.in_err-check_live.ensures)
 
 pub returns : goal.returns
-returns c = sealed_there c.args.heads.now c.args.rows.now c.args.w.now _ c.args.base c.args.n c.args.besides c.close-deep.result c.close-deep.ensures c.requires.0 c.requires.2 c.if-deep-ne0.false c.if-besides-n-gt-MOST_LIVE.false
+returns c = sealed_there c.args.types.now c.args.w.now _ c.args.base c.args.n c.args.besides c.close.result c.close.ensures c.requires.0 c.requires.2 c.in_ok-close.was c.in_ok-check_live.ensures

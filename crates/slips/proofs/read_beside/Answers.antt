@@ -1,33 +1,31 @@
 -- `slips::read_beside` meets its contract. Assumes nothing.
-use Prim.Native.Nat.{◌*◌, ◌/◌}
-use lib.ListN.{length, length-take}
+use lib.ListN.{length}
+use mathlib.Core.Path.{◌≡◌}
 use native.Mathlib.Omega.{arith}
+use Rattle.std.proofs.lemmas.Grind.{common_steps}
 use Rattle.slips.proofs.Reading.{slip_empty, slip_long, slip_uneven, slip_within, slip_refused, slip_passed}
 use Rattle.slips.proofs.read_beside.Goals as goal
+use Rattle.slips.proofs.read_beside.Goals.{then-is_empty-via-then-is_empty, then-is_empty-via-else-is_empty+then-slip-gt-MOST_SLIP_WORDS, then-is_empty-via-else-is_empty+else-slip-gt-MOST_SLIP_WORDS+then-slip-ne0}
 
-pub returns-then-slip-eq0 : goal.returns-then-slip-eq0
-returns-then-slip-eq0 c = slip_empty c.args.slip.now c.args.heads.now c.args.rows.now c.args.buffer.now c.if-slip-eq0.true
-
-pub returns-then-slip-gt-MOST_SLIP_WORDS : goal.returns-then-slip-gt-MOST_SLIP_WORDS
-returns-then-slip-gt-MOST_SLIP_WORDS c = slip_long c.args.slip.now c.args.heads.now c.args.rows.now c.args.buffer.now c.if-slip-gt-MOST_SLIP_WORDS.true
-
-pub returns-then-slip-ne0 : goal.returns-then-slip-ne0
-returns-then-slip-ne0 c = slip_uneven c.args.slip.now c.args.heads.now c.args.rows.now c.args.buffer.now c.if-slip-eq0.false c.if-slip-gt-MOST_SLIP_WORDS.false c.if-slip-ne0.true
-
-pub slice_bounds-read_tree-end : goal.slice_bounds-read_tree-end
-slice_bounds-read_tree-end c = omega (arith, length-take (2 * (length c.args.slip.now / 3)) c.uncount.new.buffer, c.uncount.auto.buffer, c.if-slip-gt-MOST_SLIP_WORDS.false)
+pub returns-then-is_empty : goal.returns-then-is_empty
+returns-then-is_empty c = rw c.new.ensures (elim c.then-is_empty.branch [
+  | then-is_empty-via-then-is_empty w ↦ (let none : length c.args.slip.now ≡ 0 = grind (arith, common_steps) in slip_empty c.args.types.now c.args.slip.now c.args.buffer.now none)
+  | then-is_empty-via-else-is_empty+then-slip-gt-MOST_SLIP_WORDS w ↦ slip_long c.args.types.now c.args.slip.now c.args.buffer.now w.if-slip-gt-MOST_SLIP_WORDS.true
+  | then-is_empty-via-else-is_empty+else-slip-gt-MOST_SLIP_WORDS+then-slip-ne0 w ↦
+      (let some : length c.args.slip.now ≡ 0 → ⊥ = grind (arith, common_steps) in slip_uneven c.args.types.now c.args.slip.now c.args.buffer.now some w.if-slip-gt-MOST_SLIP_WORDS.false w.if-slip-ne0.true)
+])
 
 pub place_in-requires : goal.place_in-requires
-place_in-requires c = slip_within c.args.slip.now c.args.heads.now c.args.rows.now c.args.buffer.now c.if-slip-eq0.false c.if-slip-gt-MOST_SLIP_WORDS.false c.if-slip-ne0.false c.uncount.new.buffer c.uncount.ensures _ c.read_tree-a.ensures c.requires c.in-Refused.is
+place_in-requires c =
+    let some : length c.args.slip.now ≡ 0 → ⊥ = grind (arith, common_steps) in
+    rw c.position.ensures (slip_within c.args.types.now c.args.slip.now c.args.buffer.now some c.if-slip-gt-MOST_SLIP_WORDS.false c.if-slip-ne0.false c.uncount.new.buffer c.uncount.ensures _ c.read_tree.ensures c.in-Err.is)
 
-pub slice_bounds-check_counts-end : goal.slice_bounds-check_counts-end
-slice_bounds-check_counts-end c = omega (arith, length-take (2 * (length c.args.slip.now / 3)) c.mark_tree.new.w, c.mark_tree.auto.w, c.uncount.auto.buffer, c.if-slip-gt-MOST_SLIP_WORDS.false)
+pub returns-in-Err : goal.returns-in-Err
+returns-in-Err c =
+    let some : length c.args.slip.now ≡ 0 → ⊥ = grind (arith, common_steps) in
+    rw c.at.ensures (slip_refused c.args.types.now c.args.slip.now c.args.buffer.now some c.if-slip-gt-MOST_SLIP_WORDS.false c.if-slip-ne0.false c.uncount.new.buffer c.uncount.ensures _ c.read_tree.ensures c.in-Err.is _ (rw c.position.ensures at c.place_in.ensures))
 
-pub check_counts-requires : goal.check_counts-requires
-check_counts-requires c = omega (arith, length-take (2 * (length c.args.slip.now / 3)) c.mark_tree.new.w, c.mark_tree.auto.w, c.uncount.auto.buffer, c.if-slip-gt-MOST_SLIP_WORDS.false)
-
-pub returns-in-Refused : goal.returns-in-Refused
-returns-in-Refused c = slip_refused c.args.slip.now c.args.heads.now c.args.rows.now c.args.buffer.now c.if-slip-eq0.false c.if-slip-gt-MOST_SLIP_WORDS.false c.if-slip-ne0.false c.uncount.new.buffer c.uncount.ensures _ c.read_tree-a.ensures c.in-Refused.is _ c.place_in.ensures
-
-pub returns-in-Passed : goal.returns-in-Passed
-returns-in-Passed c = slip_passed c.args.slip.now c.args.heads.now c.args.rows.now c.args.buffer.now c.if-slip-eq0.false c.if-slip-gt-MOST_SLIP_WORDS.false c.if-slip-ne0.false c.uncount.new.buffer c.uncount.ensures _ c.read_tree-a.ensures c.in-Passed.is c.mark_tree.new.w c.mark_tree.ensures _ c.check_counts.ensures
+pub returns-in-Ok : goal.returns-in-Ok
+returns-in-Ok c =
+    let some : length c.args.slip.now ≡ 0 → ⊥ = grind (arith, common_steps) in
+    slip_passed c.args.types.now c.args.slip.now c.args.buffer.now some c.if-slip-gt-MOST_SLIP_WORDS.false c.if-slip-ne0.false c.uncount.new.buffer c.uncount.ensures _ c.read_tree.ensures c.in-Ok.is c.mark_tree.new.w c.mark_tree.ensures _ c.check_counts.ensures

@@ -1,11 +1,9 @@
 -- `slips::uncount` meets its contract. Assumes nothing.
-use lib.ListN.{length}
-use Prim.Native.Nat.{◌-◌, ◌/◌}
-use Rattle.slips.proofs.Copying.{UncountLoop}
+use Prim.Native.Nat.{◌*◌}
+use mathlib.Core.Path.{◌≡◌}
+use Rattle.words.proofs.Stretches.{over}
+use Rattle.tree.specs.Slip.{uncounted}
 use Rattle.slips.proofs.uncount.Given as goal
 
 abbrev pub invariant-loop-i : goal.invariant-loop-i
-invariant-loop-i l = UncountLoop l.slip l.initial.buffer l.buffer l.i
-
-abbrev pub decreases-loop-i : goal.decreases-loop-i
-decreases-loop-i l = length l.slip / 3 - l.i
+invariant-loop-i l = l.buffer ≡ over (uncounted l.slip) l.initial.buffer (2 * l.i)

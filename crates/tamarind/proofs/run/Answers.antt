@@ -1,21 +1,20 @@
 -- `tamarind::run` meets its contract. Assumes nothing.
-use mathlib.Core.Path.{refl, sym}
 use native.Mathlib.Omega.{arith}
-use Rattle.tamarind.proofs.Inputs.{call_refused, call_room, inputs_refused, inputs_accepted}
 use Rattle.tamarind.specs.Run.{inputs_of}
+use Rattle.tamarind.proofs.Inputs.{call_refused, call_room, inputs_refused, inputs_accepted}
 use Rattle.tamarind.proofs.run.Goals as goal
 
-pub read_inputs-c-requires : goal.read_inputs-c-requires
-read_inputs-c-requires c = let k = call_room c.args.res.now c.args.work.now (inputs_of c.args.budget c.args.grammar.now c.args.rules.now c.args.slip.now) (c.call_fits-f.ensures c.args.slip.now) c.in-Passed.is in (refl, refl, omega (arith, k.1), k.0)
+pub returns-in-Err : goal.returns-in-Err
+returns-in-Err c = let a = c.args in call_refused a.res.now a.work.now (inputs_of a.budget a.grammar.now a.rules.now a.slip.now) c.call_fits.ensures c.in-Err.is
+
+pub read_inputs-requires : goal.read_inputs-requires
+read_inputs-requires c =
+    let a = c.args in
+    let room = call_room a.res.now a.work.now (inputs_of a.budget a.grammar.now a.rules.now a.slip.now) c.call_fits.ensures c.in_default.is in
+    (c.none-types.ensures, omega (arith, room.1), room.0)
 
 pub execute-requires : goal.execute-requires
-execute-requires c = inputs_accepted c.args.res.now c.args.work.now (inputs_of c.args.budget c.args.grammar.now c.args.rules.now c.args.slip.now) (c.call_fits-f.ensures c.args.slip.now) c.in-Passed.is c.read_inputs-c.ensures c.in-Passed-c.is
+execute-requires c = let a = c.args in inputs_accepted a.res.now a.work.now (inputs_of a.budget a.grammar.now a.rules.now a.slip.now) c.call_fits.ensures c.in_default.is c.read_inputs.ensures c.in-Ok.is
 
-pub returns-in-Refused : goal.returns-in-Refused
-returns-in-Refused c = call_refused c.args.res.now c.args.work.now (inputs_of c.args.budget c.args.grammar.now c.args.rules.now c.args.slip.now) (c.call_fits-f.ensures c.args.slip.now) c.in-Refused.is
-
-pub returns-in-Refused-c : goal.returns-in-Refused-c
-returns-in-Refused-c c = inputs_refused c.args.res.now c.args.work.now (inputs_of c.args.budget c.args.grammar.now c.args.rules.now c.args.slip.now) (c.call_fits-f.ensures c.args.slip.now) c.in-Passed.is c.read_inputs-c.ensures c.in-Refused-c.is
-
-pub returns-in-Passed-c : goal.returns-in-Passed-c
-returns-in-Passed-c c = c.execute.ensures c.args.work.now (sym c.read_inputs-c.ensures.long)
+pub returns-in-Err-read_inputs : goal.returns-in-Err-read_inputs
+returns-in-Err-read_inputs c = let a = c.args in inputs_refused a.res.now a.work.now (inputs_of a.budget a.grammar.now a.rules.now a.slip.now) c.call_fits.ensures c.in_default.is c.read_inputs.ensures c.in-Err-read_inputs.is

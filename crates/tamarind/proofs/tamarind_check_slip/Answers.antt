@@ -4,4 +4,4 @@ use Rattle.tree.specs.Slip.{check_slip}
 use Rattle.tamarind.proofs.tamarind_check_slip.Goals as goal
 
 pub returns : goal.returns
-returns c = export_check (check_slip c.args.grammar.now c.args.slip.now) _ _ c.check_slip-c.ensures c.export.ensures
+returns c = export_check (check_slip c.args.grammar.now c.args.slip.now) _ _ c.check_slip.ensures c.export.ensures

@@ -5,7 +5,7 @@ use Prim.Native.Nat.{◌-◌}
 use Rattle.tree.proofs.end_of_tree.Given as goal
 
 abbrev pub invariant-loop-owed : goal.invariant-loop-owed
-invariant-loop-owed l = Owed l.rows l.ws l.owed l.at
+invariant-loop-owed l = Owed l.types l.ws l.owed l.at
 
 abbrev pub decreases-loop-owed : goal.decreases-loop-owed
 decreases-loop-owed l = length l.ws - l.at

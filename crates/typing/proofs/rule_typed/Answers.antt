@@ -1,29 +1,29 @@
--- `typing::rule_typed` meets its contract. Assumes nothing.
+use mathlib.Core.Bool.{Bool-set}
+use mathlib.Core.Path.{◌∙◌}
 use native.Mathlib.Omega.{arith}
-use Rattle.pairs.proofs.Book.{head_few}
-use Rattle.typing.proofs.Whole.{passed_few, head_fault, pattern_accepted, pattern_fault, parts_refused, rule_done, replacement_accepted}
+use Rattle.std.proofs.Math.Logic.{∥∥₁_elim}
+use Rattle.words.proofs.Laws.{exits}
+use Rattle.pairs.proofs.Heads.{head_few}
+use Rattle.typing.proofs.Whole.{head_fault, pattern_accepted, pattern_fault, parts_refused, rule_done, replacement_accepted}
 use Rattle.typing.proofs.rule_typed.Goals as goal
 
-pub parameters_of-ctx-requires : goal.parameters_of-ctx-requires
-parameters_of-ctx-requires c = let few = head_few c.args.types c.args.ws.now c.args.at _ c.read_head-h.ensures c.in-Header.is in (few.0, omega (arith, few.1, c.requires.2))
+pub returns-in_err-head : goal.returns-in_err-head
+returns-in_err-head c = λ g h rules b. exits c.from_residual.result c.from_residual.ensures ∙ head_fault g rules _ _ _ h.count_of c.in_err-head.ensures
 
-pub stretch_typed-r-requires : goal.stretch_typed-r-requires
-stretch_typed-r-requires c = (c.requires.0, c.requires.1, c.requires.0.few, c.requires.2, pattern_accepted c.args.types c.args.ws.now c.args.at _ c.read_head-h.ensures c.requires.3 c.in-Header.is, c.parameters_of-ctx.ensures.1, c.requires.4)
+pub parameters_of-parameters-requires : goal.parameters_of-parameters-requires
+parameters_of-parameters-requires c = let few = head_few _ _ _ c.in_ok-head.ensures in (few.0, omega (arith, few.1, c.args.book.now.short))
 
-pub read_parts-q-requires : goal.read_parts-q-requires
-read_parts-q-requires c = (c.requires.0, c.requires.1, c.requires.0.few, c.requires.2, passed_few _ (c.stretch_typed-r.ensures c.requires.0.grammar c.requires.0.tables c.requires.0.rules c.requires.0.book) c.in-Passed.is, omega (arith, c.stretch_typed-r.auto.st, c.requires.4))
+pub stretch_typed-requires : goal.stretch_typed-requires
+stretch_typed-requires c = pattern_accepted _ _ _ c.in_ok-head.ensures c.requires
+
+pub returns-in_err-matched : goal.returns-in_err-matched
+returns-in_err-matched c = λ g h rules b. exits c.from_residual-in_err-matched.result c.from_residual-in_err-matched.ensures ∙ pattern_fault _ _ _ c.in_ok-head.ensures c.requires g rules h.count_of c.parameters_of-parameters.ensures (c.in_err-matched.ensures g h rules b)
+
+pub returns-in_err-all : goal.returns-in_err-all
+returns-in_err-all c = λ g h rules b. exits c.from_residual-in_err-all.result c.from_residual-in_err-all.ensures ∙ parts_refused _ _ _ c.in_ok-head.ensures c.requires g rules h.count_of c.parameters_of-parameters.ensures (c.in_ok-matched.ensures g h rules b) (c.in_err-all.ensures g h rules b)
 
 pub read_replacement-requires : goal.read_replacement-requires
-read_replacement-requires c = (c.requires.0, c.requires.1, c.requires.0.few, c.requires.2, replacement_accepted c.args.types c.args.ws.now c.args.at _ c.read_head-h.ensures c.requires.3 c.in-Header.is c.requires.0.grammar c.requires.0.rules c.requires.0.types_are c.parameters_of-ctx.result c.parameters_of-ctx.ensures.0 c.stretch_typed-r.result (c.stretch_typed-r.ensures c.requires.0.grammar c.requires.0.tables c.requires.0.rules c.requires.0.book) c.in-Passed.is c.read_parts-q.result (c.read_parts-q.ensures c.requires.0.grammar c.requires.0.tables c.requires.0.rules c.requires.0.book c.requires.0.types_are) c.in-Passed-found.is, passed_few _ (c.read_parts-q.ensures c.requires.0.grammar c.requires.0.tables c.requires.0.rules c.requires.0.book c.requires.0.types_are) c.in-Passed-found.is, omega (arith, c.read_parts-q.auto.st, c.stretch_typed-r.auto.st, c.requires.4))
+read_replacement-requires c = ∥∥₁_elim c.args.book.now.given (Bool-set _ _) (λ G. replacement_accepted _ _ _ c.in_ok-head.ensures c.requires G.grammar G.rules G.types_of.count_of c.parameters_of-parameters.ensures (c.in_ok-matched.ensures G.grammar G.types_of G.rules G.book) (c.in_ok-all.ensures G.grammar G.types_of G.rules G.book))
 
-pub returns-in-NoHead : goal.returns-in-NoHead
-returns-in-NoHead c = λ g h rules b l. head_fault g rules c.args.types c.args.ws.now c.args.at l _ c.read_head-h.ensures c.in-NoHead.is
-
-pub returns-in-Refused : goal.returns-in-Refused
-returns-in-Refused c = λ g h rules b l. pattern_fault c.args.types c.args.ws.now c.args.at _ c.read_head-h.ensures c.requires.3 c.in-Header.is g rules l c.parameters_of-ctx.result c.parameters_of-ctx.ensures.0 c.stretch_typed-r.result (c.stretch_typed-r.ensures g h rules b) c.in-Refused.is
-
-pub returns-in-Refused-found : goal.returns-in-Refused-found
-returns-in-Refused-found c = λ g h rules b l. parts_refused c.args.types c.args.ws.now c.args.at _ c.read_head-h.ensures c.requires.3 c.in-Header.is g rules l c.parameters_of-ctx.result c.parameters_of-ctx.ensures.0 c.stretch_typed-r.result (c.stretch_typed-r.ensures g h rules b) c.in-Passed.is c.read_parts-q.result (c.read_parts-q.ensures g h rules b l) c.in-Refused-found.is
-
-pub returns-in-Passed-found : goal.returns-in-Passed-found
-returns-in-Passed-found c = λ g h rules b l. rule_done c.args.types c.args.ws.now c.args.at _ c.read_head-h.ensures c.requires.3 c.in-Header.is g rules l c.parameters_of-ctx.result c.parameters_of-ctx.ensures.0 c.stretch_typed-r.result (c.stretch_typed-r.ensures g h rules b) c.in-Passed.is c.read_parts-q.result (c.read_parts-q.ensures g h rules b l) c.in-Passed-found.is (c.read_replacement.ensures g h rules b)
+pub returns : goal.returns
+returns c = λ g h rules b. rule_done _ _ _ c.in_ok-head.ensures c.requires g rules h.count_of c.parameters_of-parameters.ensures (c.in_ok-matched.ensures g h rules b) (c.in_ok-all.ensures g h rules b) (c.read_replacement.ensures g h rules b)

@@ -120,7 +120,7 @@ fn no_limit_is_left_out() {
 
 #[test]
 fn the_stops_are_the_proved_codes() {
-    let code = read(format!("{ROOT}/crates/tamarind/src/lib.rt"));
+    let code = read(format!("{ROOT}/crates/meaning/src/lib.rt"));
     let stop = |line: &str| {
         let (name, number) = line.trim().strip_prefix("Stop::")?.split_once(" => ")?;
         let number = number.strip_suffix(',')?.parse().ok()?;

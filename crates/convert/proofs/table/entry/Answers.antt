@@ -1,9 +1,5 @@
--- `convert::table::entry` meets its contract. Assumes nothing.
-use Rattle.convert.proofs.Entries.{entry_bad, entry_there}
+use Rattle.convert.proofs.Entries.{entry_there}
 use Rattle.convert.proofs.table.entry.Goals as goal
 
-pub returns-in-Bad : goal.returns-in-Bad
-returns-in-Bad c = λ b kd hb en ek. entry_bad b kd c.args.table.now c.args.n c.args.k c.args.at en ek _ c.named-g.ensures c.in-Bad.is
-
-pub returns-in-Word : goal.returns-in-Word
-returns-in-Word c = λ b kd hb en ek. entry_there b kd c.args.table.now c.args.n c.args.k c.args.at en ek _ c.named-g.ensures c.in-Word.is _ (c.form_count-c.ensures b hb) _ c.numbers.ensures
+pub returns : goal.returns
+returns c = entry_there c.args.new.now c.args.table.now c.args.k c.args.at c.named.ensures c.in_ok-t.was c.form_count-forms.ensures c.numbers.ensures

@@ -1,8 +1,9 @@
 -- `decimal::printed::print_stopped` meets its contract. Assumes nothing.
-use Rattle.decimal.proofs.Putting.{put_both}
+use Rattle.decimal.proofs.Growing.{grows_put, grows_both}
+use borrow.Author.Rules.{rules}
 use Rattle.decimal.specs.Printed.{printed}
 use Rattle.decimal.proofs.printed.print_stopped.Goals as goal
 
 pub returns : goal.returns
 unfolding printed
-returns c = rw (← c.wide.ensures) (put_both c.put_text-p.ensures (put_both c.put_spaced-q.ensures c.put_counts.ensures))
+returns c = grows_put c.new-text.ensures.end c.new-text.ensures.bytes (grows_both c.put_text.ensures (grows_both c.put_spaced.ensures c.put_counts.ensures)) (search rules)

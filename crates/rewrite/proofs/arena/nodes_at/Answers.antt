@@ -1,15 +1,14 @@
 -- `rewrite::arena::nodes_at` meets its contract. Assumes nothing.
-use Rattle.rewrite.proofs.Leaves.{nodes_many, nodes_before, nodes_past, nodes_there}
+use Rattle.rewrite.proofs.Leaves.{nodes_none, nodes_there}
+use native.Mathlib.Omega.{arith}
 use Rattle.rewrite.proofs.arena.nodes_at.Goals as goal
+use Rattle.rewrite.proofs.arena.nodes_at.Goals.{else-n-le-MOST_NODES-via-then-n-le-MOST_NODES+else-start-n, else-n-le-MOST_NODES-via-else-n-le-MOST_NODES}
 
-pub returns-then-n-gt-MOST_NODES : goal.returns-then-n-gt-MOST_NODES
-returns-then-n-gt-MOST_NODES c = nodes_many c.args.w.now c.args.start c.args.top c.word.ensures c.size_in-n.ensures.0 c.if-n-gt-MOST_NODES.true
+pub returns-then-start-n : goal.returns-then-start-n
+returns-then-start-n c = nodes_there c.args.w.now c.args.start c.args.top c.size_at-n.ensures.0 c.if-n-le-MOST_NODES.true c.if-start-n.true
 
-pub returns-then-top-start : goal.returns-then-top-start
-returns-then-top-start c = nodes_before c.args.w.now c.args.start c.args.top c.word.ensures c.size_in-n.ensures.0 c.if-top-start.true
-
-pub returns-then-top-start-2 : goal.returns-then-top-start-2
-returns-then-top-start-2 c = nodes_past c.args.w.now c.args.start c.args.top c.word.ensures c.size_in-n.ensures.0 c.if-top-start-2.true
-
-pub returns : goal.returns
-returns c = nodes_there c.args.w.now c.args.start c.args.top c.word.ensures c.size_in-n.ensures.0 c.if-n-gt-MOST_NODES.false c.if-top-start.false c.if-top-start-2.false
+pub returns-else-n-le-MOST_NODES : goal.returns-else-n-le-MOST_NODES
+returns-else-n-le-MOST_NODES c = nodes_none c.args.w.now c.args.start c.args.top c.size_at-n.ensures.0 (λ l h. elim c.else-n-le-MOST_NODES.branch [
+  | else-n-le-MOST_NODES-via-then-n-le-MOST_NODES+else-start-n w ↦ omega (arith, w.if-start-n.false)
+  | else-n-le-MOST_NODES-via-else-n-le-MOST_NODES w ↦ omega (arith, w.if-n-le-MOST_NODES.false)
+])

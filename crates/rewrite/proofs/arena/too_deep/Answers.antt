@@ -5,7 +5,7 @@ use mathlib.Core.Path.{ap, ◌∙◌}
 use Rattle.rewrite.proofs.arena.too_deep.Goals as goal
 
 pub returns-then-deepest-nesting_in : goal.returns-then-deepest-nesting_in
-returns-then-deepest-nesting_in c = deep_not c.args.heads.now c.args.w.now c.args.base c.args.n c.args.i c.args.from c.nesting_in-deepest.result c.requires.0 (c.nesting_in-deepest.ensures.0 ∙ ap nesting_in c.word.ensures) c.nesting_in.result (c.nesting_in.ensures.0 ∙ ap nesting_in c.word-2.ensures) c.if-deepest-nesting_in.true
+returns-then-deepest-nesting_in c = deep_not c.args.types.now c.args.w.now c.args.base c.args.n c.args.i c.args.from c.nesting_in-deepest.result c.requires.0 (c.nesting_in-deepest.ensures.0 ∙ ap nesting_in c.word.ensures) c.nesting_in.result (c.nesting_in.ensures.0 ∙ ap nesting_in c.word-2.ensures) c.if-deepest-nesting_in.true
 
 pub returns : goal.returns
-returns c = deep_by c.args.heads.now c.args.w.now c.args.base c.args.n c.args.i c.args.from c.nesting_in-deepest.result c.requires.0 (c.nesting_in-deepest.ensures.0 ∙ ap nesting_in c.word.ensures) c.nesting_at-above.result c.nesting_at-above.ensures.0
+returns c = deep_by c.args.types.now c.args.w.now c.args.base c.args.n c.args.i c.args.from c.nesting_in-deepest.result c.requires.0 (c.nesting_in-deepest.ensures.0 ∙ ap nesting_in c.word.ensures) c.nesting_at-above.result c.nesting_at-above.ensures.0

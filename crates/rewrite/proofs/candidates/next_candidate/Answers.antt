@@ -9,50 +9,38 @@ loop-first-init c = passing_start _ _ _ _ _ _ _
 pub next_start-next-requires : goal.next_start-next-requires
 next_start-next-requires c = λ h. let r = c.requires.3 h in omega (arith, r.0, r.1)
 
-pub returns-then-not-first : goal.returns-then-not-first
-returns-then-not-first c = candidate_found _ _ _ _ _ _ _ _ _ _ c.requires.1 c.requires.2 c.requires.3 _ _ c.loop-first.invariant _ c.next_start-next.ensures
-
-pub returns-then-not-first-2 : goal.returns-then-not-first-2
-returns-then-not-first-2 c = candidate_found _ _ _ _ _ _ _ _ _ _ c.requires.1 c.requires.2 c.requires.3 _ _ c.loop-first.invariant _ c.next_start-next.ensures
-
-pub returns-then-last-node : goal.returns-then-last-node
-returns-then-last-node c = candidate_found _ _ _ _ _ _ _ _ _ _ c.requires.1 c.requires.2 c.requires.3 _ _ c.loop-first.invariant _ c.next_start-next.ensures
-
-pub returns-then-left-eq0 : goal.returns-then-left-eq0
-returns-then-left-eq0 c = candidate_found _ _ _ _ _ _ _ _ _ _ c.requires.1 c.requires.2 c.requires.3 _ _ c.loop-first.invariant _ c.next_start-next.ensures
-
 pub overflow_mul-p : goal.overflow_mul-p
-overflow_mul-p c = let h = c.requires.3 (omega (arith, c.if-last-node.false)) in omega (arith, h.0, h.1, c.if-last-node.false)
+overflow_mul-p c = let h = c.requires.3 (omega (arith, c.if-last-next.false)) in omega (arith, h.0, h.1, c.if-last-next.false)
 
 pub overflow_add-p : goal.overflow_add-p
-overflow_add-p c = let h = c.requires.3 (omega (arith, c.if-last-node.false)) in omega (arith, h.0, h.1, c.if-last-node.false)
+overflow_add-p c = let h = c.requires.3 (omega (arith, c.if-last-next.false)) in omega (arith, h.0, h.1, c.if-last-next.false)
 
 pub offset_bounds-w-p : goal.offset_bounds-w-p
-offset_bounds-w-p c = let h = c.requires.3 (omega (arith, c.if-last-node.false)) in omega (arith, h.0, h.1, c.if-last-node.false)
+offset_bounds-w-p c = let h = c.requires.3 (omega (arith, c.if-last-next.false)) in omega (arith, h.0, h.1, c.if-last-next.false)
 
 pub slice_bounds-clashes_later-count : goal.slice_bounds-clashes_later-count
-slice_bounds-clashes_later-count c = let h = c.requires.3 (omega (arith, c.if-last-node.false)) in omega (arith, h.0, h.1, c.if-last-node.false)
+slice_bounds-clashes_later-count c = let h = c.requires.3 (omega (arith, c.if-last-next.false)) in omega (arith, h.0, h.1, c.if-last-next.false)
 
 pub slice_bounds-clashes_later-start : goal.slice_bounds-clashes_later-start
-slice_bounds-clashes_later-start c = let h = c.requires.3 (omega (arith, c.if-last-node.false)) in omega (arith, h.0, h.1, c.if-last-node.false)
+slice_bounds-clashes_later-start c = let h = c.requires.3 (omega (arith, c.if-last-next.false)) in omega (arith, h.0, h.1, c.if-last-next.false)
 
 pub slice_bounds-clashes_later-end : goal.slice_bounds-clashes_later-end
-slice_bounds-clashes_later-end c = let h = c.requires.3 (omega (arith, c.if-last-node.false)) in omega (arith, h.0, h.1, c.if-last-node.false)
+slice_bounds-clashes_later-end c = let h = c.requires.3 (omega (arith, c.if-last-next.false)) in omega (arith, h.0, h.1, c.if-last-next.false)
 
 pub clashes_later-requires : goal.clashes_later-requires
-clashes_later-requires c = (c.requires.0, c.requires.2, candidate_begun _ _ _ _ _ _ _ _ _ _ c.requires.1 c.requires.2 c.requires.3 _ _ c.loop-first.invariant _ c.next_start-next.ensures c.if-last-node.false (not-false _ c.if-not-first.false) (omega (arith, c.if-left-eq0.false)))
+clashes_later-requires c = (c.requires.0, c.requires.2, candidate_begun _ _ _ _ _ _ _ _ _ _ c.requires.1 c.requires.2 c.requires.3 _ _ c.loop-first.invariant _ c.next_start-next.ensures c.if-last-next.false (not-false _ c.if-not-first.false) (omega (arith, c.if-next-eq0.false)))
 
 pub returns-then-not-clashes_later : goal.returns-then-not-clashes_later
 returns-then-not-clashes_later c = candidate_found _ _ _ _ _ _ _ _ _ _ c.requires.1 c.requires.2 c.requires.3 _ _ c.loop-first.invariant _ c.next_start-next.ensures
 
-pub overflow_sub-fewer : goal.overflow_sub-fewer
-overflow_sub-fewer c = omega (arith, c.if-left-eq0.false)
-
 pub overflow_add-node : goal.overflow_add-node
-overflow_add-node c = omega (arith, c.if-last-node.false)
+overflow_add-node c = omega (arith, c.if-last-next.false)
 
 pub loop-first-smaller : goal.loop-first-smaller
-loop-first-smaller c = omega (arith, c.if-last-node.false, c.next_start-next.ensures.next.node_is)
+loop-first-smaller c = omega (arith, c.if-last-next.false, c.next_start-next.ensures.next.node_is)
 
 pub loop-first-preserved : goal.loop-first-preserved
-loop-first-preserved c = candidate_fails _ _ _ _ _ _ _ _ _ _ c.requires.1 c.requires.2 c.requires.3 _ _ c.loop-first.invariant _ c.next_start-next.ensures c.if-last-node.false _ (omega (arith, c.if-left-eq0.false)) (c.clashes_later.ensures c.if-not-clashes_later.false)
+loop-first-preserved c = candidate_fails _ _ _ _ _ _ _ _ _ _ c.requires.1 c.requires.2 c.requires.3 _ _ c.loop-first.invariant _ c.next_start-next.ensures c.if-last-next.false _ (omega (arith, c.if-next-eq0.false)) (c.clashes_later.ensures c.if-not-clashes_later.false)
+
+pub returns-then-not-first : goal.returns-then-not-first
+returns-then-not-first c = candidate_found _ _ _ _ _ _ _ _ _ _ c.requires.1 c.requires.2 c.requires.3 _ _ c.loop-first.invariant _ c.next_start-next.ensures

@@ -1,5 +1,0 @@
--- `decimal::printed::put_digits` meets its contract. Assumes nothing.
-use Rattle.decimal.proofs.printed.+put_digits.Given as goal
-
-abbrev pub decreases-put_digits : goal.decreases-put_digits
-decreases-put_digits l = l.most

@@ -1,0 +1,5 @@
+-- `decimal::printed::Text::put_digits` meets its contract. Assumes nothing.
+use Rattle.decimal.proofs.printed.Text.+put_digits.Given as goal
+
+abbrev pub decreases-put_digits : goal.decreases-put_digits
+decreases-put_digits l = l.n
