@@ -9,6 +9,7 @@ pub mod Sound
 pub mod FromWords
 pub mod Runs
 pub mod Related
+pub mod Numbered
 pub mod Rounding
 pub mod RoundNeverStops
 pub mod EditsTyped
