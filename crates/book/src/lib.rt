@@ -12,14 +12,28 @@ use words::{Fault, Refusal};
 
 // The book, and a position in it.
 #[derive(Clone, Copy)]
-struct Reader<'a> {
-    words: &'a [u32],
-    at: usize,
+pub struct Reader<'a> {
+    pub words: &'a [u32],
+    pub at: usize,
+}
+
+// The reader of a book, at a position.
+pub fn reader_at<'a>(words: &'a [u32], at: usize) -> Reader<'a>
+    ensures { (result.words ≡ words.entry) × (result.at ≡ at) }
+{
+    Reader { words, at }
 }
 
 impl<'a> Reader<'a> {
+    // The reader, moved to a position.
+    pub fn moved(self, at: usize) -> Reader<'a>
+        ensures { (result.words ≡ self.entry.words) × (result.at ≡ at) }
+    {
+        Reader { at, ..self }
+    }
+
     // The next word.
-    fn next(&mut self) -> Result<u32, Refusal>
+    pub fn next(&mut self) -> Result<u32, Refusal>
         ensures { (self.new.words ≡ self.old.words) × Steps (λ word. word) (Reading.word 20 self.old.words.now self.old.at) result self.old.at self.new.at }
     {
         let (word, next) = words::read_word(Fault::BookEnds, self.words, self.at)?;
@@ -28,7 +42,7 @@ impl<'a> Reader<'a> {
     }
 
     // A count: the next word, from low to high.
-    fn count(&mut self, low: u32, high: u32) -> Result<u32, Refusal>
+    pub fn count(&mut self, low: u32, high: u32) -> Result<u32, Refusal>
         ensures { (self.new.words ≡ self.old.words) × Steps (λ count. count) (Layout.field self.old.words.now low high self.old.at) result self.old.at self.new.at }
     {
         let (count, next) = rules::field(self.words, low, high, self.at)?;
@@ -46,7 +60,7 @@ impl<'a> Reader<'a> {
 
     // The end: no words are left over.
     #[tactic(auto, unfolding(words::specs::Reader::end))]
-    fn end(self) -> Result<usize, Refusal>
+    pub fn end(self) -> Result<usize, Refusal>
         ensures { result ≡ answer (Reading.end 20 self.entry.words.now self.entry.at) }
     {
         if self.at < self.words.len() {
@@ -73,7 +87,7 @@ impl<'a> Reader<'a> {
 pub fn read_layout(types: u32, ws: &[u32]) -> Result<usize, Refusal>
     ensures { result ≡ answer (Layout.read_layout types ws.now) }
 {
-    let mut reader = Reader { words: ws, at: 0 };
+    let mut reader = reader_at(ws, 0);
     let rules = reader.count(1, MOST_RULES)?;
     if !reader.main_fits() {
         return Err(Refusal::new(Fault::BookWord, reader.at));

@@ -9,7 +9,7 @@ use native.Mathlib.Omega.{arith}
 use lib.ListN.{length, get_or, take, drop, get_elem?, length-take, length-drop}
 use Rattle.words.specs.Reader.{Words, Read, value, refused}
 use Rattle.grammar.specs.Grammar.{Grammar}
-use Rattle.tables.specs.Types.{TypesOf}
+use Rattle.tables.specs.Tables.{Heads}
 use Rattle.tree.proofs.Rest.{tree_rest}
 use Rattle.rules.specs.Rules as Rules
 use Rattle.rules.specs.Rules.{shapes, pieces, condition_of}
@@ -83,24 +83,24 @@ module _ (given : Given) (w : Words) (d : Deconstruct) (next : ℕ) (frame : Ope
       grown = grown_same room;
       less = omega arith;
       long = refl;
-      meant = λ g rules b types_of held sure.
+      meant = λ g rules b heads_of held sure.
           let a = apart deep given.book d.searched d.variable d.pattern g rules b left sure in
           let s = there g b held a.0 a.1 in
-          let k = nodes.stands g a.0 types_of.heads_of.types s in
+          let k = nodes.stands g a.0 heads_of.types s in
           let j = some_nodes a.0 s.tree in
           absurd (omega arith);
     };
   }
 
   module _ (arena part : Words) (ea : arena ≡ take frame.top w) (ep : part ≡ take (2 * n) (drop start arena)) where
-    stage : (g : Grammar) (b : Bindings) → TypesOf g given.types → Held g w frame b → (t : Words) (s : Stands g (take frame.top w) start t) → Stage given.types g arena part start frame.vars frame.live t (s.type ∷ []) b
-    stage g b types_of held t s =
-        let k = nodes.stands g t types_of.heads_of.types s in
+    stage : (g : Grammar) (b : Bindings) → Heads g given.types.heads → Held g w frame b → (t : Words) (s : Stands g (take frame.top w) start t) → Stage given.types g arena part start frame.vars frame.live t (s.type ∷ []) b
+    stage g b heads_of held t s =
+        let k = nodes.stands g t heads_of.types s in
         let l : length t ≡ 2 * n = omega (arith, tree_length s.tree) in
         let m : part ≡ marked g t = ep ∙ ap (λ x. take (2 * n) (drop start x)) ea ∙ ap (λ k. take k (drop start (take frame.top w))) (sym l) ∙ s.words in
         let q : length part ≡ length t = ap length m ∙ marked_length g t in
         record {
-          tables = types_of;
+          tables = heads_of;
           place = ep ∙ ap (λ k. take k (drop start arena)) (sym l ∙ sym q);
           inside = omega (arith, q, s.inside, ap length ea);
           marks = m;
@@ -117,10 +117,10 @@ module _ (given : Given) (w : Words) (d : Deconstruct) (next : ℕ) (frame : Ope
         grown = grown_matched w frame room m.vars m.live answers.sound answers.kept answers.fits answers.grows;
         less = omega arith;
         long = refl;
-        meant = λ g rules b types_of held sure.
+        meant = λ g rules b heads_of held sure.
             let a = apart deep given.book d.searched d.variable d.pattern g rules b left sure in
             let s = there g b held a.0 a.1 in
-            let x = answers.meant g a.0 (s.type ∷ []) b left (stage g b types_of held a.0 s) (sure_as a.2 sure) in
+            let x = answers.meant g a.0 (s.type ∷ []) b left (stage g b heads_of held a.0 s) (sure_as a.2 sure) in
             (refl, rw a.2 (means_taken g w frame.top b.besides m.verdict m.vars m.live left (against d.searched (pairs_at given.book d.pattern) g a.0 b left) (rw ea at x)));
       };
     }
@@ -192,14 +192,14 @@ module _ (given : Given) (w : Words) (at : ℕ) (frame : Open) (deep : ℕ) (lef
         go (value q next) y =
             takes_as w w' frame left r A (λ g rules. Setting given g rules) (part_on deep p) (part_read deep given.book (part_at given.types.count given.book at))
             (λ g rules with.
-            let here = told_here given.book q next (part_tells given.types.count given.book (omega (arith, with.types_of.count_of, with.types_of.heads_of.types)) at q next y) in
+            let here = told_here given.book q next (part_tells given.types.count given.book with.few at q next y) in
             (give g rules with, λ b. ap (λ x. part_read deep given.book x g rules b left) y ∙ ap (λ x. part_on deep x g rules b left) (same q here (sym (ap (λ x. x.part) (is given.types.count q next y)))))) t
         go (refused m o) y = record { grown = t.grown; less = t.less; long = t.long; meant = λ g rules b with held sure. absurd (sure (ap (λ x. part_read deep given.book x g rules b left) y)) }
 
     pub step_deconstruct : (d : Deconstruct) → f.part ≡ Part.Deconstruct d → Deconstructs given w d f.next frame left r → w' ≡ w → Steps given w w' at frame deep left r
     step_deconstruct d k x ew =
-        step_by_lem (λ g rules. TypesOf g given.types) (deconstruct_in given.book d.searched d.variable d.pattern) x.next_is
-        (λ g rules with. with.types_of) (λ q h e. deconstruct_is given.book q d h (e ∙ k)) (rw ew (x.takes deep))
+        step_by_lem (λ g rules. Heads g given.types.heads) (deconstruct_in given.book d.searched d.variable d.pattern) x.next_is
+        (λ g rules with. with.types_of.heads_of) (λ q h e. deconstruct_is given.book q d h (e ∙ k)) (rw ew (x.takes deep))
 
     pub step_construct : (c : Construct) → f.part ≡ Part.Construct c → Constructs given w w' c.replacement f.next frame deep left r
         → Steps given w w' at frame deep left r

@@ -471,7 +471,7 @@ module _ (given : Given) (w₀ : Words) (plan : Plan) (base n : ℕ) (frame : Op
                 let e : part ≡ here i = ep ∙ ap (λ x. take (2 * (n - i)) (drop (base + 2 * i) x)) (ea ∙ a.kept) in
                 let l : length part ≡ 2 * (n - i) = ap length e ∙ here_length k i a.within in
                 record {
-                  tables = k.setting.types_of;
+                  tables = k.setting.types_of.heads_of;
                   place = ep ∙ ap (λ x. take x (drop (base + 2 * i) arena)) (sym l);
                   inside = omega (arith, l, inside, ends k, ap length ea, length-take frame.top w, go.long, room.low, room.few, room.long);
                   marks = e ∙ a.scope.marks;

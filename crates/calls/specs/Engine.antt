@@ -5,6 +5,8 @@ use Rattle.std.proofs.Math.Option.{Option, none, some}
 use Rattle.std.proofs.Math.ListN.{get_elem?}
 use Rattle.words.specs.Reader.{Words, Read, value, refused}
 use Rattle.grammar.specs.Grammar.{Grammar}
+use Rattle.grammar.specs.Limits.{most_types}
+use Rattle.tables.specs.Tables.{Heads}
 use Rattle.tables.specs.Types.{TypesOf}
 use Rattle.tables.specs.declared.types.Types.{Types}
 use Rattle.tree.specs.Limits.{most_nodes}
@@ -130,6 +132,7 @@ given_of program = record { types = program.types.now; book = program.book.now; 
 -- these are the types of the grammar, and the places of the rules
 pub record Setting (given : Given) (g : Grammar) (rules : Rules.Rules) : Type 0 where
   pub types_of : TypesOf g given.types
+  pub few : given.types.count ≤ most_types
   pub placed : (n : ℕ) (r : Rule) → get_elem? rules n ≡ some r → (n < most_rules) × ((next : ℕ) × (Layout.rule given.types.count given.book (get_or given.starts n 0) ≡ value r next))
 
 -- ANSWERS
@@ -219,7 +222,7 @@ deconstruct_in book None x p = Rules.deconstruct (get_or book x 0) (shapes (pair
 -- what a part that takes a variable apart comes to
 pub record Deconstructs (given : Given) (w : Words) (d : Deconstruct) (next : ℕ) (frame : Open) (left : State) (r : Taking) : Type 0 where
   pub next_is : r.next ≡ next
-  pub takes : (deep : ℕ) → Takes w w frame left r (λ g rules. TypesOf g given.types) (part_on deep (deconstruct_in given.book d.searched d.variable d.pattern))
+  pub takes : (deep : ℕ) → Takes w w frame left r (λ g rules. Heads g given.types.heads) (part_on deep (deconstruct_in given.book d.searched d.variable d.pattern))
 
 module _ (given : Given) (w w' : Words) where
   abbrev pub With : Grammar → Rules.Rules → Type 0

@@ -3,8 +3,6 @@ use Prim.Native.Nat.{ℕ, zero, suc, ◌+◌, ◌<◌, ◌≤◌, min}
 use mathlib.Core.Path.{◌≡◌, refl, sym, ap, ◌∙◌}
 use mathlib.Core.List.{List, [], ◌∷◌, ◌++◌, append_assoc, append-nil}
 use mathlib.Core.Bool.{Bool, true, false}
-use Rattle.std.proofs.Math.Logic.{∥∥₁_elim}
-use native.Mathlib.Bridge.{le_prop}
 use native.Mathlib.Omega.{arith}
 use native.Mathlib.Numerals.{add-one}
 use lib.ListN.{length, get_or, take, drop, set, replicate, length-set, drop_of_length-le, get_or-eq_default}
@@ -20,7 +18,7 @@ use Rattle.grammar.specs.Grammar.{Kind, token, opt, sequence, forms, Grammar}
 use Rattle.grammar.specs.Kinds.{kind_of, forms_of}
 use Rattle.grammar.specs.Values.{values_of}
 use Rattle.tables.specs.Tables.{map_of}
-use Rattle.tables.specs.Types.{TypesOf, OfTypes}
+use Rattle.tables.specs.Types.{AllTypesOf, OfHeads}
 use Rattle.tables.specs.declared.types.Types.{Types}
 use Rattle.tables.proofs.Filling.{style_map}
 use Rattle.convert.specs.Table.{Entry, named, entry, entries, whole_table, entry_of, type_to, form_to, bit_of, written}
@@ -81,24 +79,20 @@ module _ (types : Types) (ts : Words) (k at : ℕ) {g : Result (ℕ × ℕ) (ℕ
   unfolding entry
   entry_bad {x} f = λ b kd tb ek. let h : named ts (length b) at ≡ refused x.0 x.1 = rw tb.count_of (read_bad (named ts types.count at) g e f) in rw h
 
-  pub entry_there : {x : ℕ × ℕ} → g ≡ Ok x → {c : ℕ} → OfTypes types (λ g. c ≡ length (forms_of (kind_of g x.0))) → {r : Result ℕ (ℕ × ℕ)} → r ≡ answer (many k (named ts c) x.1) → EntryRead types ts k at r
+  pub entry_there : {x : ℕ × ℕ} → g ≡ Ok x → {c : ℕ} → OfHeads types (λ g. c ≡ length (forms_of (kind_of g x.0))) → {r : Result ℕ (ℕ × ℕ)} → r ≡ answer (many k (named ts c) x.1) → EntryRead types ts k at r
   unfolding entry
   entry_there {x} f ec er = λ b kd tb ek.
       let h : named ts (length b) at ≡ value x.0 x.1 = rw tb.count_of (read_word (named ts types.count at) g e f) in
-      er ∙ rw (h, ek, ec b tb) (answer_map (many (length (forms_of kd)) (named ts (length (forms_of (kind_of b x.0)))) x.1) (λ ns. record { type = x.0; numbers = ns }))
+      er ∙ rw (h, ek, ec b tb.types_of.heads_of) (answer_map (many (length (forms_of kd)) (named ts (length (forms_of (kind_of b x.0)))) x.1) (λ ns. record { type = x.0; numbers = ns }))
 
 -- THE TABLE
-
--- a grammar has at most 64 types
-pub types_few : (types : Types) → types.count ≤ 64
-types_few types = ∥∥₁_elim types.of_grammar le_prop (λ t. omega (arith, t.1.heads_of.types, t.2))
 
 -- t types have been read
 pub record TableLoop (old new : Types) (ts : Words) (places : List ℕ) (t at : ℕ) : Type 0 where
   pub long : length places ≡ 64
   pub clear : (i : ℕ) → t ≤ i → get_or places i (length ts) ≡ length ts
-  pub rest : (a b : Grammar) → TypesOf a old → TypesOf b new → answer (entries ts b a 0) ≡ answer (entries ts b (drop t a) at)
-  pub stored : (a b : Grammar) (es : List Entry) (next : ℕ) → TypesOf a old → TypesOf b new → entries ts b a 0 ≡ value es next
+  pub rest : (a b : Grammar) → AllTypesOf a old → AllTypesOf b new → answer (entries ts b a 0) ≡ answer (entries ts b (drop t a) at)
+  pub stored : (a b : Grammar) (es : List Entry) (next : ℕ) → AllTypesOf a old → AllTypesOf b new → entries ts b a 0 ≡ value es next
       → (fs : List Entry) × (entries ts b (drop t a) at ≡ value fs next) × (take t places ++ places_of at fs ≡ places_of 0 es)
 
 all_clear : (n i d : ℕ) → get_or (replicate n d) i d ≡ d
@@ -219,7 +213,7 @@ pub as_refused : (q : Read (List Entry)) {x : ℕ × ℕ} → q ≡ refused x.0 
 as_refused q e = rw e
 
 module _ {old new : Types} {ts : Words} {places : List ℕ} {t at : ℕ} (l : TableLoop old new ts places t at) where
-  ended : (a b : Grammar) → TypesOf a old → TypesOf b new → t ≤ old.count → old.count ≤ t → (es : List Entry) × (entries ts b a 0 ≡ value es at) × (take t places ≡ places_of 0 es)
+  ended : (a b : Grammar) → AllTypesOf a old → AllTypesOf b new → t ≤ old.count → old.count ≤ t → (es : List Entry) × (entries ts b a 0 ≡ value es at) × (take t places ≡ places_of 0 es)
   unfolding entries places_of
   ended a b ta tb low h =
       let done : drop t a ≡ [] = drop_of_length-le a {i = t} (omega (arith, ta.count_of)) in
@@ -242,21 +236,21 @@ module _ {old new : Types} {ts : Words} {places : List ℕ} {t at : ℕ} (l : Ta
       let read = table_read a b ts u.0 at whole in
       rw whole (places_placed table u.0 (ew ∙ read.words) t (rw ep u.2) (rw ep (omega (arith, l.long))) (rw (ew, ep) l.clear))
 
-  module _ (more : t < old.count) (k : ℕ) (count : OfTypes old (λ g. k ≡ length (forms_of (kind_of g t)))) (c : Result ℕ (ℕ × ℕ)) (told : EntryRead new ts k at c) where
-    head_type : (a : Grammar) → TypesOf a old → drop t a ≡ kind_of a t ∷ drop (t + 1) a
+  module _ (more : t < old.count) (k : ℕ) (count : OfHeads old (λ g. k ≡ length (forms_of (kind_of g t)))) (c : Result ℕ (ℕ × ℕ)) (told : EntryRead new ts k at c) where
+    head_type : (a : Grammar) → AllTypesOf a old → drop t a ≡ kind_of a t ∷ drop (t + 1) a
     unfolding kind_of
     head_type a ta = drop_next a t (forms []) (omega (arith, ta.count_of))
 
-    fault_first : (a b : Grammar) {x : ℕ × ℕ} → TypesOf a old → entry ts b (kind_of a t) at ≡ refused x.0 x.1 → answer (entries ts b (drop t a) at) ≡ Err x
+    fault_first : (a b : Grammar) {x : ℕ × ℕ} → AllTypesOf a old → entry ts b (kind_of a t) at ≡ refused x.0 x.1 → answer (entries ts b (drop t a) at) ≡ Err x
     unfolding entries
     fault_first a b ta e = rw (head_type a ta, e)
 
     pub table_fault : {x : ℕ × ℕ} → c ≡ Err x → WholeRead old new ts (Err x)
     table_fault {x} f = λ a b ta tb.
-        let e = answer_refused (entry ts b (kind_of a t) at) c (told b (kind_of a t) tb (count a ta)) f in
+        let e = answer_refused (entry ts b (kind_of a t) at) c (told b (kind_of a t) tb (count a ta.types_of.heads_of)) f in
         as_refused (whole_table ts b a 0) (table_refused ts a b (answer_refused (entries ts b a 0) (answer (entries ts b a 0)) refl (l.rest a b ta tb ∙ fault_first a b ta e)))
 
-    more_first : (a b : Grammar) (e : Entry) {next : ℕ} → TypesOf a old → entry ts b (kind_of a t) at ≡ value e next → entries ts b (drop t a) at ≡ and_then (entries ts b (drop (t + 1) a) next) (λ es. return (e ∷ es))
+    more_first : (a b : Grammar) (e : Entry) {next : ℕ} → AllTypesOf a old → entry ts b (kind_of a t) at ≡ value e next → entries ts b (drop t a) at ≡ and_then (entries ts b (drop (t + 1) a) next) (λ es. return (e ∷ es))
     unfolding entries
     more_first a b e ta h = rw (head_type a ta, h)
 
@@ -265,10 +259,10 @@ module _ {old new : Types} {ts : Words} {places : List ℕ} {t at : ℕ} (l : Ta
       long = length-set places t at ∙ l.long;
       clear = λ i h. get_or-set_other places t i at (length ts) (λ e. omega arith) ∙ l.clear i (omega arith);
       rest = λ a b ta tb.
-          let u = answer_passed (entry ts b (kind_of a t) at) c (told b (kind_of a t) tb (count a ta)) f in
+          let u = answer_passed (entry ts b (kind_of a t) at) c (told b (kind_of a t) tb (count a ta.types_of.heads_of)) f in
           l.rest a b ta tb ∙ ap answer (more_first a b u.0 ta u.1) ∙ sym (answer_map (entries ts b (drop (t + 1) a) next) (λ es. u.0 ∷ es));
       stored = λ a b es last ta tb e.
-          let u = answer_passed (entry ts b (kind_of a t) at) c (told b (kind_of a t) tb (count a ta)) f in
+          let u = answer_passed (entry ts b (kind_of a t) at) c (told b (kind_of a t) tb (count a ta.types_of.heads_of)) f in
           let s = l.stored a b es last ta tb e in
           let v = then_value (entries ts b (drop (t + 1) a) next) (λ more. return (u.0 ∷ more)) (sym (more_first a b u.0 ta u.1) ∙ s.1) in
           (v.0, cc (v.2, v.3), one_more u.0 v.0 s.0 es (entry_read ts b (kind_of a t) at u.0 next u.1).2 (cc v.3) s.2);

@@ -14,7 +14,7 @@ use Rattle.words.proofs.Laws.{answer_refused, and_both, and_true}
 use Rattle.words.proofs.Stretches.{drop_next, get_d_map, equal_lengths, equal_differs, equal_more, equal_end}
 use Rattle.grammar.specs.Grammar.{repeat, list, Kind, forms, Grammar}
 use Rattle.grammar.specs.Kinds.{kind_of, children_of, children, forms_of}
-use Rattle.tables.specs.Types.{TypesOf, OfTypes}
+use Rattle.tables.specs.Types.{TypesOf, OfHeads, OfRows}
 use Rattle.tables.specs.declared.types.Types.{Types}
 use Rattle.convert.specs.Table.{Entry, entry_of, type_to, form_to, bit_of, class_of, element_of, alike, fitting, forms_fit, type_fits, types_fit}
 use Rattle.convert.specs.declared.side.Side.{Side}
@@ -63,30 +63,30 @@ pub record FormLoop (old new : Types) (table : Table) (t v m n i : ℕ) : Type 0
 pub form_start : (old new : Types) (table : Table) (t v m n : ℕ) → FormLoop old new table t v m n 0
 form_start old new table t v m n = record { rest = λ a b es ha hb p. refl }
 
-module _ (old new : Types) (table : Table) (t v m n k l : ℕ) (ek : OfTypes old (λ g. k ≡ length (children g t v))) (el : OfTypes new (λ g. l ≡ length (children g m n))) where
+module _ (old new : Types) (table : Table) (t v m n k l : ℕ) (ek : OfRows old (λ g. k ≡ length (children g t v))) (el : OfRows new (λ g. l ≡ length (children g m n))) where
   pub form_lengths : (k ≡ l → ⊥) → FormTested old new table t v m n false
   form_lengths h = λ a b es ha hb p.
-      sym (equal_lengths (map (type_to es) (children a t v)) (children b m n) (λ e. h (ek a ha ∙ sym (length-map (children a t v) (type_to es)) ∙ e ∙ sym (el b hb))))
+      sym (equal_lengths (map (type_to es) (children a t v)) (children b m n) (λ e. h (ek a ha.rows_of_lem ∙ sym (length-map (children a t v) (type_to es)) ∙ e ∙ sym (el b hb.rows_of_lem))))
 
   module _ (same : k ≡ l) (i : ℕ) (loop : FormLoop old new table t v m n i) where
     long : (a b : Grammar) (es : List Entry) → TypesOf a old → TypesOf b new → length (map (type_to es) (children a t v)) ≡ length (children b m n)
-    long a b es ha hb = length-map (children a t v) (type_to es) ∙ sym (ek a ha) ∙ same ∙ el b hb
+    long a b es ha hb = length-map (children a t v) (type_to es) ∙ sym (ek a ha.rows_of_lem) ∙ same ∙ el b hb.rows_of_lem
 
     pub form_end : k ≤ i → FormTested old new table t v m n true
-    form_end h = λ a b es ha hb p. equal_end (map (type_to es) (children a t v)) (children b m n) i (loop.rest a b es ha hb p) (long a b es ha hb) (omega (arith, length-map (children a t v) (type_to es), ek a ha))
+    form_end h = λ a b es ha hb p. equal_end (map (type_to es) (children a t v)) (children b m n) i (loop.rest a b es ha hb p) (long a b es ha hb) (omega (arith, length-map (children a t v) (type_to es), ek a ha.rows_of_lem))
 
-    module _ (more : i < k) (e f to : ℕ) (ee : OfTypes old (λ g. e ≡ get_or (children g t v) i 0)) (ef : OfTypes new (λ g. f ≡ get_or (children g m n) i 0)) (et : to ≡ type_at table e) where
+    module _ (more : i < k) (e f to : ℕ) (ee : OfRows old (λ g. e ≡ get_or (children g t v) i 0)) (ef : OfRows new (λ g. f ≡ get_or (children g m n) i 0)) (et : to ≡ type_at table e) where
       mapped : (a : Grammar) (es : List Entry) → TypesOf a old → Placed table es → to ≡ get_or (map (type_to es) (children a t v)) i 0
-      mapped a es ha p = et ∙ p.type e ∙ ap (type_to es) (ee a ha) ∙ sym (get_d_map (type_to es) (children a t v) i 0 0 (omega (arith, ek a ha)))
+      mapped a es ha p = et ∙ p.type e ∙ ap (type_to es) (ee a ha.rows_of_lem) ∙ sym (get_d_map (type_to es) (children a t v) i 0 0 (omega (arith, ek a ha.rows_of_lem)))
 
       pub form_differs : (to ≡ f → ⊥) → FormTested old new table t v m n false
       form_differs h = λ a b es ha hb p.
-          equal_differs (map (type_to es) (children a t v)) (children b m n) i (loop.rest a b es ha hb p) (long a b es ha hb) (omega (arith, length-map (children a t v) (type_to es), ek a ha)) (λ q. h (mapped a es ha p ∙ q ∙ sym (ef b hb)))
+          equal_differs (map (type_to es) (children a t v)) (children b m n) i (loop.rest a b es ha hb p) (long a b es ha hb) (omega (arith, length-map (children a t v) (type_to es), ek a ha.rows_of_lem)) (λ q. h (mapped a es ha p ∙ q ∙ sym (ef b hb.rows_of_lem)))
 
       pub form_more : to ≡ f → FormLoop old new table t v m n (i + 1)
       form_more h = record {
         rest = λ a b es ha hb p.
-            equal_more (map (type_to es) (children a t v)) (children b m n) i (loop.rest a b es ha hb p) (long a b es ha hb) (omega (arith, length-map (children a t v) (type_to es), ek a ha)) (sym (mapped a es ha p) ∙ h ∙ ef b hb);
+            equal_more (map (type_to es) (children a t v)) (children b m n) i (loop.rest a b es ha hb p) (long a b es ha hb) (omega (arith, length-map (children a t v) (type_to es), ek a ha.rows_of_lem)) (sym (mapped a es ha p) ∙ h ∙ ef b hb.rows_of_lem);
       }
 
 -- THE FORMS OF A TYPE
@@ -165,12 +165,12 @@ module _ {s s' : Side} {table : Table} (t at m : ℕ) (em : m ≡ type_at table 
   unfolding fitting
   type_unlike h = record { answered = λ a b es sa sb p q. sym (ap answer (type_here a b es sa sb p) ∙ rw h); low = λ next e. cc }
 
-  module _ (fine : fits ≡ true) (k : ℕ) (count : OfTypes s.types (λ g. k ≡ length (forms_of (kind_of g t)))) (v : ℕ) (misfit : FormsTested s.types s'.types table k t m v) where
+  module _ (fine : fits ≡ true) (k : ℕ) (count : OfHeads s.types.types (λ g. k ≡ length (forms_of (kind_of g t)))) (v : ℕ) (misfit : FormsTested s.types.types s'.types.types table k t m v) where
     type_forms : (a b : Grammar) (es : List Entry) → Shows s a → Shows s' b → Placed table es → Numbered a es → answer (type_fits b es (kind_of a t) (entry_of es t) at) ≡ pick (ltb v k) (Err (61, at + 1 + v)) (Ok (at + 1 + k))
     unfolding fitting forms_read
     type_forms a b es sa sb p q =
         let like = sym (told a b es sa sb p) ∙ fine in
-        ap answer (type_here a b es sa sb p) ∙ rw fine (misfit a b es sa.types sb.types p q (count a sa.types) like (at + 1))
+        ap answer (type_here a b es sa sb p) ∙ rw fine (misfit a b es sa.types.types_of sb.types.types_of p q (count a sa.types.types_of.heads_of) like (at + 1))
 
     pub type_misfit : v < k → TypeTested s s' table t at (Err (61, at + 1 + v))
     type_misfit h = record {
@@ -207,11 +207,11 @@ then_unit (value u n) f {p} e = let z : n ≡ p = cc e in ap (f u) z
 then_unit (refused n q) f e = cc
 
 module _ {s s' : Side} {table : Table} {t at : ℕ} (loop : TypesLoop s s' table t at) where
-  pub types_end : s.types.count ≤ t → TypesTested s s' table (Ok at)
+  pub types_end : s.types.types.count ≤ t → TypesTested s s' table (Ok at)
   unfolding types_fit
   types_end h = λ a b es sa sb ee p q. sym (loop.rest a b es (record { old = sa; new = sb; entries = ee; placed = p; numbered = q }) ∙ rw (drop_of_length-le a {i = t} (omega arith)))
 
-  module _ (more : t < s.types.count) {c : Result ℕ (ℕ × ℕ)} (told : TypeTested s s' table t at c) where
+  module _ (more : t < s.types.types.count) {c : Result ℕ (ℕ × ℕ)} (told : TypeTested s s' table t at c) where
     -- type t, then those behind it
     types_here : (a b : Grammar) (es : List Entry) → KnownAll s s' table a b es → answer (types_fit b es a es 0) ≡ answer (and_then (type_fits b es (kind_of a t) (entry_of es t) at) (λ u. types_fit b es (drop (t + 1) a) (drop (t + 1) es)))
     unfolding types_fit kind_of entry_of

@@ -17,7 +17,7 @@ use Rattle.grammar.specs.Grammar.{Grammar, read_grammar, grammar_fits}
 use Rattle.grammar.specs.Kinds.{kind_of, forms_of}
 use Rattle.tables.specs.Tables.{read_of}
 use Rattle.tables.specs.Types.{TypesOf}
-use Rattle.tables.specs.declared.types.Types.{Types}
+use Rattle.tables.specs.declared.grammar_types.GrammarTypes.{GrammarTypes}
 use Rattle.tree.specs.Tree.{Tree, size}
 use Rattle.tree.specs.Slip.{counted, read_edition, in_edition}
 use Rattle.tree.proofs.Reading.{some_types}
@@ -29,14 +29,13 @@ use Rattle.slips.specs.Slips.{SlipRead}
 use Rattle.convert.specs.Table.{Entry, whole_table, entry_of, type_to, types_fit, read_table, Fits}
 use Rattle.convert.specs.Conversion.{converted, Conversion, refused_by, or_refused, conversion_between, conversion, result_after, converted_as, Converts}
 use Rattle.convert.specs.Refusals.{blamed, passed}
-use Rattle.convert.specs.Views.{Shows, type_at, Placed, Numbered, ReadAs, WholeRead, TypesTested, TableRead, TableChecked, TreeConverted, nodes_in, SlipConverted}
+use Rattle.convert.specs.Views.{Shows, type_at, Placed, Numbered, ReadAs, ReadTo, WholeRead, TypesTested, TableRead, TableChecked, TreeConverted, nodes_in, SlipConverted}
 use Rattle.convert.specs.declared.refusal.AtFault.{AtFault}
 use Rattle.convert.specs.declared.refusal.AtFault.TheVariants.{Neither, Old, New}
 use Rattle.convert.specs.declared.refusal.ConversionRefusal.{ConversionRefusal}
 use Rattle.convert.specs.declared.side.Side.{Side}
 use Rattle.convert.specs.declared.table.Table.{Table}
 use Rattle.convert.proofs.Exactly.{table_exactly, EntriesNamed, none_named, one_named, fits_named, table_read}
-use Rattle.convert.proofs.Entries.{as_refused}
 use Rattle.convert.proofs.Converting.{converted_size}
 
 -- AS MANY NUMBERS AS FORMS
@@ -77,11 +76,15 @@ read_there : (q : Read (List Entry)) (table : Table) → ReadAs q (Ok table) →
 read_there (value es next) table h = (es, next, refl, h)
 read_there (refused n p) table h = absurd h
 
-module _ (s s' : Side) (ts : Words) {c : Result Table (ℕ × ℕ)} (w : WholeRead s.types s'.types ts c) where
+-- a reading with its end that is refused
+to_refused : (q : Read (List Entry)) {x : ℕ × ℕ} → q ≡ refused x.0 x.1 → ReadTo q (Err x)
+to_refused q e = rw e
+
+module _ (s s' : Side) (ts : Words) {c : Result Table (ℕ × ℕ)} (w : WholeRead s.types.types s'.types.types ts c) where
   pub read_refused : {x : ℕ × ℕ} → c ≡ Err x → TableRead s s' ts (Err x)
   read_refused {x} f = λ a b sa sb. go a b (whole_table ts b a 0) refl (rw f at (w a b sa.types sb.types))
     where
-      go : (a b : Grammar) (q : Read (List Entry)) → whole_table ts b a 0 ≡ q → ReadAs q (Err x) → ReadAs (read_table a b ts) (Err x)
+      go : (a b : Grammar) (q : Read (List Entry)) → whole_table ts b a 0 ≡ q → ReadAs q (Err x) → ReadTo (read_table a b ts) (Err x)
       go a b (value es next) e h = absurd h
       go a b (refused n p) e h = rw (both_refused a b ts e) h
 
@@ -90,7 +93,7 @@ module _ (s s' : Side) (ts : Words) {c : Result Table (ℕ × ℕ)} (w : WholeRe
     whole a b sa sb = read_there (whole_table ts b a 0) table (rw f at (w a b sa.types sb.types))
 
     pub read_root : (root ≡ 0 → ⊥) → TableRead s s' ts (Err (61, 0))
-    read_root h = λ a b sa sb. let u = whole a b sa sb in as_refused (read_table a b ts) (both_root a b ts u.0 u.1 u.2 (λ z. h (found ∙ u.3.type 0 ∙ z)))
+    read_root h = λ a b sa sb. let u = whole a b sa sb in to_refused (read_table a b ts) (both_root a b ts u.0 u.1 u.2 (λ z. h (found ∙ u.3.type 0 ∙ z)))
 
     module _ (h : root ≡ 0) {r : Result ℕ (ℕ × ℕ)} (tested : TypesTested s s' table r) where
       fit : (a b : Grammar) (sa : Shows s a) (sb : Shows s' b) → let u = whole a b sa sb in r ≡ answer (types_fit b u.0 a u.0 0)
@@ -102,12 +105,28 @@ module _ (s s' : Side) (ts : Words) {c : Result Table (ℕ × ℕ)} (w : WholeRe
       pub read_misfit : {x : ℕ × ℕ} → r ≡ Err x → TableRead s s' ts (Err x)
       read_misfit g = λ a b sa sb.
           let u = whole a b sa sb in
-          as_refused (read_table a b ts) (both_misfit a b ts u.0 u.1 u.2 (sym (u.3.type 0) ∙ sym found ∙ h) (answer_refused (types_fit b u.0 a u.0 0) r (fit a b sa sb) g))
+          to_refused (read_table a b ts) (both_misfit a b ts u.0 u.1 u.2 (sym (u.3.type 0) ∙ sym found ∙ h) (answer_refused (types_fit b u.0 a u.0 0) r (fit a b sa sb) g))
 
-      pub read_fits : {p : ℕ} → r ≡ Ok p → TableRead s s' ts (Ok table)
+      pub read_fits : {p : ℕ} → r ≡ Ok p → TableRead s s' ts (Ok (table, p))
       read_fits g = λ a b sa sb.
           let u = whole a b sa sb in
-          rw (both_fit a b ts u.0 u.1 u.2 (sym (u.3.type 0) ∙ sym found ∙ h) (answer_passed (types_fit b u.0 a u.0 0) r (fit a b sa sb) g).1) u.3
+          rw (both_fit a b ts u.0 u.1 u.2 (sym (u.3.type 0) ∙ sym found ∙ h) (answer_passed (types_fit b u.0 a u.0 0) r (fit a b sa sb) g).1) (u.3, refl)
+
+-- the table alone, without its end
+module _ (q : Read (List Entry)) {c : Result (Table × ℕ) (ℕ × ℕ)} (is : ReadTo q c) where
+  pub table_bad : {x : ℕ × ℕ} → c ≡ Err x → ReadAs q (Err x)
+  table_bad {x} e = go q (rw e at is)
+    where
+      go : (q : Read (List Entry)) → ReadTo q (Err x) → ReadAs q (Err x)
+      go (value es next) h = absurd h
+      go (refused n p) h = h
+
+  pub table_alone : {x : Table × ℕ} → c ≡ Ok x → ReadAs q (Ok x.0)
+  table_alone {x} e = go q (rw e at is)
+    where
+      go : (q : Read (List Entry)) → ReadTo q (Ok x) → ReadAs q (Ok x.0)
+      go (value es next) h = h.0
+      go (refused n p) h = absurd h
 
 -- THE WHOLE CONVERSION
 
@@ -178,13 +197,13 @@ unfolding in_edition nodes_in
 nodes_of_lem true a ss ws e l = omega (arith, ap length e, counted_length a ws)
 nodes_of_lem false a ss ws e l = omega (arith, ap length e)
 
-module _ (edition : Bool) (ss : Words) {types : Types} (table : Table) {r r₁ : Words} {c : Result ℕ (ℕ × ℕ)} (s : SlipRead (λ g. read_edition edition g ss) types r r₁ c) (room : 6144 ≤ length r) where
-  pub slip_refused : {x : ℕ × ℕ} → c ≡ Err x → SlipConverted types table edition ss r r₁ (Err (blamed Neither x))
+module _ (edition : Bool) (ss : Words) (types : GrammarTypes) (table : Table) {r r₁ : Words} {c : Result ℕ (ℕ × ℕ)} (s : SlipRead (λ g. read_edition edition g ss) types.types r r₁ c) (room : 6144 ≤ length r) where
+  pub slip_refused : {x : ℕ × ℕ} → c ≡ Err x → SlipConverted types.types table edition ss r r₁ (Err (blamed Neither x))
   unfolding or_refused
   slip_refused f = λ a b es ta p fits. rw (s.kept f) (refuses (rw (answer_refused (read_edition edition a ss) c (s.answered a ta) f)))
 
   module _ {p : ℕ} (f : c ≡ Ok p) where
-    tree_of : (a : Grammar) → TypesOf a types → (ws : Words) × (read_edition edition a ss ≡ value ws p) × Tree a 0 ws × (length ws ≡ 2 * size ws) × (nodes_in edition (length ss) ≡ size ws)
+    tree_of : (a : Grammar) → TypesOf a types.types → (ws : Words) × (read_edition edition a ss ≡ value ws p) × Tree a 0 ws × (length ws ≡ 2 * size ws) × (nodes_in edition (length ss) ≡ size ws)
     tree_of a ta =
         let u = answer_passed (read_edition edition a ss) c (s.answered a ta) f in
         let x = (slip_exactly edition a ss u.0).sound (p, u.1) in
@@ -194,7 +213,7 @@ module _ (edition : Bool) (ss : Words) {types : Types} (table : Table) {r r₁ :
     pub slip_few : nodes_in edition (length ss) ≤ 2048
     slip_few = ∥∥₁_elim (some_types types) le_prop (λ t. let u = tree_of t.0 t.1 in omega (arith, u.2.nodes, u.4))
 
-    pub slip_done : {n : ℕ} → n ≡ nodes_in edition (length ss) → {r' : Words} → TreeConverted types table n r₁ r' → SlipConverted types table edition ss r r' (Ok (3 * n))
+    pub slip_done : {n : ℕ} → n ≡ nodes_in edition (length ss) → {r' : Words} → TreeConverted types.types table n r₁ r' → SlipConverted types.types table edition ss r r' (Ok (3 * n))
     unfolding or_refused converted_as result_after
     slip_done {n} en {r'} t = λ a b es ta p fits.
         let u = tree_of a ta in
@@ -222,8 +241,8 @@ module _ (edition : Bool) {s : Side} {a : Grammar} (b : Grammar) (sa : Shows s a
       go (value es next) e h = absurd h
       go (refused n p) e h = rw h (refuses (rw e))
 
-  pub between_done : {table : Table} → c ≡ Ok table → {r' : Words} {x : Result ℕ ConversionRefusal} → SlipConverted s.types table edition ss r r' x → Converts (conversion_between edition a b ts ss) r r' x
+  pub between_done : {table : Table} → c ≡ Ok table → {r' : Words} {x : Result ℕ ConversionRefusal} → SlipConverted s.types.types table edition ss r r' x → Converts (conversion_between edition a b ts ss) r r' x
   unfolding conversion_between or_refused
   between_done {table} f slip =
       let u = read_there (read_table a b ts) table (rw f at (read a sa)) in
-      rw u.2 (slip a b u.0 sa.types u.3 ((table_exactly a b ts u.0).sound u.1 u.2).1)
+      rw u.2 (slip a b u.0 sa.types.types_of u.3 ((table_exactly a b ts u.0).sound u.1 u.2).1)

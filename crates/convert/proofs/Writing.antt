@@ -10,7 +10,7 @@ use borrow.Author.Tests.{eq-eqb, ne_eqb, ltb-true}
 use Rattle.words.specs.Reader.{Words}
 use Rattle.grammar.specs.Grammar.{Kind, token, opt, sequence, forms, Grammar}
 use Rattle.grammar.specs.Kinds.{kind_of, allows, allowed, forms_of}
-use Rattle.tables.specs.Types.{TypesOf, OfTypes}
+use Rattle.tables.specs.Types.{TypesOf, OfHeads}
 use Rattle.tables.specs.declared.types.Types.{Types}
 use Rattle.tables.proofs.Filling.{style_map}
 use Rattle.tree.specs.Tree.{Trees, none, node, size, first_tree}
@@ -34,16 +34,16 @@ formed (opt f) v e h = absurd (omega arith)
 formed (sequence style f) v e h = absurd ((style_map style).1 e)
 formed (forms fs) v e h = ltb-true v (length fs) h
 
-module _ {types : Types} (table : Table) (t v : ℕ) {k : ℕ} (ek : OfTypes types (λ g. k ≡ bit_of (kind_of g t))) where
+module _ {types : Types} (table : Table) (t v : ℕ) {k : ℕ} (ek : OfHeads types (λ g. k ≡ bit_of (kind_of g t))) where
   pub value_form : k ≡ 8 → {r : ℕ} → r ≡ form_at table t v → ValueMade types table t v r
   unfolding allowed value_to
   value_form h er = λ a es ha p q fine.
-      let bit : bit_of (kind_of a t) ≡ 8 = sym (ek a ha) ∙ h in
+      let bit : bit_of (kind_of a t) ≡ 8 = sym (ek a ha.heads_of) ∙ h in
       er ∙ p.form t v (omega (arith, q t, formed (kind_of a t) v bit fine)) ∙ rw (eq-eqb (bit_of (kind_of a t)) 8 bit)
 
   pub value_kept : (k ≡ 8 → ⊥) → ValueMade types table t v v
   unfolding value_to
-  value_kept h = λ a es ha p q fine. rw (ne_eqb (bit_of (kind_of a t)) 8 (λ e. h (ek a ha ∙ e)))
+  value_kept h = λ a es ha p q fine. rw (ne_eqb (bit_of (kind_of a t)) 8 (λ e. h (ek a ha.heads_of ∙ e)))
 
 -- A NODE
 

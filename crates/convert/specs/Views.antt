@@ -4,7 +4,7 @@ use Rattle.words.specs.Reader.{Words, pick, Read, value, refused}
 use Rattle.words.specs.Views.{answer, equal_words}
 use Rattle.grammar.specs.Grammar.{Kind, Grammar}
 use Rattle.grammar.specs.Kinds.{kind_of, allowed, children, forms_of}
-use Rattle.tables.specs.Types.{TypesOf}
+use Rattle.tables.specs.Types.{TypesOf, AllTypesOf}
 use Rattle.tables.specs.declared.types.Types.{Types}
 use Rattle.tree.specs.Limits.{most_nodes}
 use Rattle.tree.specs.Tree.{Trees, size}
@@ -25,7 +25,7 @@ pub record Classes (g : Grammar) (cs : Words) : Type 0 where
 
 -- they are this grammar's
 pub record Shows (s : Side) (g : Grammar) : Type 0 where
-  pub types : TypesOf g s.types
+  pub types : AllTypesOf g s.types.types
   pub classes : Classes g s.classes
 
 -- THE TABLE AS THE CODE SEES IT
@@ -63,15 +63,22 @@ ReadAs (value es next) (Err x) = ⊥
 ReadAs (refused n p) (Ok table) = ⊥
 ReadAs (refused n p) (Err x) = x ≡ (n, p)
 
+-- .. with the position at which the reading ended
+abbrev pub ReadTo : Read (List Entry) → Result (Table × ℕ) (ℕ × ℕ) → Type 0
+ReadTo (value es next) (Ok x) = Placed x.0 es × (x.1 ≡ next)
+ReadTo (value es next) (Err x) = ⊥
+ReadTo (refused n p) (Ok x) = ⊥
+ReadTo (refused n p) (Err x) = x ≡ (n, p)
+
 -- WHAT THE FUNCTIONS PROMISE
 
 -- the answer for an entry of a type with k forms
 abbrev pub EntryRead : Types → Words → ℕ → ℕ → Result ℕ (ℕ × ℕ) → Type 0
-EntryRead types ts k at r = (b : Grammar) (kd : Kind) → TypesOf b types → k ≡ length (forms_of kd) → r ≡ answer (entry ts b kd at)
+EntryRead types ts k at r = (b : Grammar) (kd : Kind) → AllTypesOf b types → k ≡ length (forms_of kd) → r ≡ answer (entry ts b kd at)
 
 -- 60: the whole table, or its refusal
 abbrev pub WholeRead : Types → Types → Words → Result Table (ℕ × ℕ) → Type 0
-WholeRead old new ts r = (a b : Grammar) → TypesOf a old → TypesOf b new → ReadAs (whole_table ts b a 0) r
+WholeRead old new ts r = (a b : Grammar) → AllTypesOf a old → AllTypesOf b new → ReadAs (whole_table ts b a 0) r
 
 -- r says whether the kinds are alike
 abbrev pub AlikeTested : Side → Side → Table → ℕ → ℕ → Bool → Type 0
@@ -96,8 +103,8 @@ abbrev pub TypesTested : Side → Side → Table → Result ℕ (ℕ × ℕ) →
 TypesTested old new table r = (a b : Grammar) (es : List Entry) → Shows old a → Shows new b → length es ≡ length a → Placed table es → Numbered a es → r ≡ answer (types_fit b es a es 0)
 
 -- 60, then 61: the table, or its refusal
-abbrev pub TableRead : Side → Side → Words → Result Table (ℕ × ℕ) → Type 0
-TableRead old new ts r = (a b : Grammar) → Shows old a → Shows new b → ReadAs (read_table a b ts) r
+abbrev pub TableRead : Side → Side → Words → Result (Table × ℕ) (ℕ × ℕ) → Type 0
+TableRead old new ts r = (a b : Grammar) → Shows old a → Shows new b → ReadTo (read_table a b ts) r
 
 -- .. for this new grammar
 abbrev pub TableChecked : Side → Grammar → Words → Result Table (ℕ × ℕ) → Type 0

@@ -13,7 +13,7 @@ ghost use Rattle.convert.specs.Views.{ValueMade, TreeConverted, nodes_in, SlipCo
 
 use side::Side;
 use table::Table;
-use tables::Types;
+use tables::{GrammarTypes, Types};
 use tree::limits::MOST_SLIP_WORDS;
 use words::{Fault, Refusal};
 
@@ -66,18 +66,18 @@ fn nodes_in(counted: bool, slip: &[u32]) -> usize
 
 // The slip, read into the result and converted there by a table that fits.
 fn convert_slip(
-    types: &Types,
+    types: &GrammarTypes,
     table: &Table,
     slip: &[u32],
     counted: bool,
     res: &mut [u32],
 ) -> Result<usize, ConversionRefusal>
     requires { most_slip_words ≤ length res.old }
-    ensures { SlipConverted types.now table.now counted slip.now res.old res.new result }
+    ensures { SlipConverted types.now.types table.now counted slip.now res.old res.new result }
 {
     slips::read_edition(types, counted, slip, res)?;
     let nodes = nodes_in(counted, slip);
-    convert_marked(types, table, nodes, res);
+    convert_marked(&types.types, table, nodes, res);
     Ok(3 * nodes)
 }
 
@@ -88,7 +88,8 @@ fn check_table<'a>(table: &'a [u32], old: &Side, new: &[u32]) -> Result<Table<'a
 {
     let mut side = Side::none();
     side.fill(new);
-    Table::read(table, old, &side)
+    let (fitting, _) = Table::read(table, old, &side)?;
+    Ok(fitting)
 }
 
 // The slip converted between two grammars that pass.

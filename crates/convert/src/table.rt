@@ -3,7 +3,7 @@ ghost use Rattle.std.specs.Prelude.{◌≡◌, ◌*◌, ◌≤◌, ◌<◌, leng
 ghost use Rattle.words.specs.Reader as Reader;
 ghost use Rattle.words.specs.Views.{answer, got};
 ghost use Rattle.grammar.specs.Kinds.{kind_of, forms_of};
-ghost use Rattle.tables.specs.Types.{OfTypes};
+ghost use Rattle.tables.specs.Types.{OfHeads};
 ghost use Rattle.convert.specs.Table.{named, bit_of};
 ghost use Rattle.convert.specs.Views.{place_at, type_at, form_at, EntryRead, WholeRead, AlikeTested, FormTested, FormsTested, TypeTested, TypesTested, TableRead};
 
@@ -40,7 +40,7 @@ fn numbers(table: &[u32], n: u32, k: u32, start: usize) -> Result<usize, Refusal
 // How many forms the type has.
 #[tactic(auto, using(crate::proofs::Entries::count_forms, crate::proofs::Entries::count_none))]
 fn form_count(types: &Types, t: u32) -> u32
-    ensures { OfTypes types.now (λ g. result ≡ length (forms_of (kind_of g t))) }
+    ensures { OfHeads types.now (λ g. result ≡ length (forms_of (kind_of g t))) }
 {
     if types.map_of(t) == 8 {
         types.values(t)
@@ -52,7 +52,7 @@ fn form_count(types: &Types, t: u32) -> u32
 // The bit of a type's kind.
 #[tactic(auto, using(crate::proofs::Entries::bit_none, crate::proofs::Entries::bit_there))]
 pub fn bit(types: &Types, t: u32) -> u32
-    ensures { OfTypes types.now (λ g. result ≡ bit_of (kind_of g t)) }
+    ensures { OfHeads types.now (λ g. result ≡ bit_of (kind_of g t)) }
 {
     match types.map_of(t) {
         0 => 8,
@@ -73,14 +73,15 @@ fn entry(new: &Types, table: &[u32], k: u32, at: usize) -> Result<usize, Refusal
 // The table's words, with the places of what they say of each old type: their end, where there is no such type.
 #[derive(Drop)]
 pub struct Table<'a> {
-    words: &'a [u32],
-    places: [usize; 64],
+    pub words: &'a [u32],
+    pub places: [usize; 64],
 }
 
 impl<'a> Table<'a> {
     // 60: the whole table.
     #[tactic(auto, using(crate::proofs::Entries::table_start, crate::proofs::Entries::table_fault, crate::proofs::Entries::table_more, crate::proofs::Entries::table_left, crate::proofs::Entries::table_end))]
     fn whole(words: &'a [u32], old: &Types, new: &Types) -> Result<Table<'a>, Refusal>
+        requires { old.now.count ≤ 64 }
         ensures { WholeRead old.now new.now words.now result }
     {
         let mut places = [words.len(); 64];
@@ -96,16 +97,16 @@ impl<'a> Table<'a> {
         Ok(Table { words, places })
     }
 
-    // 60, then 61: the table of a conversion.
-    pub fn read(words: &'a [u32], old: &Side, new: &Side) -> Result<Table<'a>, Refusal>
+    // 60, then 61: the table of a conversion, and where it ends.
+    pub fn read(words: &'a [u32], old: &Side, new: &Side) -> Result<(Table<'a>, usize), Refusal>
         ensures { TableRead old.now new.now words.now result }
     {
-        let table = Table::whole(words, &old.types, &new.types)?;
+        let table = Table::whole(words, &old.types.types, &new.types.types)?;
         if table.type_to(0) != 0 {
             return Err(Refusal::new(Fault::TableMisfit, 0));
         }
-        table.types_fit(old, new)?;
-        Ok(table)
+        let end = table.types_fit(old, new)?;
+        Ok((table, end))
     }
 
     // Where the word of a type stands.
@@ -137,14 +138,14 @@ impl<'a> Table<'a> {
     fn alike(&self, old: &Side, new: &Side, t: u32, m: u32) -> bool
         ensures { AlikeTested old.now new.now self.now t m result }
     {
-        let kind = bit(&old.types, t);
-        if kind != bit(&new.types, m) {
+        let kind = bit(&old.types.types, t);
+        if kind != bit(&new.types.types, m) {
             return false;
         }
         match kind {
             8 => true,
             1 => words::word(&old.classes, t as usize) == words::word(&new.classes, m as usize),
-            _ => self.type_to(old.types.child(t, 0, 0)) == new.types.child(m, 0, 0),
+            _ => self.type_to(old.types.types.child(t, 0, 0)) == new.types.types.child(m, 0, 0),
         }
     }
 
@@ -190,8 +191,8 @@ impl<'a> Table<'a> {
         if !self.alike(old, new, t, m) {
             return Err(Refusal::new(Fault::TableMisfit, at));
         }
-        let k = form_count(&old.types, t);
-        let v = self.first_misfit(&old.types, &new.types, k, t, m);
+        let k = form_count(&old.types.types, t);
+        let v = self.first_misfit(&old.types.types, &new.types.types, k, t, m);
         if v < k {
             return Err(Refusal::new(Fault::TableMisfit, at + 1 + v as usize));
         }
@@ -204,7 +205,7 @@ impl<'a> Table<'a> {
         ensures { TypesTested old.now new.now self.now result }
     {
         let mut at: usize = 0;
-        for t in 0..old.types.count {
+        for t in 0..old.types.types.count {
             at = self.type_fits(old, new, t, at)?;
         }
         Ok(at)

@@ -31,7 +31,7 @@ use Rattle.tables.proofs.Lookups.{allowed_by}
 use Rattle.tree.specs.Tree.{levels_of, levels}
 use Rattle.tree.specs.Dues.{Next, pairs}
 use Rattle.tree.specs.Reading.{tree, dues_of}
-use Rattle.tables.specs.Types.{OfTypes}
+use Rattle.tables.specs.Types.{OfHeads, OfRows, OfTypes}
 use Rattle.tables.specs.declared.types.Types.{Types}
 use Rattle.rules.specs.Rules.{Rules}
 use Rattle.judgement.specs.Typing.{Place, in_pattern, in_replacement, in_condition, Due, a_tree, Context, may_stand, node, meets}
@@ -179,7 +179,7 @@ module _ {F : Type 0} (g : Mut F (Bor (Bor Words) × Unit {0}) Bool) where
       let q = subst (λ b. MatchBool b ((Some x ≡ None) × (t ≡ s)) ((o : Option (Bor Words)) × chunks_exact_steps s.iter o t.iter × Tested s x o t)) fresh step in
       came s t x q.0 q.1 q.2
 
-module _ {types : Types} {n d e k : ℕ} {ps : Words} {from : ℕ} (ee : OfTypes types (λ g. e ≡ get_or (children g d 0) 0 0)) (ek : OfTypes types (λ g. k ≡ values_of (kind_of g e))) where
+module _ {types : Types} {n d e k : ℕ} {ps : Words} {from : ℕ} (ee : OfRows types (λ g. e ≡ get_or (children g d 0) 0 0)) (ek : OfHeads types (λ g. k ≡ values_of (kind_of g e))) where
   pass_more : (i : ℕ) (x rest : Words) → drop i ps ≡ x ++ rest → length x ≡ 4 → Element d e k x → Passing types n d ps from i → Passing types n d ps from (i + 4)
   pass_more i x rest cut long el p =
       let pairs_here : drop i ps ≡ d ∷ 0 ∷ e ∷ get_or x 3 0 ∷ drop (i + 4) ps = cut ∙ two_pairs x rest long ∙ rw (el.0, el.1, el.2, left ps i x rest cut long) in
@@ -188,8 +188,8 @@ module _ {types : Types} {n d e k : ℕ} {ps : Words} {from : ℕ} (ee : OfTypes
         later = omega (arith, p.later);
         within = omega (arith, p.within, whole);
         same = λ g t here h rules ds Γ start.
-            let E : Elements g here n d e = rw (ee g t) (elements g here n d h) in
-            p.same g t here h rules ds Γ start ∙ element_passed g here n d e E (ee g t) ps i (get_or x 3 0) pairs_here (sym (allowed_by g e (get_or x 3 0) k (ek g t)) ∙ lt-ltb (get_or x 3 0) k el.3) rules ds Γ start;
+            let E : Elements g here n d e = rw (ee g t.rows_of_lem) (elements g here n d h) in
+            p.same g t here h rules ds Γ start ∙ element_passed g here n d e E (ee g t.rows_of_lem) ps i (get_or x 3 0) pairs_here (sym (allowed_by g e (get_or x 3 0) k (ek g t.heads_of)) ∙ lt-ltb (get_or x 3 0) k el.3) rules ds Γ start;
       }
 
   module _ {F : Type 0} (g : Mut F (Bor (Bor Words) × Unit {0}) Bool) (f : F) (asks : (x : Bor Words) (q : F) → CalledAt g f x true q → (q ≡ f) × Element d e k x.now) where

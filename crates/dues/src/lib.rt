@@ -6,7 +6,7 @@ ghost use Rattle.std.specs.Prelude.{List, ◌≡◌, [], ◌∷◌, ◌++◌, �
 ghost use Rattle.words.specs.Reader.{or};
 ghost use Rattle.grammar.specs.Grammar.{Grammar};
 ghost use Rattle.grammar.specs.Kinds.{children};
-ghost use Rattle.tables.specs.Types.{OfTypes};
+ghost use Rattle.tables.specs.Types.{OfHeads, OfRows, OfTypes};
 ghost use Rattle.tree.specs.Reading.{tree};
 ghost use Rattle.rules.specs.Rules.{Rules};
 ghost use Rattle.judgement.specs.Wanted.{a_number, to_join, wants};
@@ -15,6 +15,7 @@ ghost use Rattle.dues.specs.Due.{due_as, wanted_as};
 ghost use Rattle.dues.specs.Views.{place_as, children_due, node_due, parameters_due, variable_at, Meets, searches_as, applies_map, arguments_counted, tokens_due, TokensPassed};
 
 pub use due::{Due, Wanted};
+use limits::MOST_NESTING;
 pub use pair::Pair;
 use rules::Strategy;
 use rules::limits::{
@@ -22,16 +23,15 @@ use rules::limits::{
     MARK_CHAIN, MARK_NEW, MARK_VARIABLE, MOST_APPLICATIONS, SELECT,
 };
 pub use stack::Stack;
-use tables::Types;
+use tables::{GrammarTypes, Types};
 pub use variables::Variables;
 use words::{Fault, Refusal};
 
 pub mod due;
+pub mod limits;
 pub mod pair;
 pub mod stack;
 pub mod variables;
-
-const MOST_NESTING: u32 = 64;
 
 // Where pairs stand.
 #[derive(Clone, Copy)]
@@ -44,28 +44,28 @@ pub enum Place {
 // WHAT IS MADE DUE
 
 // Puts the children of a node (t, v) on the stack, all at one nesting, the first on top.
-fn push_level(types: &Types, t: u32, v: u32, nesting: u32, stack: &mut Stack)
+fn push_level(types: &GrammarTypes, t: u32, v: u32, nesting: u32, stack: &mut Stack)
     requires { length stack.old < 900 }
-    ensures { OfTypes types.now (λ g. stack.new ≡ children_due nesting (children g t v) ++ stack.old) }
+    ensures { OfRows types.now.types (λ g. stack.new ≡ children_due nesting (children g t v) ++ stack.old) }
 {
-    let count = types.child_count(t, v);
+    let count = types.types.child_count(t, v);
     for i in (0..count).rev() {
-        stack.push(Due::Tree(nesting, types.child(t, v, i)));
+        stack.push(Due::Tree(nesting, types.types.child(t, v, i)));
     }
 }
 
 // Puts what a node of type d with the value v makes due on the stack: the rest of a sequence stands on its parent's nesting.
-fn push_children(types: &Types, d: u32, v: u32, nesting: u32, stack: &mut Stack)
+fn push_children(types: &GrammarTypes, d: u32, v: u32, nesting: u32, stack: &mut Stack)
     requires { (nesting ≤ 64) × (length stack.old < 890) }
-    ensures { OfTypes types.now (λ g. stack.new ≡ node_due g d v nesting ++ stack.old) }
+    ensures { OfTypes types.now.types (λ g. stack.new ≡ node_due g d v nesting ++ stack.old) }
 {
-    if !types.is_sequence(d) {
+    if !types.types.is_sequence(d) {
         push_level(types, d, v, nesting + 1, stack);
         return;
     }
     if v == 0 {
         stack.push(Due::Tree(nesting, d));
-        stack.push(Due::Tree(nesting + 1, types.child(d, 0, 0)));
+        stack.push(Due::Tree(nesting + 1, types.types.child(d, 0, 0)));
     }
 }
 
@@ -107,16 +107,16 @@ fn may_stand(here: Place, d: u32, t: u32) -> bool
 // A node (d, v).
 #[tactic(auto, using(crate::proofs::Row::node_few), unfolding(judgement::specs::Typing::node))]
 fn meet_node(
-    types: &Types,
+    types: &GrammarTypes,
     nesting: u32,
     d: u32,
     pair: Pair,
     stack: &mut Stack,
 ) -> Result<Option<u32>, Refusal>
     requires { (nesting ≤ 64) × (length stack.old < 890) }
-    ensures { OfTypes types.now (λ g. (Γ : Typing.Context) → Meets result Γ stack.old stack.new (Typing.node g nesting d Γ pair.second pair.at)) }
+    ensures { OfTypes types.now.types (λ g. (Γ : Typing.Context) → Meets result Γ stack.old stack.new (Typing.node g nesting d Γ pair.second pair.at)) }
 {
-    if !types.is_allowed(d, pair.second) {
+    if !types.types.is_allowed(d, pair.second) {
         return Err(pair.second_at(Fault::Misplaced));
     }
     push_children(types, d, pair.second, nesting, stack);
@@ -170,7 +170,7 @@ fn meet_chain(
 #[tactic(auto, unfolding(judgement::specs::Typing::meets))]
 pub fn meet_tree(
     here: Place,
-    types: &Types,
+    types: &GrammarTypes,
     nesting: u32,
     d: u32,
     pair: Pair,
@@ -178,7 +178,7 @@ pub fn meet_tree(
     stack: &mut Stack,
 ) -> Result<Option<u32>, Refusal>
     requires { length stack.old < 890 }
-    ensures { OfTypes types.now (λ g. (rules : Rules) → Meets result variables.now stack.old stack.new (Typing.meets g rules (place_as here) (Typing.a_tree (tree nesting d)) variables.now pair.first pair.second pair.at)) }
+    ensures { OfTypes types.now.types (λ g. (rules : Rules) → Meets result variables.now stack.old stack.new (Typing.meets g rules (place_as here) (Typing.a_tree (tree nesting d)) variables.now pair.first pair.second pair.at)) }
 {
     if !may_stand(here, d, pair.first) {
         return Err(pair.first_at(Fault::Misplaced));
@@ -193,7 +193,7 @@ pub fn meet_tree(
         return meet_new(d, pair, variables);
     }
     if pair.first == MARK_VARIABLE {
-        return meet_argument(types, Wanted::Exactly(d), pair, variables);
+        return meet_argument(&types.types, Wanted::Exactly(d), pair, variables);
     }
     meet_chain(d, pair, variables, stack)
 }
@@ -270,7 +270,7 @@ pub fn meet_count(s: u32, pair: Pair, stack: &mut Stack) -> Result<Option<u32>, 
 // May a tree of type t be joined to a sequence of type s? It is another of that very type, or an element.
 #[tactic(auto, unfolding(judgement::specs::Wanted::wants, tree::specs::Sequences::element_of))]
 fn joins(types: &Types, s: u32, t: u32) -> bool
-    ensures { OfTypes types.now (λ g. result ≡ wants g (to_join s) t) }
+    ensures { OfRows types.now (λ g. result ≡ wants g (to_join s) t) }
 {
     t == s || t == types.child(s, 0, 0)
 }
@@ -339,7 +339,7 @@ pub fn applies_operation(here: Place, o: u32) -> bool
 // May the operation be applied to a scope of type s? Those on sequences want one as scope, but length puts its count into a number.
 #[tactic(auto, unfolding(judgement::specs::Typing::operates_on))]
 pub fn operates_on(types: &Types, o: u32, s: u32) -> bool
-    ensures { OfTypes types.now (λ g. result ≡ Typing.operates_on g o s) }
+    ensures { OfHeads types.now (λ g. result ≡ Typing.operates_on g o s) }
 {
     if o < JOIN || o == COUNT {
         types.is_number(s)

@@ -4,10 +4,8 @@ ghost use Rattle.dues.specs.Due.{due_as};
 ghost use Rattle.dues.specs.Stack.{standing, Popped};
 
 use crate::due::Due;
+use crate::limits::MOST_DUES;
 use std::marker::Model;
-
-// 128 pairs never make more due at once.
-const MOST_DUES: usize = 1024;
 
 #[derive(Drop)]
 pub struct Stack {

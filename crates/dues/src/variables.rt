@@ -4,20 +4,26 @@ ghost use Rattle.std.specs.Prelude.{◌≡◌, [], ◌∷◌, ◌++◌, ◌<◌,
 use rules::limits::MOST_VARIABLES;
 use std::marker::Model;
 
-#[derive(Drop)]
+#[derive(Clone, Copy)]
 pub struct Variables {
     types: [u32; MOST_VARIABLES],
     count: usize,
 }
 
 impl Model for Variables {
-    ghost use Rattle.std.specs.Prelude.{List, ℕ, ◌≤◌, take};
+    ghost use Rattle.std.specs.Prelude.{List, ℕ};
 
     ghost Value = { List ℕ };
 
-    ghost view = { λ v. take v.count v.types };
+    ghost use Rattle.dues.specs.Variables.{known, Fits, fields, fields_known};
 
-    ghost invariant = { λ v. v.count ≤ 16 };
+    ghost view = { known };
+
+    ghost invariant = { Fits };
+
+    ghost inverse = { fields };
+
+    ghost inverse_ok = { fields_known };
 }
 
 impl Variables {
@@ -56,9 +62,8 @@ impl Variables {
     pub fn copy(&self) -> Variables
         ensures { (result ≡ self.now) × (length result ≤ 16) }
     {
-        Variables {
-            types: self.types,
-            count: self.count,
-        }
+        // How many there are is known where the fields are looked at.
+        let _ = &self.count;
+        *self
     }
 }

@@ -10,7 +10,8 @@ use lib.Seq.{get_or-take, get_or-drop}
 use Rattle.words.specs.Reader.{Words, or}
 use Rattle.words.proofs.Laws.{or_true}
 use Rattle.grammar.specs.Grammar.{Grammar}
-use Rattle.tables.specs.Types.{OfTypes, TypesOf}
+use Rattle.tables.specs.Tables.{Heads}
+use Rattle.tables.specs.Types.{OfHeads}
 use Rattle.tables.specs.declared.types.Types.{Types}
 use Rattle.tree.specs.Tree.{Trees, size, first_tree}
 use Rattle.tree.specs.Blanks.{is_blank, holds_blank}
@@ -93,14 +94,14 @@ pair_words part x n k i e h is = (word 0 i (omega arith) (omega arith), word 1 (
 
 module _ (types : Types) (part : Words) (w n : ℕ) (ew : w ≡ get_or part 0 0) (en : n ≡ size_in w) where
   pub blank_short : length part < 2 * n → HoldsBlank types part false
-  blank_short h g ws t ts hs e r k = absurd (omega (arith, (shown part ws w n hs.heads_of.types e r k ew en).inside))
+  blank_short h g ws t ts hs e r k = absurd (omega (arith, (shown part ws w n hs.types e r k ew en).inside))
 
-  module _ (g : Grammar) (ws : Words) (t : ℕ) (ts : List ℕ) (hs : TypesOf g types) (e : part ≡ marked g ws) (r : Trees g (t ∷ ts) ws) (few : size ws ≤ 2048) where
+  module _ (g : Grammar) (ws : Words) (t : ℕ) (ts : List ℕ) (hs : Heads g types.heads) (e : part ≡ marked g ws) (r : Trees g (t ∷ ts) ws) (few : size ws ≤ 2048) where
     -- what is told of its pair is so of the node
     node_is : (x : Words) (b : Bool) (k i : ℕ) → i ≡ 2 * k → k < n → x ≡ take 2 (drop (k * 2) (take (2 * n) part)) → is_blank g (type_in (get_or x 0 0)) (get_or x 1 0) ≡ b
         → is_blank g (get_or (first_tree g ws) i 0) (get_or (first_tree g ws) (suc i) 0) ≡ b
     node_is x b k i ei h is told =
-        let s = shown part ws w n hs.heads_of.types e r few ew en in
+        let s = shown part ws w n hs.types e r few ew en in
         let words = pair_words part x n k i ei h is in
         ap₂ (is_blank g) (s.type k i ei (omega arith) ∙ ap type_in (sym words.0)) (ap (λ j. get_or (first_tree g ws) j 0) (sym (add-one i)) ∙ s.value k i ei (omega arith) ∙ sym words.1) ∙ told
 
@@ -108,8 +109,8 @@ module _ (types : Types) (part : Words) (w n : ℕ) (ew : w ≡ get_or part 0 0)
   module _ (room : 2 * n ≤ length part) {F : Type 0} {ask : Mut F (Bor Words × Unit {0}) Bool} {f : F} {s : ChunksExact ℕ} (rest : chunks_exact_rest s ≡ take (2 * n) part) (two : chunks_exact_size s ≡ 2)
       (runs : EveryRun (chunks_exact_steps {A = ℕ}) (λ p. 0 < chunks_exact_size p.from → IsChunksExactRun p (chunks_exact_size p.from) (chunks_exact_rest p.from)))
       (keeps : CallKeepsClosure ask f)
-      (yes : (x : Bor Words) → Called ask f (x, tt) true f → OfTypes types (λ g. is_blank g (type_in (get_or x.now 0 0)) (get_or x.now 1 0) ≡ true))
-      (no : (x : Bor Words) → Called ask f (x, tt) false f → OfTypes types (λ g. is_blank g (type_in (get_or x.now 0 0)) (get_or x.now 1 0) ≡ false)) where
+      (yes : (x : Bor Words) → Called ask f (x, tt) true f → OfHeads types (λ g. is_blank g (type_in (get_or x.now 0 0)) (get_or x.now 1 0) ≡ true))
+      (no : (x : Bor Words) → Called ask f (x, tt) false f → OfHeads types (λ g. is_blank g (type_in (get_or x.now 0 0)) (get_or x.now 1 0) ≡ false)) where
     -- a run asks pairs of the tree
     cut : (p : Run (chunks_exact_steps {A = ℕ})) → p.from ≡ s → IsChunksExactRun p 2 (take (2 * n) part)
     cut p from =
@@ -119,14 +120,14 @@ module _ (types : Types) (part : Words) (w n : ℕ) (ew : w ≡ get_or part 0 0)
 
     pub blanks_asked : (r : Bool) → SomeRun (chunks_exact_steps {A = ℕ}) s (λ p. MatchBool r (AnyItemGives p ask f true) (IsTrue p.whole × AllItemsGive p ask f false)) → HoldsBlank types part r
     blanks_asked true run g ws t ts hs e r k =
-        let s = shown part ws w n hs.heads_of.types e r k ew en in
+        let s = shown part ws w n hs.types e r k ew en in
         let pairs = cut run.0 run.1 in
         let found = run.2 keeps in
         let x = held (run.0.at found.0) found.2 (pairs.2 found.0) in
         let here : found.0 < n = omega (arith, x.2, length-take (2 * n) part) in
         sym (blank_there g (first_tree g ws) found.0 (2 * found.0) refl (omega (arith, s.long)) (node_is g ws t ts hs e r k x.0.now true found.0 (2 * found.0) refl here x.2.2.0 (yes x.0 x.1 g hs)))
     blanks_asked false run g ws t ts hs e r k =
-        let s = shown part ws w n hs.heads_of.types e r k ew en in
+        let s = shown part ws w n hs.types e r k ew en in
         let pairs = cut run.0 run.1 in
         let all : run.0.len ≡ n = omega (arith, pairs.1 run.2.0, length-take (2 * n) part) in
         sym (blank_nowhere g (first_tree g ws) n s.long (λ j i ei h.

@@ -12,7 +12,8 @@ use Rattle.words.specs.Reader.{Words, pick, and}
 use Rattle.words.proofs.Stretches.{drop_pair}
 use Rattle.grammar.specs.Grammar.{Grammar}
 use Rattle.grammar.specs.Kinds.{children, is_sequence}
-use Rattle.tables.specs.Types.{OfTypes, TypesOf}
+use Rattle.tables.specs.Tables.{Heads}
+use Rattle.tables.specs.Types.{OfHeads}
 use Rattle.tables.specs.declared.types.Types.{Types}
 use Rattle.tree.specs.Tree.{Trees, none, node, size, levels, node_nesting, first, after, first_tree}
 use Rattle.tree.proofs.Trees.{tells, trees_even, tree_some, first_none, first_after, first_even, after_drop, levels_length, more_length}
@@ -181,13 +182,13 @@ module _ (g : Grammar) (ws : Words) (q p above : ℕ) (sequence : Bool) (i : ℕ
       let z : q - p ≡ 0 = omega arith in
       sym (is_here ∙ ap (λ l. node_nesting g l (m ∷ (drop (i + 1) d.deep ++ d.deeper)) (q - p)) pair ∙ ap (node_nesting g (get_or ws p 0 ∷ get_or ws (p + 1) 0 ∷ drop (p + 2) ws) (m ∷ (drop (i + 1) d.deep ++ d.deeper))) z)
 
--- THE LOOP, for every grammar whose tables these are
+-- THE LOOP, for every grammar whose heads these are
 
 pub record Descent (types : Types) (part : Words) (q p above : ℕ) (sequence : Bool) (i : ℕ) : Type 0 where
   pub near : p ≤ q + 1
   pub few : i ≤ p
   pub shallow : above ≤ p
-  run : (g : Grammar) (t : ℕ) (ws : Words) (half : ℕ) → TypesOf g types → Trees g (t ∷ []) ws → size ws ≤ 2048 → part ≡ marked g ws → q ≡ 2 * half → Down g ws q p above sequence i
+  run : (g : Grammar) (t : ℕ) (ws : Words) (half : ℕ) → Heads g types.heads → Trees g (t ∷ []) ws → size ws ≤ 2048 → part ≡ marked g ws → q ≡ 2 * half → Down g ws q p above sequence i
 
 pub descent_start : (types : Types) (part : Words) (q : ℕ) → q < length part → Descent types part q 0 0 false 0
 descent_start types part q h = record {
@@ -200,21 +201,21 @@ descent_start types part q h = record {
 module _ (types : Types) (part : Words) (q p above : ℕ) (sequence : Bool) (i : ℕ) (d : Descent types part q p above sequence i) where
   pub descent_none : (w n : ℕ) → w ≡ get_or part p 0 → n ≡ size_in w → n ≡ 0 → NestingOf types part q 0
   descent_none w n ew en z g t ws half hs r s e eq =
-      absurd (omega (arith, node_there g ws q p above sequence i (d.run g t ws half hs r s e eq) s hs.heads_of.types w (ew ∙ rw e)))
+      absurd (omega (arith, node_there g ws q p above sequence i (d.run g t ws half hs r s e eq) s hs.types w (ew ∙ rw e)))
 
   pub descent_over : (w n : ℕ) → w ≡ get_or part p 0 → n ≡ size_in w → (n ≡ 0 → ⊥) → p + 2 * n ≤ q → Descent types part q (p + 2 * n) above sequence (i + 1)
   descent_over w n ew en some over = record {
     near = omega arith;
     few = go n some d.few;
     shallow = omega (arith, d.shallow);
-    run = λ g t ws half hs r s e eq. skip g ws q p above sequence i (d.run g t ws half hs r s e eq) s hs.heads_of.types w n (ew ∙ rw e) en over;
+    run = λ g t ws half hs r s e eq. skip g ws q p above sequence i (d.run g t ws half hs r s e eq) s hs.types w n (ew ∙ rw e) en over;
   }
     where
       go : (n : ℕ) → (n ≡ 0 → ⊥) → i ≤ p → i + 1 ≤ p + 2 * n
       go zero f h = absurd (f refl)
       go (suc n) f h = omega arith
 
-  pub descent_into : (w n t l : ℕ) (s : Bool) → w ≡ get_or part p 0 → n ≡ size_in w → t ≡ type_in w → OfTypes types (λ g. s ≡ is_sequence g t) → p < q → q < p + 2 * n → l ≡ pick (and sequence (eqb i 1)) 0 1 → l ≤ 1
+  pub descent_into : (w n t l : ℕ) (s : Bool) → w ≡ get_or part p 0 → n ≡ size_in w → t ≡ type_in w → OfHeads types (λ g. s ≡ is_sequence g t) → p < q → q < p + 2 * n → l ≡ pick (and sequence (eqb i 1)) 0 1 → l ≤ 1
       → Descent types part q (p + 2) (above + l) s 0
   descent_into w n t l s ew en et es before within el low = record {
     near = omega arith;
@@ -222,11 +223,11 @@ module _ (types : Types) (part : Words) (q p above : ℕ) (sequence : Bool) (i :
     shallow = omega (arith, d.shallow);
     run = λ g u ws half hs r sm e eq.
         let y = d.run g u ws half hs r sm e eq in
-        let m = node_level g ws q p above sequence i y sm hs.heads_of.types in
-        rw (el, ← m) (enter g ws q p above sequence i y sm hs.heads_of.types w t s (ew ∙ rw e) et (es g hs) before (omega arith) half eq);
+        let m = node_level g ws q p above sequence i y sm hs.types in
+        rw (el, ← m) (enter g ws q p above sequence i y sm hs.types w t s (ew ∙ rw e) et (es g hs) before (omega arith) half eq);
   }
 
   pub descent_end : q ≤ p → (l : ℕ) → l ≡ pick (and sequence (eqb i 1)) 0 1 → NestingOf types part q (above + l)
   descent_end h l el g t ws half hs r s e eq =
       let y = d.run g t ws half hs r s e eq in
-      rw (el, ← node_level g ws q p above sequence i y s hs.heads_of.types) (reached g ws q p above sequence i y s hs.heads_of.types h)
+      rw (el, ← node_level g ws q p above sequence i y s hs.types) (reached g ws q p above sequence i y s hs.types h)

@@ -12,7 +12,7 @@ use borrow.Author.Tests.{ltb-true}
 use Rattle.words.specs.Reader.{Words, pick, and}
 use Rattle.grammar.specs.Grammar.{Kind, token, opt, sequence, forms, Grammar}
 use Rattle.grammar.specs.Kinds.{kind_of, allows, allowed, children_of, children, is_sequence_kind, is_sequence}
-use Rattle.tables.specs.Types.{OfTypes, TypesOf, Counted}
+use Rattle.tables.specs.Types.{OfHeads, TypesOf, Counted}
 use Rattle.tables.specs.declared.types.Types.{Types}
 use Rattle.tables.proofs.Lookups.{no_kind}
 use Rattle.tree.specs.Tree.{Trees, size, levels_of, levels, nesting_from, nesting, first, after, first_tree}
@@ -193,7 +193,7 @@ pub record Marking (types : Types) (t v : ℕ) (below : Words) (n k at i : ℕ) 
 pub marking_start : (types : Types) (t v : ℕ) (below : Words) → Marking types t v below 1 1 0 0
 marking_start types t v below = record { small = omega arith; low = omega arith; near = omega arith; run = λ g ws ts tb e r s. run_start g t v ws ts r }
 
-module _ (types : Types) (t v : ℕ) (below : Words) (n k at i : ℕ) (m : Marking types t v below n k at i) (count : ℕ) (seq : Bool) (counted : Counted types t v count) (is : OfTypes types (λ g. seq ≡ is_sequence g t)) where
+module _ (types : Types) (t v : ℕ) (below : Words) (n k at i : ℕ) (m : Marking types t v below n k at i) (count : ℕ) (seq : Bool) (counted : Counted types t v count) (is : OfHeads types (λ g. seq ≡ is_sequence g t)) where
   pub marking_more : i < count → (w n' k' d top : ℕ) → w ≡ get_or below at 0 → (n' ≡ size_in w) × (n' < 4096) → (k' ≡ nesting_in w) × (k' < 16384) → d ≡ pick (and seq (eqb i 1)) 0 1 → d ≤ 1 → top ≡ max k (k' + d)
       → Marking types t v below (n + n') top (at + 2 * n') (i + 1)
   marking_more h w n' k' d top ew en ek ed ld et = record {
@@ -201,14 +201,14 @@ module _ (types : Types) (t v : ℕ) (below : Words) (n k at i : ℕ) (m : Marki
     low = omega (arith, m.low, ek.1);
     near = omega (arith, m.near, en.1);
     run = λ g ws ts tb e r s.
-        let z = run_step g t v ws ts n k at i w d (m.run g ws ts tb e r s) (omega (arith, counted.count g tb)) tb.heads_of.types s (ew ∙ rw e) (ed ∙ rw (is g tb)) in
+        let z = run_step g t v ws ts n k at i w d (m.run g ws ts tb e r s) (omega (arith, counted.count g tb.rows_of_lem)) tb.heads_of.types s (ew ∙ rw e) (ed ∙ rw (is g tb.heads_of)) in
         rw (en.0, et, ek.0) z;
   }
 
   pub marking_end : count ≤ i → (r : ℕ) → (mark t n k < 2 ^ 32 → r ≡ mark t n k) → MarkMade types t v below r
   marking_end h r f g ws ts tb e trees a s =
       let z = m.run g ws ts tb e trees s in
-      let over : length (drop i (children g t v)) ≡ 0 = omega (arith, length-drop i (children g t v), counted.count g tb) in
+      let over : length (drop i (children g t v)) ≡ 0 = omega (arith, length-drop i (children g t v), counted.count g tb.rows_of_lem) in
       made g t v ws n k r (end_size g t v ws n at (length (drop i (children g t v))) over z.sizes) (end_nest g t v ws k at (length (drop i (children g t v))) (drop i (levels g t v 1)) over z.nests)
       (f (small_mark t n k (omega (arith, type_there g t v a, tb.heads_of.types)) (omega (arith, end_size g t v ws n at (length (drop i (children g t v))) over z.sizes))
       (omega (arith, end_nest g t v ws k at (length (drop i (children g t v))) (drop i (levels g t v 1)) over z.nests, nesting_size g (first_tree g (t ∷ v ∷ ws))))))

@@ -3,6 +3,7 @@ use Rattle.std.specs.Prelude.{ℕ, ◌+◌, ◌-◌, ◌*◌, ◌≤◌, ◌≡�
 use Rattle.words.specs.Reader.{Words}
 use Rattle.grammar.specs.Grammar.{Grammar}
 use Rattle.grammar.specs.Kinds.{allowed, children}
+use Rattle.tables.specs.Tables.{Heads}
 use Rattle.tables.specs.Types.{TypesOf}
 use Rattle.tables.specs.declared.types.Types.{Types}
 use Rattle.tree.specs.Limits.{most_nodes}
@@ -90,7 +91,7 @@ SameTree arena start part r = (g : Grammar) (u ws : Words) (t : ℕ) (ts : List 
 
 -- r says whether the first tree of the part holds a blank
 abbrev pub HoldsBlank : Types → Words → Bool → Type 0
-HoldsBlank types part r = (g : Grammar) (ws : Words) (t : ℕ) (ts : List ℕ) → TypesOf g types → part ≡ marked g ws → Trees g (t ∷ ts) ws → size ws ≤ most_nodes → r ≡ holds_blank g (first_tree g ws)
+HoldsBlank types part r = (g : Grammar) (ws : Words) (t : ℕ) (ts : List ℕ) → Heads g types.heads → part ≡ marked g ws → Trees g (t ∷ ts) ws → size ws ≤ most_nodes → r ≡ holds_blank g (first_tree g ws)
 
 -- a scope stands from base to end, with a node at the place; above it, from `from` on, stands a tree of n words that gives a tree when put in the node's place
 pub record Ready (g : Grammar) (w : Words) (base place end from n t : ℕ) (scope ws : Words) : Type 0 where
@@ -115,4 +116,4 @@ pub record InPlace (types : Types) (w w' : Words) (base place end from n : ℕ) 
 
 -- r is the nesting of the node at q in the marked tree that the part is
 abbrev pub NestingOf : Types → Words → ℕ → ℕ → Type 0
-NestingOf types part q r = (g : Grammar) (t : ℕ) (ws : Words) (half : ℕ) → TypesOf g types → Trees g (t ∷ []) ws → size ws ≤ most_nodes → part ≡ marked g ws → q ≡ 2 * half → r ≡ node_nesting g ws (1 ∷ []) q
+NestingOf types part q r = (g : Grammar) (t : ℕ) (ws : Words) (half : ℕ) → Heads g types.heads → Trees g (t ∷ []) ws → size ws ≤ most_nodes → part ≡ marked g ws → q ≡ 2 * half → r ≡ node_nesting g ws (1 ∷ []) q

@@ -2,7 +2,7 @@
 use Rattle.std.specs.Prelude.{ℕ, ◌<◌, ◌≡◌, length, get_or}
 use Rattle.words.specs.Reader.{Words, value}
 use Rattle.grammar.specs.Grammar.{Grammar}
-use Rattle.tables.specs.Types.{TypesOf}
+use Rattle.tables.specs.Types.{AllTypesOf}
 use Rattle.tables.specs.declared.types.Types.{Types}
 use Rattle.rules.specs.Rules.{Rule, Rules}
 use Rattle.rules.specs.Layout as Layout
@@ -27,6 +27,6 @@ pub record Book (types : ℕ) (ws starts : Words) (rules : Rules) : Type 0 where
 -- the words are those of a book of rules that stand at these positions, over the types of a grammar
 pub record Given (types : Types) (ws starts : Words) : Type 0 where
   pub grammar : Grammar
-  pub types_of : TypesOf grammar types
+  pub types_of : AllTypesOf grammar types
   pub rules : Rules
   pub book : Book types.count ws starts rules

@@ -3,16 +3,16 @@ ghost use Rattle.std.specs.Prelude.{◌≤◌, ◌<◌, ◌^◌, length, get_or}
 ghost use Rattle.pairs.specs.Book.{Given};
 
 use rules::limits::STARTS;
-use tables::Types;
+use tables::GrammarTypes;
 
 #[derive(Clone, Copy)]
 pub struct Rulebook<'a> {
-    pub types: &'a Types,
+    pub types: &'a GrammarTypes,
     pub words: &'a [u32],
     pub starts: &'a [usize; STARTS],
     ghost few: { get_or words.now 0 0 ≤ 64 },
     ghost short: { length words.now < 2 ^ 32 },
-    ghost given: { ∥ Given types.now words.now starts.now ∥₁ },
+    ghost given: { ∥ Given types.now.types words.now starts.now ∥₁ },
 }
 
 impl<'a> Rulebook<'a> {

@@ -24,10 +24,10 @@ pub mod book;
 // May rule a be applied here, to a scope of type s?
 fn rule_usable(here: Place, book: &Rulebook, s: u32, a: u32) -> bool
     requires { a < 64 }
-    ensures { (rule : Rule) → Headed book.now.types.now.count book.now.words.now (get_or book.now.starts.now a 0) rule → result ≡ rule_usable (place_as here) rule s }
+    ensures { (rule : Rule) → Headed book.now.types.now.types.count book.now.words.now (get_or book.now.starts.now a 0) rule → result ≡ rule_usable (place_as here) rule s }
 {
     let types = book.types;
-    match rules::read_head(types.count, book.words, book.rule_at(a)) {
+    match rules::read_head(types.types.count, book.words, book.rule_at(a)) {
         Ok(head) => {
             dues::applies_rule(here, head.map) && dues::fits_scope(head.strategy, head.target, s)
         }
@@ -42,17 +42,18 @@ fn usable(here: Place, book: &Rulebook, s: u32, a: u32) -> bool
     if a < book.count() {
         rule_usable(here, book, s, a)
     } else {
-        dues::applies_operation(here, a) && dues::operates_on(book.types, a, s)
+        let types = book.types;
+        dues::applies_operation(here, a) && dues::operates_on(&types.types, a, s)
     }
 }
 
 // The pair of a rule that is usable: its count of arguments, and what they are.
 fn meet_rule(book: &Rulebook, pair: Pair, stack: &mut Stack) -> Result<Option<u32>, Refusal>
     requires { (pair.first < 64) × (length stack.old < 890) }
-    ensures { (rule : Rule) → Headed book.now.types.now.count book.now.words.now (get_or book.now.starts.now pair.first 0) rule → (Γ : Typing.Context) → Meets result Γ stack.old stack.new (arguments_counted (map exactly rule.parameters) Γ pair.second pair.at) }
+    ensures { (rule : Rule) → Headed book.now.types.now.types.count book.now.words.now (get_or book.now.starts.now pair.first 0) rule → (Γ : Typing.Context) → Meets result Γ stack.old stack.new (arguments_counted (map exactly rule.parameters) Γ pair.second pair.at) }
 {
     let types = book.types;
-    let head = rules::read_head(types.count, book.words, book.rule_at(pair.first))?;
+    let head = rules::read_head(types.types.count, book.words, book.rule_at(pair.first))?;
     if pair.second != head.count {
         return Err(pair.second_at(Fault::NotUsable));
     }
@@ -95,14 +96,13 @@ fn meet(
     requires { length stack.old < 890 }
     ensures { OfBook book.now (λ g rules. Meets result variables.now stack.old stack.new (Typing.meets g rules (place_as here) (due_as due) variables.now pair.first pair.second pair.at)) }
 {
+    let types = book.types;
     match due {
-        Due::Tree(nesting, d) => {
-            dues::meet_tree(here, book.types, nesting, d, pair, variables, stack)
-        }
+        Due::Tree(nesting, d) => dues::meet_tree(here, types, nesting, d, pair, variables, stack),
         Due::Chain => dues::meet_start(pair, variables, stack),
         Due::Count(s) => dues::meet_count(s, pair, stack),
         Due::Application(s) => meet_application(here, book, s, pair, stack),
-        Due::Argument(wanted) => dues::meet_argument(book.types, wanted, pair, variables),
+        Due::Argument(wanted) => dues::meet_argument(&types.types, wanted, pair, variables),
     }
 }
 
@@ -119,12 +119,13 @@ fn pairs_typed(
     requires { (length ps.now ≤ 256) × (start < 2 ^ 33) }
     ensures { OfBook book.now (λ g rules. result ≡ typed_as (whole (Typing.meets g rules (place_as here)) 23 ps.now (due_as first ∷ []) variables.now start)) }
 {
+    let types = book.types;
     let mut known = variables.copy();
     let mut i: usize = 0;
     stack.clear();
     stack.push(first);
     while let Some(due) = stack.pop() {
-        let from = dues::pass_tokens(here, book.types, due, ps, i);
+        let from = dues::pass_tokens(here, &types.types, due, ps, i);
         if ps.len() - from < 2 {
             return Err(Refusal::new(Fault::Misplaced, start + ps.len()));
         }

@@ -192,9 +192,8 @@ module _ (pairs w : Words) (target base end from last live : ℕ) (left : State)
   candidate_found = passing_done (ClashesAt pairs w end live) w target base from last left r.node r.left moved found.next.typed
 
   module _ (l : r.node < last) where
-    pub candidate_begun : first.further ≡ true → 0 < r.left.attempts → Begun pairs (span w (base + 2 * r.node) end)
-    candidate_begun e some =
-        let v = known.given e in
+    pub candidate_begun : (v : ℕ) × (first.value ≡ Some v) → 0 < r.left.attempts → Begun pairs (span w (base + 2 * r.node) end)
+    candidate_begun v some =
         let f : FirstValue pairs target (Some v.0) = rw v.1 at known.value_is in
         let a : allowed (Some v.0) (get_or w (base + 2 * r.node + 1) 0) ≡ true = rw v.1 at (found.valued l some) in
         let k = part_begins pairs w target base end last room r.node l (found.next.typed l) f.0 in

@@ -101,7 +101,7 @@ module _ (types : Types) (ty : ℕ) (pairs arena part : Words) (at : ℕ) (vars 
 
   module _ (two : 2 ≤ length part - p) (w : ℕ) (ew : w ≡ get_or part p 0) where
     here : {strict : Bool} {g : Grammar} {ws : Words} {b : Bindings} {left : State} (r : Run types strict g ty pairs arena part at vars live p ws b left) → Node g (drop p part) r.rest r.owed
-    here r = node_of _ (drop p part) r.rest r.owed r.stage.tables.heads_of.types r.stage.rest r.stage.marks (omega (arith, length-drop p part))
+    here r = node_of _ (drop p part) r.rest r.owed r.stage.tables.types r.stage.rest r.stage.marks (omega (arith, length-drop p part))
 
     type_is : {strict : Bool} {g : Grammar} {ws : Words} {b : Bindings} {left : State} (r : Run types strict g ty pairs arena part at vars live p ws b left) → type_in w ≡ (here r).t
     type_is r = ap type_in (ew ∙ ap (λ n. get_or part n 0) (sym (add-zero p)) ∙ sym (get_or-drop p part 0 0)) ∙ (here r).type_in_lem

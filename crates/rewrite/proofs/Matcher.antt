@@ -142,14 +142,14 @@ answers_kept {types} {arena} {part} {at} {live} {f} u v e k a = record {
 -- A PAIR
 
 -- a variable whose tree is another does not match
-pub variable_other : {types : Types} {arena part : Words} {start : ℕ} (equal : Bool) → equal ≡ false → SameTree arena start part equal → VariableTold types arena start part false
+pub variable_other : (types : Types) {arena part : Words} {start : ℕ} (equal : Bool) → equal ≡ false → SameTree arena start part equal → VariableTold types arena start part false
 unfolding same_tree
-variable_other equal e s g u ws t ts hs st m tr k = rw (← s g u ws t ts hs.heads_of.types st m tr k, e)
+variable_other types equal e s g u ws t ts hs st m tr k = rw (← s g u ws t ts hs.types st m tr k, e)
 
 -- .. one whose tree is the same matches unless that holds a blank
-pub variable_same : {types : Types} {arena part : Words} {start : ℕ} (equal : Bool) → equal ≡ true → SameTree arena start part equal → (blank : Bool) → HoldsBlank types part blank → VariableTold types arena start part (not blank)
+pub variable_same : (types : Types) {arena part : Words} {start : ℕ} (equal : Bool) → equal ≡ true → SameTree arena start part equal → (blank : Bool) → HoldsBlank types part blank → VariableTold types arena start part (not blank)
 unfolding same_tree
-variable_same equal e s blank h g u ws t ts hs st m tr k = rw (← s g u ws t ts hs.heads_of.types st m tr k, e, ← h g ws t ts hs m tr k)
+variable_same types equal e s blank h g u ws t ts hs st m tr k = rw (← s g u ws t ts hs.types st m tr k, e, ← h g ws t ts hs m tr k)
 
 -- THE LOOP
 
@@ -318,7 +318,7 @@ module _ (types : Types) (pairs arena part : Words) (at : ℕ) (vars : Vars) (he
     module _ (more : p + 2 ≤ length part) (w : ℕ) (ew : w ≡ get_or part p 0) where
       -- the node that stands here
       here : {strict : Bool} {g : Grammar} {ws : Words} {b : Bindings} {left : State} (r : Run types strict g pairs arena part at env held i p ws b left) → Node g (drop p part) r.rest r.owed
-      here r = node_of _ (drop p part) r.rest r.owed r.stage.tables.heads_of.types r.stage.rest r.stage.marks (omega (arith, length-drop p part))
+      here r = node_of _ (drop p part) r.rest r.owed r.stage.tables.types r.stage.rest r.stage.marks (omega (arith, length-drop p part))
 
       at_first : get_or (drop p part) 0 0 ≡ w
       at_first = get_or-drop p part 0 0 ∙ ap (λ n. get_or part n 0) (add-zero p) ∙ sym ew

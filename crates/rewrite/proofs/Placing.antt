@@ -11,6 +11,7 @@ use borrow.Author.Tests.{le-leb, lt-leb, leb-true, leb-false, lt-ltb, le-ltb, lt
 use Rattle.std.specs.Prelude.{Result, Ok, Err}
 use Rattle.words.specs.Reader.{Words}
 use Rattle.grammar.specs.Grammar.{Grammar}
+use Rattle.tables.specs.Tables.{Heads}
 use Rattle.tables.specs.Types.{TypesOf}
 use Rattle.tables.specs.declared.types.Types.{Types}
 use Rattle.tree.specs.Tree.{Trees, Tree, size, nesting_from, nesting, node_nesting, after, first_tree, put}
@@ -117,17 +118,17 @@ ltb_as a b m n e = go (leb b n) refl
 
 module _ (types : Types) (w : Words) (base n i from deepest : ℕ) (inside : i < n) (ed : deepest ≡ nesting_in (get_or w from 0)) where
   -- the new tree nests as deep as its mark says
-  new_nests : (g : Grammar) (target m : ℕ) (ws : Words) → TypesOf g types → Standing g w from m target ws → deepest ≡ nesting g ws
+  new_nests : (g : Grammar) (target m : ℕ) (ws : Words) → Heads g types.heads → Standing g w from m target ws → deepest ≡ nesting g ws
   new_nests g target m ws hs x =
       let few = x.tree.nodes in
-      ed ∙ nesting_there w ws from m hs.heads_of.types x.tree.typed x.nodes (omega (arith, x.nodes)) x.words
+      ed ∙ nesting_there w ws from m hs.types x.tree.typed x.nodes (omega (arith, x.nodes)) x.words
 
   -- no deeper than the old one
   pub deep_not : (before : ℕ) → before ≡ nesting_in (get_or w (base + 2 * i) 0) → deepest ≤ before → TooDeep types w base n i from false
   deep_not before eb less g t target m scope ws hs s x o =
       let few = s.tree.nodes in
       let in_scope : i < size scope = omega (arith, s.nodes) in
-      let old = child_there g t i scope in_scope s.tree.typed w base n hs.heads_of.types s.nodes (omega (arith, s.nodes)) s.words in
+      let old = child_there g t i scope in_scope s.tree.typed w base n hs.types s.nodes (omega (arith, s.nodes)) s.words in
       sym (le-ltb 64 (nesting g (put g scope (2 * i) ws)) (put_flat g t target i scope ws in_scope s.tree.typed o.typed x.tree.typed 64 s.tree.nested
       (omega (arith, new_nests g target m ws hs x, eb, old.2.nested))))
 
@@ -188,7 +189,7 @@ module _ (types : Types) (w : Words) (base n i from m k : ℕ) (inside : i < n) 
       most = λ e. absurd (no_ok e);
       few = λ e. absurd (no_ok e);
       replaced = λ g t target scope ws tb s x o.
-          let over = ltb-true 64 (nesting g (put g scope (2 * i) ws)) (sym (is g t target m scope ws tb s x o) ∙ e) in
+          let over = ltb-true 64 (nesting g (put g scope (2 * i) ws)) (sym (is g t target m scope ws tb.heads_of s x o) ∙ e) in
           (rw (nodes_are g t target scope ws tb s x o, le-leb (n - k + m) 2048 few, lt-leb (nesting g (put g scope (2 * i) ws)) 64 over), refl);
     }
 
@@ -198,7 +199,7 @@ module _ (types : Types) (w : Words) (base n i from m k : ℕ) (inside : i < n) 
       most = λ e. omega (arith, ok_is e);
       few = λ e l. omega (arith, ok_is e);
       replaced = λ g t target scope ws tb s x o.
-          let flat = ltb-false 64 (nesting g (put g scope (2 * i) ws)) (sym (is g t target m scope ws tb s x o) ∙ e) in (
+          let flat = ltb-false 64 (nesting g (put g scope (2 * i) ws)) (sym (is g t target m scope ws tb.heads_of s x o) ∙ e) in (
             rw (nodes_are g t target scope ws tb s x o, le-leb (n - k + m) 2048 few, le-leb (nesting g (put g scope (2 * i) ws)) 64 flat),
             (placed g t target scope ws tb s x o flat).0,
             (placed g t target scope ws tb s x o flat).1,

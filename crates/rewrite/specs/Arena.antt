@@ -3,6 +3,7 @@ use Rattle.std.specs.Prelude.{ℕ, ◌+◌, ◌*◌, ◌<◌, ◌≤◌, ◌≡�
 use Rattle.words.specs.Reader.{Words, pick}
 use Rattle.grammar.specs.Grammar.{Grammar}
 use Rattle.grammar.specs.Limits.{most_types}
+use Rattle.tables.specs.Tables.{Heads}
 use Rattle.tables.specs.Types.{TypesOf}
 use Rattle.tables.specs.declared.types.Types.{Types}
 use Rattle.meaning.specs.Limits.{most_live}
@@ -65,7 +66,7 @@ pub record Standing (g : Grammar) (w : Words) (base n t : ℕ) (ws : Words) : Ty
 
 -- r says whether the scope of n nodes at base would nest too deep with the tree at `from` in the place of its node i
 abbrev pub TooDeep : Types → Words → ℕ → ℕ → ℕ → ℕ → Bool → Type 0
-TooDeep types w base n i from r = (g : Grammar) (t target m : ℕ) (scope ws : Words) → TypesOf g types → Standing g w base n t scope → Standing g w from m target ws
+TooDeep types w base n i from r = (g : Grammar) (t target m : ℕ) (scope ws : Words) → Heads g types.heads → Standing g w base n t scope → Standing g w from m target ws
     → Tree g target (first_tree g (drop (2 * i) scope)) → r ≡ ltb most_nesting (nesting g (put g scope (2 * i) ws))
 
 -- the stop 42 or 43 of a scope, unless it is within both limits

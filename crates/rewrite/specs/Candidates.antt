@@ -24,9 +24,15 @@ abbrev pub FirstValue : Words → ℕ → Option ℕ → Type 0
 FirstValue pairs target (Some v) = BeginsWithNode pairs target × (get_or pairs 1 0 ≡ v)
 FirstValue pairs target None = Unit {0}
 
--- what is looked up of a pattern before a search
+-- what a search must know of a pattern
 pub record FirstOf (pairs : Words) (target : ℕ) (first : First) : Type 0 where
   pub value_is : FirstValue pairs target first.value
+
+-- what is looked up of a pattern before a search: the value is given wherever the pattern's first pair has the target's type, and there alone; and only then is
+-- it worth looking further
+pub record FirstFound (pairs : Words) (target : ℕ) (first : First) : Type 0 where
+  pub known : FirstOf pairs target first
+  pub whole : BeginsWithNode pairs target → first.value ≡ Some (get_or pairs 1 0)
   pub given : first.further ≡ true → (v : ℕ) × (first.value ≡ Some v)
 
 -- the pattern's first pair is a node, and the part begins with that node

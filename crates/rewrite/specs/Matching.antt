@@ -3,7 +3,7 @@ use Rattle.std.specs.Prelude.{ℕ, ◌+◌, ◌*◌, ◌<◌, ◌≤◌, ◌≡�
 use Rattle.std.proofs.Math.Option.{Option, none, some}
 use Rattle.words.specs.Reader.{Words}
 use Rattle.grammar.specs.Grammar.{Grammar}
-use Rattle.tables.specs.Types.{TypesOf}
+use Rattle.tables.specs.Tables.{Heads}
 use Rattle.tables.specs.declared.types.Types.{Types}
 use Rattle.rules.specs.Limits.{most_variables, mark_new, mark_variable}
 use Rattle.rules.specs.Rules.{shapes}
@@ -31,7 +31,7 @@ pub data NewTold (w ty n live : ℕ) (r : Result ℕ Verdict) : Type 0 where
 
 -- r says whether a variable whose tree stands at `start` matches the first tree of the part
 abbrev pub VariableTold : Types → Words → ℕ → Words → Bool → Type 0
-VariableTold types arena start part r = (g : Grammar) (u ws : Words) (t : ℕ) (ts : List ℕ) → TypesOf g types → Stands g arena start u → part ≡ marked g ws → Trees g (t ∷ ts) ws → size ws ≤ most_nodes
+VariableTold types arena start part r = (g : Grammar) (u ws : Words) (t : ℕ) (ts : List ℕ) → Heads g types.heads → Stands g arena start u → part ≡ marked g ws → Trees g (t ∷ ts) ws → size ws ≤ most_nodes
     → r ≡ same_tree g u (first_tree g ws)
 
 -- what a pair (t, v) set against the node at p of the part comes to, if the tree of the variable v stands at `start`: likewise
@@ -56,7 +56,7 @@ match_in places m = record { verdict = m.verdict; vars = vars_of places m.bound;
 
 -- the part, which begins at `at` in the arena, is what is left of a marked tree; the variables' trees stand in the arena; so many nodes are live
 pub record Stage (types : Types) (g : Grammar) (arena part : Words) (at : ℕ) (vars : Vars) (live : ℕ) (ws : Words) (ts : List ℕ) (b : Bindings) : Type 0 where
-  pub tables : TypesOf g types
+  pub tables : Heads g types.heads
   pub place : part ≡ take (length part) (drop at arena)
   pub inside : at + length part ≤ length arena
   pub marks : part ≡ marked g ws

@@ -1,6 +1,6 @@
 // The next node at which an attempt may match: attempts that must fail are only counted.
-ghost use Rattle.std.specs.Prelude.{◌≡◌, ◌+◌, ◌*◌, ◌<◌, ◌≤◌, true, length};
-ghost use Rattle.rewrite.specs.Candidates.{FirstValue, FirstOf, allowed, Begun, Clashes, NextStart, NextCandidate};
+ghost use Rattle.std.specs.Prelude.{ℕ, ◌≡◌, ◌+◌, ◌*◌, ◌<◌, ◌≤◌, true, length, get_or, Some};
+ghost use Rattle.rewrite.specs.Candidates.{BeginsWithNode, FirstValue, FirstOf, FirstFound, allowed, Begun, Clashes, NextStart, NextCandidate};
 
 use crate::MOST_LIVE;
 use meaning::State;
@@ -22,7 +22,8 @@ pub struct First {
 
 // The value of the pattern's first pair, if that is a node of the target's type. If it is a variable it is the whole pattern.
 fn first_value(pairs: &[u32], target: u32) -> Option<u32>
-    ensures { FirstValue pairs.now target result }
+    ensures known { FirstValue pairs.now target result }
+    ensures whole { BeginsWithNode pairs.now target → result ≡ Some (get_or pairs.now 1 0) }
 {
     if 2 <= pairs.len() && pairs[0] == target {
         Some(pairs[1])
@@ -44,7 +45,7 @@ fn node_follows(pairs: &[u32]) -> bool {
 
 // What is the same at every node of a search, looked up once.
 pub fn first_of(pairs: &[u32], target: u32) -> First
-    ensures { FirstOf pairs.now target result }
+    ensures { FirstFound pairs.now target result }
 {
     let value = first_value(pairs, target);
     let further = value.is_some() && node_follows(pairs);
@@ -131,6 +132,13 @@ fn clashes_later(pairs: &[u32], part: &[u32], live: usize) -> bool
     false
 }
 
+// Are later pairs looked at before an attempt? Only where the value of the first is known: it then stands where the search by it ends.
+fn looks_further(first: First) -> bool
+    ensures { result ≡ true → (v : ℕ) × (first.value ≡ Some v) }
+{
+    first.further && first.value.is_some()
+}
+
 // From the node `from` of the scope on, which stands from base to end: the first before `last` that has the target's type and at which the pattern need not
 // differ, or for which no attempt is left.
 pub fn next_candidate(
@@ -148,12 +156,13 @@ pub fn next_candidate(
     requires { (length pairs.now ≤ 256) × FirstOf pairs.now target first × (live ≤ 6144) × (0 < last → (base + 2 * last ≤ end) × (end ≤ length w.now)) }
     ensures { NextCandidate pairs.now w.now target base end from last live fuel result }
 {
+    let further = looks_further(first);
     let mut node = from;
     let mut left = fuel;
     // A `loop`, since each turn begins where the inner search ended.
     loop {
         let next = next_start(w, target, first.value, base, node, last, left);
-        if !first.further || last <= next.node || next.left.attempts == 0 {
+        if !further || last <= next.node || next.left.attempts == 0 {
             return next;
         }
         node = next.node;

@@ -9,7 +9,7 @@ use lib.ListN.{get_or, take, drop}
 use Rattle.words.specs.Reader.{Words}
 use Rattle.grammar.specs.Grammar.{Grammar}
 use Rattle.grammar.specs.Kinds.{children}
-use Rattle.tables.specs.Types.{OfTypes, TypesOf}
+use Rattle.tables.specs.Types.{OfRows, TypesOf}
 use Rattle.tables.specs.declared.types.Types.{Types}
 use Rattle.tree.specs.Limits.{most_nodes}
 use Rattle.tree.specs.Tree.{size}
@@ -23,7 +23,7 @@ use Rattle.sequences.proofs.Listing.{before_append, listed_nodes, listed_types}
 use Rattle.sequences.proofs.Loosening.{last_is, loosened_all}
 use Rattle.sequences.proofs.Joining.{made_from, made_many, stopped_many, stands_type, alike}
 
-module _ (types : Types) (w : Words) (base n start under besides m t e : ℕ) (some : 1 ≤ n) (held : besides ≤ most_live) (et : t ≡ type_in (get_or w base 0)) (ee : OfTypes types (λ g. e ≡ get_or (children g t 0) 0 0))
+module _ (types : Types) (w : Words) (base n start under besides m t e : ℕ) (some : 1 ≤ n) (held : besides ≤ most_live) (et : t ≡ type_in (get_or w base 0)) (ee : OfRows types (λ g. e ≡ get_or (children g t 0) 0 0))
     (at : NodesAt w start base m) where
   -- from a sequence of the same type, which is not of itself, all elements
   pub extracts_sequence : (t ≡ e → ⊥) → (b : ℕ) → b ≡ type_in (get_or w start 0) → b ≡ t → (w' : Words) (r : Result ℕ ℕ) → JoinsSequence types w w' base n start m under besides r → Extracts types w w' base n start under besides r

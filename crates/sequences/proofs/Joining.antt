@@ -12,7 +12,7 @@ use Rattle.words.specs.Reader.{Words}
 use Rattle.grammar.specs.Grammar.{Grammar}
 use Rattle.grammar.specs.Limits.{most_types}
 use Rattle.grammar.specs.Kinds.{children}
-use Rattle.tables.specs.Types.{OfTypes}
+use Rattle.tables.specs.Types.{OfRows}
 use Rattle.tables.specs.declared.types.Types.{Types}
 use Rattle.tree.specs.Limits.{most_nodes}
 use Rattle.tree.specs.Tree.{Trees, size, type_of}
@@ -134,7 +134,7 @@ own_type g t u same each = go (eqb (type_of u) t) refl
 
 -- EITHER: join appends what extract does, unless the sequence is of itself
 
-module _ (types : Types) (w w' : Words) (base n start under besides : ℕ) (r : Result ℕ ℕ) (t e : ℕ) (et : t ≡ type_in (get_or w base 0)) (ee : OfTypes types (λ g. e ≡ get_or (children g t 0) 0 0)) where
+module _ (types : Types) (w w' : Words) (base n start under besides : ℕ) (r : Result ℕ ℕ) (t e : ℕ) (et : t ≡ type_in (get_or w base 0)) (ee : OfRows types (λ g. e ≡ get_or (children g t 0) 0 0)) where
   pub joins_itself : e ≡ t → (m : ℕ) → NodesAt w start base m → JoinsSequence types w w' base n start m under besides r → Joins types w w' base n start under besides r
   unfolding joined
   joins_itself itself m at j = record {

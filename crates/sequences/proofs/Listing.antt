@@ -10,7 +10,7 @@ use Rattle.words.specs.Reader.{Words}
 use Rattle.grammar.specs.Grammar.{Grammar}
 use Rattle.grammar.specs.Limits.{most_types}
 use Rattle.grammar.specs.Kinds.{children, is_sequence}
-use Rattle.tables.specs.Types.{OfTypes, TypesOf}
+use Rattle.tables.specs.Types.{OfRows, TypesOf}
 use Rattle.tables.specs.declared.types.Types.{Types}
 use Rattle.tree.specs.Tree.{Trees, size, first_tree, type_of}
 use Rattle.tree.specs.Sequences.{element_of, spine, sequence_of, elements, EachTree, sizes}
@@ -111,9 +111,9 @@ module _ {g : Grammar} {w : Words} {p n t : ℕ} where
       (child_of g t [] ws (get_or w p 0) x.types small (sequence_trees g t x.is es x.each) word).root
 
   -- its type and its element's, as they are looked up
-  pub listed_types : {es : List Words} (types : Types) (a e : ℕ) → a ≡ type_in (get_or w p 0) → OfTypes types (λ g. e ≡ get_or (children g a 0) 0 0) → TypesOf g types → Listed g w p n t es → (a ≡ t) × (e ≡ element_of g t)
+  pub listed_types : {es : List Words} (types : Types) (a e : ℕ) → a ≡ type_in (get_or w p 0) → OfRows types (λ g. e ≡ get_or (children g a 0) 0 0) → TypesOf g types → Listed g w p n t es → (a ≡ t) × (e ≡ element_of g t)
   unfolding element_of
-  listed_types types a e ea ee tb x = let root = ea ∙ listed_root x in (root, ee g tb ∙ ap (λ l. get_or (children g l 0) 0 0) root)
+  listed_types types a e ea ee tb x = let root = ea ∙ listed_root x in (root, ee g tb.rows_of_lem ∙ ap (λ l. get_or (children g l 0) 0 0) root)
 
   -- its last node has the value 1
   pub listed_last : Listed g w p n t [] → get_or w (p + 1) 0 ≡ 1

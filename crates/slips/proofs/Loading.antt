@@ -17,7 +17,7 @@ use Rattle.tree.specs.Limits.{most_tree_words}
 use Rattle.tree.specs.Tree.{Tree}
 use Rattle.tree.specs.Slip.{read_slip}
 use Rattle.tables.specs.Types.{OfTypes}
-use Rattle.tables.specs.declared.types.Types.{Types}
+use Rattle.tables.specs.declared.grammar_types.GrammarTypes.{GrammarTypes}
 use Rattle.tree.proofs.Reading.{some_types}
 use Rattle.tree.proofs.Trees.{trees_even}
 use Rattle.tree.proofs.Slip.{counted_length, slip_sound}
@@ -27,9 +27,9 @@ use Rattle.slips.specs.Slips.{ReadBeside, SlipRead}
 
 -- THE TREE IN THE MEMORY, or the slip refused
 
-module _ (types : Types) (slip b b' w : Words) (c : Result ℕ (ℕ × ℕ)) (s : ReadBeside (λ g. read_slip g slip) types b b' c) where
+module _ (types : GrammarTypes) (slip b b' w : Words) (c : Result ℕ (ℕ × ℕ)) (s : ReadBeside (λ g. read_slip g slip) types.types b b' c) where
   abbrev Answers : Words → Result ℕ (ℕ × ℕ) → Type 0
-  Answers w' r = SlipRead (λ g. read_slip g slip) types w w' r
+  Answers w' r = SlipRead (λ g. read_slip g slip) types.types w w' r
 
   pub beside_refused : {x : ℕ × ℕ} → c ≡ Err x → Answers w (Err x)
   beside_refused {x} e = record {
@@ -60,7 +60,7 @@ module _ (types : Types) (slip b b' w : Words) (c : Result ℕ (ℕ × ℕ)) (s 
         let x = slip_sound g slip ws next q in
         record { tree = x.0; words = omega (arith, ap length x.1, counted_length g ws, trees_even x.0.typed) }
 
-    read : OfTypes types (λ g. (ws : Words) × (read_slip g slip ≡ value ws p))
+    read : OfTypes types.types (λ g. (ws : Words) × (read_slip g slip ≡ value ws p))
     read g t = answer_passed (read_slip g slip) c (s.answered g t) e
 
     pub slip_fits : end ≤ most_tree_words

@@ -19,6 +19,7 @@ use Rattle.grammar.specs.Grammar.{Grammar, read_grammar, grammar_fits, check_gra
 use Rattle.tables.specs.Tables.{read_of}
 use Rattle.tables.specs.Types.{TypesOf, OfTypes}
 use Rattle.tables.specs.declared.types.Types.{Types}
+use Rattle.tables.specs.declared.grammar_types.GrammarTypes.{GrammarTypes}
 use Rattle.tree.specs.Limits.{most_tree_words, most_slip_words}
 use Rattle.tree.specs.Tree.{Tree}
 use Rattle.tree.specs.Reading.{read_tree}
@@ -46,9 +47,9 @@ laid_marked g ws types b b₁ b₂ n long t tr e m =
     let u : UnderWay g (span b₁ 0 n) ws = rw (z, there) (under_plain tr.typed) in
     m.marks g 0 ws t tr.typed tr.nodes u ∙ ap (λ l. marked g ws ++ l) (ap (drop n) e ∙ drop_at ws (drop n b) n long)
 
-module _ (types : Types) (slip b : Words) where
+module _ (types : GrammarTypes) (slip b : Words) where
   abbrev Answers : Words → Result ℕ (ℕ × ℕ) → Type 0
-  Answers b' r = ReadBeside (λ g. read_slip g slip) types b b' r
+  Answers b' r = ReadBeside (λ g. read_slip g slip) types.types b b' r
 
   -- 30
 
@@ -75,11 +76,11 @@ module _ (types : Types) (slip b : Words) where
       end = 2 * (length slip / 3)
 
       -- the tree is in the buffer, and read there
-      module _ (b₁ : Words) (eb : b₁ ≡ uncounted slip ++ drop end b) (a : Result ℕ (ℕ × ℕ)) (read : OfTypes types (λ g. a ≡ answer (read_tree g (take end b₁)))) where
+      module _ (b₁ : Words) (eb : b₁ ≡ uncounted slip ++ drop end b) (a : Result ℕ (ℕ × ℕ)) (read : OfTypes types.types (λ g. a ≡ answer (read_tree g (take end b₁)))) where
         plain_there : take end b₁ ≡ uncounted slip
         plain_there = ap (take end) eb ∙ take_at (uncounted slip) (drop end b) end (uncounted_length slip)
 
-        plain_read : (g : Grammar) → TypesOf g types → a ≡ answer (read_tree g (uncounted slip))
+        plain_read : (g : Grammar) → TypesOf g types.types → a ≡ answer (read_tree g (uncounted slip))
         plain_read g t = read g t ∙ ap (λ l. answer (read_tree g l)) plain_there
 
         pub slip_within : {x : ℕ × ℕ} → a ≡ Err x → x.1 ≤ most_tree_words
@@ -90,13 +91,13 @@ module _ (types : Types) (slip b : Words) where
         slip_refused e q eq = refused_read (λ g t. slip_fits g ∙ rw (answer_refused (read_tree g (uncounted slip)) a (plain_read g t) e, eq))
 
         -- .. and marked there
-        module _ {p : ℕ} (e : a ≡ Ok p) (b₂ : Words) (m : TreeMarked types b₁ b₂ 0 end) (r : Result ℕ (ℕ × ℕ)) (er : r ≡ answer (counts_as slip (take end b₂) 0)) where
-          module _ (g : Grammar) (t : TypesOf g types) where
+        module _ {p : ℕ} (e : a ≡ Ok p) (b₂ : Words) (m : TreeMarked types.types b₁ b₂ 0 end) (r : Result ℕ (ℕ × ℕ)) (er : r ≡ answer (counts_as slip (take end b₂) 0)) where
+          module _ (g : Grammar) (t : TypesOf g types.types) where
             plain_tree : Tree g 0 (uncounted slip)
             plain_tree = accepted_tree g 0 (uncounted slip) (rw (answer_passed (read_tree g (uncounted slip)) a (plain_read g t) e).1)
 
             whole : b₂ ≡ marked g (uncounted slip) ++ drop end b
-            whole = laid_marked g (uncounted slip) types b b₁ b₂ end (uncounted_length slip) t plain_tree eb m
+            whole = laid_marked g (uncounted slip) types.types b b₁ b₂ end (uncounted_length slip) t plain_tree eb m
 
             marked_there : take end b₂ ≡ marked g (uncounted slip)
             marked_there = ap (take end) whole ∙ take_at (marked g (uncounted slip)) (drop end b) end (marked_length g (uncounted slip) ∙ uncounted_length slip)
@@ -120,21 +121,21 @@ module _ (types : Types) (slip b : Words) where
 
 -- THE TWO-WORD EDITION
 
-module _ (types : Types) (slip w : Words) (a : Result ℕ (ℕ × ℕ)) (read : OfTypes types (λ g. a ≡ answer (read_tree g slip))) where
+module _ (types : GrammarTypes) (slip w : Words) (a : Result ℕ (ℕ × ℕ)) (read : OfTypes types.types (λ g. a ≡ answer (read_tree g slip))) where
   abbrev Plain : Words → Result ℕ (ℕ × ℕ) → Type 0
-  Plain w' r = SlipRead (λ g. read_edition false g slip) types w w' r
+  Plain w' r = SlipRead (λ g. read_edition false g slip) types.types w w' r
 
   pub plain_refused : {x : ℕ × ℕ} → a ≡ Err x → Plain w (Err x)
   unfolding read_edition
   plain_refused {x} e =
-      let s : ReadBeside (λ g. read_edition false g slip) types w w (Err x) = refused_read (λ g t. rw (answer_refused (read_tree g slip) a (read g t) e)) in
+      let s : ReadBeside (λ g. read_edition false g slip) types.types w w (Err x) = refused_read (λ g t. rw (answer_refused (read_tree g slip) a (read g t) e)) in
       record { answered = s.answered; long = refl; kept = λ h. refl; short = λ h. refl; tree = λ g ws next t h room. s.tree g ws next t h }
 
   module _ {p : ℕ} (e : a ≡ Ok p) where
-    tree_here : (g : Grammar) → TypesOf g types → Tree g 0 slip
+    tree_here : (g : Grammar) → TypesOf g types.types → Tree g 0 slip
     tree_here g t = accepted_tree g 0 slip (rw (answer_passed (read_tree g slip) a (read g t) e).1)
 
-    plain_answered : OfTypes types (λ g. Ok p ≡ answer (read_edition false g slip))
+    plain_answered : OfTypes types.types (λ g. Ok p ≡ answer (read_edition false g slip))
     unfolding read_edition
     plain_answered g t = rw (answer_passed (read_tree g slip) a (read g t) e).1
 
@@ -147,7 +148,7 @@ module _ (types : Types) (slip w : Words) (a : Result ℕ (ℕ × ℕ)) (read : 
     pub plain_short : length w < most_tree_words → Plain w (Ok p)
     plain_short few = record { answered = plain_answered; long = refl; kept = no_refusal; short = λ h. refl; tree = λ g ws next t h room. absurd (omega arith) }
 
-    pub plain_passed : most_tree_words ≤ length w → (w₁ : Words) → w₁ ≡ slip ++ drop (length slip) w → (w₂ : Words) → length w₂ ≡ length w → TreeMarked types w₁ w₂ 0 (length slip) → Plain w₂ (Ok p)
+    pub plain_passed : most_tree_words ≤ length w → (w₁ : Words) → w₁ ≡ slip ++ drop (length slip) w → (w₂ : Words) → length w₂ ≡ length w → TreeMarked types.types w₁ w₂ 0 (length slip) → Plain w₂ (Ok p)
     unfolding read_edition
     plain_passed room w₁ ew w₂ long m = record {
       answered = plain_answered;
@@ -157,7 +158,7 @@ module _ (types : Types) (slip w : Words) (a : Result ℕ (ℕ × ℕ)) (read : 
       tree = λ g ws next t h enough.
           let q = (then_value (read_tree g slip) (λ u. return slip) h).3 in
           let same : slip ≡ ws = cc in
-          laid_marked g slip types w w₁ w₂ (length slip) refl t (tree_here g t) ew m ∙ rw same;
+          laid_marked g slip types.types w w₁ w₂ (length slip) refl t (tree_here g t) ew m ∙ rw same;
     }
 
 -- EITHER EDITION

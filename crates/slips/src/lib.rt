@@ -8,7 +8,7 @@ ghost use Rattle.tree.specs.Limits.{most_tree_words};
 ghost use Rattle.tree.specs.Slip.{place_in, uncounted, read_slip, read_edition, check_slip};
 ghost use Rattle.slips.specs.Slips.{counts_as, ReadBeside, SlipRead, SlipWritten};
 
-use tables::Types;
+use tables::GrammarTypes;
 use tree::limits::{MOST_SLIP_WORDS, MOST_WORDS};
 use words::{Fault, Refusal};
 
@@ -48,11 +48,11 @@ fn check_counts(slip: &[u32], part: &[u32]) -> Result<usize, Refusal>
 
 // The check of a slip against the grammar whose types these are. Where nothing is refused, its tree stands at the start of the buffer, marked.
 fn read_beside(
-    types: &Types,
+    types: &GrammarTypes,
     slip: &[u32],
     buffer: &mut [u32; MOST_WORDS],
 ) -> Result<usize, Refusal>
-    ensures { ReadBeside (λ g. read_slip g slip.now) types.now buffer.old buffer.new result }
+    ensures { ReadBeside (λ g. read_slip g slip.now) types.now.types buffer.old buffer.new result }
 {
     if slip.is_empty() || MOST_SLIP_WORDS < slip.len() || slip.len() % 3 != 0 {
         return Err(Refusal::new(Fault::SlipLength, 0));
@@ -62,7 +62,7 @@ fn read_beside(
     match tree::read_tree(types, &buffer[..end]) {
         Err(refusal) => Err(refusal.at(place_in(refusal.position()))),
         Ok(_) => {
-            marks::mark_tree(types, buffer, 0, end);
+            marks::mark_tree(&types.types, buffer, 0, end);
             check_counts(slip, &buffer[..end])
         }
     }
@@ -81,8 +81,8 @@ fn load(ws: &[u32], memory: &mut [u32])
 // The check of a slip against the grammar whose types these are. Where nothing is refused and the memory has room for every tree, the slip's tree stands at its
 // start, marked. A refusal changes nothing, so the tree is read in a buffer beside it, which is gone when this returns: the stack of a run's calls does not hold it.
 #[tactic(auto, using(crate::proofs::Loading::beside_refused, crate::proofs::Loading::beside_short))]
-pub fn read_slip(types: &Types, slip: &[u32], memory: &mut [u32]) -> Result<usize, Refusal>
-    ensures { SlipRead (λ g. read_slip g slip.now) types.now memory.old memory.new result }
+pub fn read_slip(types: &GrammarTypes, slip: &[u32], memory: &mut [u32]) -> Result<usize, Refusal>
+    ensures { SlipRead (λ g. read_slip g slip.now) types.now.types memory.old memory.new result }
 {
     let mut buffer = [0u32; MOST_WORDS];
     let next = read_beside(types, slip, &mut buffer)?;
@@ -94,27 +94,27 @@ pub fn read_slip(types: &Types, slip: &[u32], memory: &mut [u32]) -> Result<usiz
 }
 
 // The same in the two-word edition, which has no counts and is read as it stands.
-fn read_plain(types: &Types, slip: &[u32], memory: &mut [u32]) -> Result<usize, Refusal>
-    ensures { SlipRead (λ g. read_edition false g slip.now) types.now memory.old memory.new result }
+fn read_plain(types: &GrammarTypes, slip: &[u32], memory: &mut [u32]) -> Result<usize, Refusal>
+    ensures { SlipRead (λ g. read_edition false g slip.now) types.now.types memory.old memory.new result }
 {
     let next = tree::read_tree(types, slip)?;
     if memory.len() < MOST_WORDS {
         return Ok(next);
     }
     load(slip, memory);
-    marks::mark_tree(types, memory, 0, slip.len());
+    marks::mark_tree(&types.types, memory, 0, slip.len());
     Ok(next)
 }
 
 // The same in the three-word edition, or else in the two-word one.
 #[tactic(auto, unfolding(tree::specs::Slip::read_edition))]
 pub fn read_edition(
-    types: &Types,
+    types: &GrammarTypes,
     counted: bool,
     slip: &[u32],
     memory: &mut [u32],
 ) -> Result<usize, Refusal>
-    ensures { SlipRead (λ g. read_edition counted g slip.now) types.now memory.old memory.new result }
+    ensures { SlipRead (λ g. read_edition counted g slip.now) types.now.types memory.old memory.new result }
 {
     if counted {
         read_slip(types, slip, memory)
@@ -129,7 +129,7 @@ pub fn check_slip(grammar: &[u32], slip: &[u32]) -> Result<usize, Refusal>
     ensures { result ≡ answer (check_slip grammar.now slip.now) }
 {
     grammar::check_grammar(grammar)?;
-    let mut types = Types::none();
+    let mut types = GrammarTypes::none();
     types.fill(grammar);
     read_slip(&types, slip, &mut [])
 }

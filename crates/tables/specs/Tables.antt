@@ -41,9 +41,9 @@ pub record Tables (g : Grammar) (heads rows : List ℕ) : Type 0 where
   pub heads_of : Heads g heads
   pub rows_of_lem : Rows g rows
 
--- they are the tables of some grammar of so many types
-abbrev pub AreTables : List ℕ → List ℕ → ℕ → Type 0
-AreTables heads rows count = (g : Grammar) × Tables g heads rows × (length g ≡ count)
+-- they are the tables of some grammar
+abbrev pub AreTables : List ℕ → List ℕ → Type 0
+AreTables heads rows = (g : Grammar) × Tables g heads rows
 
 -- the grammar that was read; none where it was refused
 abbrev pub read_of : Read Grammar → Grammar

@@ -14,14 +14,16 @@ ghost use Rattle.tables.specs.Tables.{Tables, read_of};
 ghost use Rattle.tables.specs.Filling.{type_count, kind_read, ElementPut, FormPut, FormsPut, KindPut};
 
 use grammar::limits::{FIRST_LITERAL, LAST_LITERAL, MOST_ELEMENTS, MOST_FORMS, MOST_TYPES};
+pub use grammar_types::GrammarTypes;
 pub use types::Types;
 
+pub mod grammar_types;
 pub mod types;
 
 // The entries of the tables: two words a type, and a row of nine for each type and each of 16 values.
-const HEADS: usize = 64 * 2;
+pub const HEADS: usize = 64 * 2;
 
-const ROWS: usize = 64 * 16 * 9;
+pub const ROWS: usize = 64 * 16 * 9;
 
 const NUMBERS: u32 = grammar::limits::GREATEST_NUMBER + 1;
 

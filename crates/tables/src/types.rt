@@ -1,8 +1,8 @@
 // The types of a grammar, worked out once from its words as tables, and the lookups in them.
 //
 // `heads` has two words a type: the map of its record and how many values its nodes may have. `rows` has a row of nine for each type and each value
-// below 16: how many children such a node has, and their types.
-ghost use Rattle.tables.specs.Tables.{AreTables};
+// below 16: how many children such a node has, and their types. Any tables may stand here: what a lookup in them answers holds of each grammar whose types they are.
+ghost use Rattle.std.specs.Prelude.{◌≡◌, ◌≤◌};
 
 use grammar::limits::{MOST_ELEMENTS, MOST_FORMS, MOST_TYPES};
 
@@ -11,7 +11,13 @@ pub struct Types {
     pub heads: [u32; crate::HEADS],
     pub rows: [u8; crate::ROWS],
     pub count: u32,
-    ghost of_grammar: { ∥ AreTables heads rows count ∥₁ },
+}
+
+// An entry of a row as a number.
+fn entry(x: u8) -> usize
+    ensures { (result ≡ x) × (result ≤ 255) }
+{
+    usize::from(x)
 }
 
 impl Types {
@@ -21,11 +27,12 @@ impl Types {
     ghost use Rattle.grammar.specs.Kinds.{kind_of, allowed, children, is_number, is_sequence, is_text};
     ghost use Rattle.grammar.specs.Values.{values_of};
     ghost use Rattle.tables.specs.Tables.{map_of, is_token, read_of};
-    ghost use Rattle.tables.specs.Types.{IsBlank, OfTypes, TypesOf, Counted};
+    ghost use Rattle.tables.specs.Types.{IsBlank, AllTypesOf, OfHeads, OfRows, Counted};
 
     // No types. What is filled in place is not copied: the rows are large.
     pub fn none() -> Types
-        ensures { IsBlank result }
+        ensures blank { IsBlank result }
+        ensures empty { result.count ≡ 0 }
     {
         Types {
             heads: [0; crate::HEADS],
@@ -37,7 +44,7 @@ impl Types {
     // Works out the types of a grammar that passes its check.
     pub fn fill(&mut self, ws: &[u32])
         requires { (accepted (Grammar.read_grammar ws.now) ≡ true) × IsBlank self.old }
-        ensures { TypesOf (read_of (Grammar.read_grammar ws.now)) self.new }
+        ensures { AllTypesOf (read_of (Grammar.read_grammar ws.now)) self.new }
     {
         crate::fill(ws, &mut self.heads, &mut self.rows);
         self.count = words::word(ws, 0);
@@ -45,7 +52,7 @@ impl Types {
 
     // The map of the type's record; 0 if there is no such type.
     pub fn map_of(&self, t: u32) -> u32
-        ensures { OfTypes self.now (λ g. result ≡ map_of (kind_of g t)) }
+        ensures { OfHeads self.now (λ g. result ≡ map_of (kind_of g t)) }
     {
         if t < MOST_TYPES {
             self.heads[t as usize * 2]
@@ -56,7 +63,7 @@ impl Types {
 
     // How many values a node of the type may have.
     pub fn values(&self, t: u32) -> u32
-        ensures { OfTypes self.now (λ g. result ≡ values_of (kind_of g t)) }
+        ensures { OfHeads self.now (λ g. result ≡ values_of (kind_of g t)) }
     {
         if t < MOST_TYPES {
             self.heads[t as usize * 2 + 1]
@@ -67,14 +74,14 @@ impl Types {
 
     // May a node of the type have the value?
     pub fn is_allowed(&self, t: u32, v: u32) -> bool
-        ensures { OfTypes self.now (λ g. result ≡ allowed g t v) }
+        ensures { OfHeads self.now (λ g. result ≡ allowed g t v) }
     {
         v < self.values(t)
     }
 
     // Is the type a sequence?
     pub fn is_sequence(&self, t: u32) -> bool
-        ensures { OfTypes self.now (λ g. result ≡ is_sequence g t) }
+        ensures { OfHeads self.now (λ g. result ≡ is_sequence g t) }
     {
         let map = self.map_of(t);
         map == 4 || map == 16
@@ -82,21 +89,21 @@ impl Types {
 
     // Is the type a token?
     pub fn is_token(&self, t: u32) -> bool
-        ensures { OfTypes self.now (λ g. result ≡ is_token g t) }
+        ensures { OfHeads self.now (λ g. result ≡ is_token g t) }
     {
         self.map_of(t) == 1
     }
 
     // Is the type a number token? No other type has as many values.
     pub fn is_number(&self, t: u32) -> bool
-        ensures { OfTypes self.now (λ g. result ≡ is_number g t) }
+        ensures { OfHeads self.now (λ g. result ≡ is_number g t) }
     {
         self.values(t) == crate::NUMBERS
     }
 
     // Is the type a name or a string? No other type has as many values.
     pub fn is_text(&self, t: u32) -> bool
-        ensures { OfTypes self.now (λ g. result ≡ is_text g t) }
+        ensures { OfHeads self.now (λ g. result ≡ is_text g t) }
     {
         self.values(t) == crate::NAMES
     }
@@ -106,7 +113,7 @@ impl Types {
         ensures { Counted self.now t v result }
     {
         if t < MOST_TYPES && v < MOST_FORMS {
-            self.rows[(t as usize * 16 + v as usize) * 9] as usize
+            entry(self.rows[(t as usize * 16 + v as usize) * 9])
         } else {
             0
         }
@@ -114,7 +121,7 @@ impl Types {
 
     // The type of child i of a node; 0 if it has no such child.
     pub fn child(&self, t: u32, v: u32, i: usize) -> u32
-        ensures { OfTypes self.now (λ g. result ≡ get_or (children g t v) i 0) }
+        ensures { OfRows self.now (λ g. result ≡ get_or (children g t v) i 0) }
     {
         if t < MOST_TYPES && v < MOST_FORMS && i < MOST_ELEMENTS as usize {
             u32::from(self.rows[(t as usize * 16 + v as usize) * 9 + (1 + i)])

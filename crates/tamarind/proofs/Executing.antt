@@ -91,7 +91,7 @@ module _ (x : Inputs) (result w : Words) (types : Types) (a : Accepted x (length
 
     module _ {starts : Words} (es : starts ≡ sets (replicate 64 0) 0 (positions types.count x.rules n 1)) {main : ℕ} (em : main ≡ get_or starts 0 0) where
       setting : Setting (record { types = types; book = x.rules; starts = starts }) g rules
-      setting = record { types_of = a.types_of; placed = read_placed g types.count x.rules rules all.n a.types_of.count_of all.rules en es }
+      setting = record { types_of = a.types_of.types_of; few = omega (arith, a.types_of.types_of.heads_of.types, a.types_of.count_of); placed = read_placed g types.count x.rules rules all.n a.types_of.count_of all.rules en es }
 
       -- THE FIRST CALL is the strict run
       module _ {w' : Words} {vars : Vars} (none : vars.n ≡ 0) (c : Called) (k : Calls (record { types = types; book = x.rules; starts = starts }) w w' main 0 (length x.slip / 3) vars 0 31 (initial x.budget) c) where
@@ -126,7 +126,7 @@ module _ (x : Inputs) (result w : Words) (types : Types) (a : Accepted x (length
           filled_long = let s = left.3.1 in counted_length g meant.scope ∙ ap (λ i. 3 * i) s.nodes
 
           result_is : result' ≡ filled ++ drop (length filled) result
-          result_is = let s = left.3.1 in written.words g (left.3.0 ∷ []) meant.scope a.types_of.rows_of_lem.types s.tree.typed s.tree.nodes s.words
+          result_is = let s = left.3.1 in written.words g (left.3.0 ∷ []) meant.scope a.types_of.types_of.rows_of_lem.types s.tree.typed s.tree.nodes s.words
 
           filled_is : take (3 * c.nodes) result' ≡ filled
           filled_is = ap (take (3 * c.nodes)) result_is ∙ take_at filled (drop (length filled) result) (3 * c.nodes) filled_long

@@ -15,7 +15,7 @@ use Rattle.words.proofs.Laws.{answer_passed, answer_refused, answer_map, then_va
 use Rattle.grammar.specs.Limits.{most_grammar_words}
 use Rattle.grammar.specs.Grammar.{Grammar, read_grammar, grammar_fits}
 use Rattle.tables.specs.Tables.{read_of}
-use Rattle.tables.specs.Types.{TypesOf}
+use Rattle.tables.specs.Types.{TypesOf, AllTypesOf}
 use Rattle.tables.specs.declared.types.Types.{Types}
 use Rattle.tree.specs.Tree.{size}
 use Rattle.tree.specs.Slip.{read_slip}
@@ -76,14 +76,14 @@ module _ (grammar rules slip : Words) (types : Types) (w : Words) where
         pub rules_refused : {x : ℕ × ℕ} → d ≡ Err x → InputsRead grammar rules slip types w w (Err x)
         rules_refused f = refused_read (read_rest ∙ rw (answer_refused (read_rules g rules) d js f))
 
-        pub slip_read : {n : ℕ} → d ≡ Ok n → TypesOf g types → least_work ≤ length w → {w' : Words} {r : Result ℕ (ℕ × ℕ)} → SlipRead (λ g. read_slip g slip) types w w' r → InputsRead grammar rules slip types w w' r
+        pub slip_read : {n : ℕ} → d ≡ Ok n → AllTypesOf g types → least_work ≤ length w → {w' : Words} {r : Result ℕ (ℕ × ℕ)} → SlipRead (λ g. read_slip g slip) types w w' r → InputsRead grammar rules slip types w w' r
         slip_read f tables room {w'} {r} l = let rs = answer_passed (read_rules g rules) d js f in read_by rs.0 rs.1
           where
             read_by : (rs : Rules) {n : ℕ} → read_rules g rules ≡ value rs n → InputsRead grammar rules slip types w w' r
             read_by rs e =
                 let all : read_inputs grammar rules slip ≡ and_then (read_slip g slip) (λ tree. return (record { grammar = g; rules = rs; tree = tree })) = read_rest ∙ rw e in
                 record {
-                  answered = l.answered g tables ∙ answer_map {B = Decoded} (read_slip g slip) (λ tree. record { grammar = g; rules = rs; tree = tree }) ∙ ap answer (sym all);
+                  answered = l.answered g tables.types_of ∙ answer_map {B = Decoded} (read_slip g slip) (λ tree. record { grammar = g; rules = rs; tree = tree }) ∙ ap answer (sym all);
                   long = l.long;
                   kept = l.kept;
                   types_of = λ y next q.
@@ -93,7 +93,7 @@ module _ (grammar rules slip : Words) (types : Types) (w : Words) where
                   stands = λ y next q.
                       let t = then_value (read_slip g slip) (λ tree. return (record { grammar = g; rules = rs; tree = tree })) (sym all ∙ q) in
                       let same : ◌≡◌ {A = Decoded} (record { grammar = g; rules = rs; tree = t.0 }) y = cc t.3 in
-                      rw (← same) (slip_stands slip types w w' l room g t.0 t.1 tables t.2);
+                      rw (← same) (slip_stands slip types w w' l room g t.0 t.1 tables.types_of t.2);
                 }
 
 -- BOTH

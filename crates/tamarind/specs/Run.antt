@@ -3,7 +3,7 @@ use Rattle.std.specs.Prelude.{ℕ, ◌-◌, ◌/◌, ◌≡◌, length, take, Re
 use Rattle.words.specs.Reader.{Words, Read, value, and_then, return}
 use Rattle.words.specs.Views.{answer}
 use Rattle.grammar.specs.Grammar.{read_grammar}
-use Rattle.tables.specs.Types.{TypesOf}
+use Rattle.tables.specs.Types.{AllTypesOf}
 use Rattle.tables.specs.declared.types.Types.{Types}
 use Rattle.tree.specs.Slip.{read_slip}
 use Rattle.judgement.specs.Typing.{read_rules}
@@ -73,7 +73,7 @@ pub record InputsRead (grammar rules slip : Words) (types : Types) (w w' : Words
   pub answered : r ≡ answer (read_inputs grammar rules slip)
   pub long : length w' ≡ length w
   pub kept : {y : ℕ × ℕ} → r ≡ Err y → w' ≡ w
-  pub types_of : (d : Decoded) (next : ℕ) → read_inputs grammar rules slip ≡ value d next → TypesOf d.grammar types
+  pub types_of : (d : Decoded) (next : ℕ) → read_inputs grammar rules slip ≡ value d next → AllTypesOf d.grammar types
   pub stands : (d : Decoded) (next : ℕ) → read_inputs grammar rules slip ≡ value d next → Standing d.grammar w' 0 (length slip / 3) 0 d.tree
 
 -- the answer says how the first call ended, and what it counted
@@ -86,7 +86,7 @@ pub record Accepted (x : Inputs) (result : ℕ) (w : Words) (types : Types) : Ty
   pub with : Decoded
   pub next : ℕ
   pub read : decode result (length w) x ≡ value with next
-  pub types_of : TypesOf with.grammar types
+  pub types_of : AllTypesOf with.grammar types
   pub stands : Standing with.grammar w 0 (length x.slip / 3) 0 with.tree
 
 -- the run, whatever a work memory of that length held before the tree was laid there

@@ -9,6 +9,7 @@ ghost use Rattle.tree.specs.Slip.{check_slip};
 ghost use Rattle.judgement.specs.Typing.{check_rules};
 ghost use Rattle.meaning.specs.Limits.{least_work};
 ghost use Rattle.meaning.specs.Outcome.{call_fits, output};
+ghost use Rattle.meaning.specs.Stops.{number_of};
 ghost use Rattle.tables.specs.Types.{IsBlank};
 ghost use Rattle.tamarind.specs.Run.{inputs_of, inputs_in, memories, Runs, RunsOver, InputsRead, Answered, Accepted};
 ghost use Rattle.tamarind.specs.Exports.{exported, exported_check, exported_counts, exported_outcome, RunExported, exported_converted, ConversionExported, posts_result, posting, edition};
@@ -19,7 +20,7 @@ use meaning::State;
 pub use meaning::Stop;
 use rules::Program;
 use rules::limits::MOST_VARIABLES;
-use tables::Types;
+use tables::{GrammarTypes, Types};
 use words::{Fault, Refusal};
 
 // A single check's answer: the number of the refusal and its position; 0 and 0 where nothing is refused.
@@ -75,6 +76,13 @@ const MOST_BUDGET: u32 = 1000000;
 
 const MOST_CALLS: usize = 32;
 
+// The number of a stop.
+pub fn number_of(cause: Stop) -> u32
+    ensures { result ≡ number_of cause }
+{
+    cause.number()
+}
+
 // What an accepted run counted: its attempts, the first call's replacements, and the words that it filled.
 #[derive(Clone, Copy)]
 pub struct Counts {
@@ -126,9 +134,13 @@ fn call_fits(res: usize, work: usize, request: &Request) -> Result<usize, Refusa
 }
 
 // The checks of the grammar, the rules and the slip, in this order. The grammar's types are worked out on the way, and at the last the slip's tree is put at the bottom of work memory.
-fn read_inputs(request: &Request, types: &mut Types, work: &mut [u32]) -> Result<usize, Refusal>
-    requires { IsBlank types.old × (length request.now.rules.now < 2 ^ 32) × (least_work ≤ length work.old) }
-    ensures { InputsRead request.now.grammar.now request.now.rules.now request.now.slip.now types.new work.old work.new result }
+fn read_inputs(
+    request: &Request,
+    types: &mut GrammarTypes,
+    work: &mut [u32],
+) -> Result<usize, Refusal>
+    requires { IsBlank types.old.types × (length request.now.rules.now < 2 ^ 32) × (least_work ≤ length work.old) }
+    ensures { InputsRead request.now.grammar.now request.now.rules.now request.now.slip.now types.new.types work.old work.new result }
 {
     grammar::read_grammar(request.grammar)?;
     types.fill(request.grammar);
@@ -207,10 +219,10 @@ pub fn run(
     if let Err(refusal) = call_fits(res.len(), work.len(), &request) {
         return Outcome::Refused(refusal);
     }
-    let mut types = Types::none();
+    let mut types = GrammarTypes::none();
     match read_inputs(&request, &mut types, work) {
         Err(refusal) => Outcome::Refused(refusal),
-        Ok(_) => execute(&request, &types, res, work),
+        Ok(_) => execute(&request, &types.types, res, work),
     }
 }
 
@@ -305,7 +317,7 @@ fn export_run(outcome: Outcome) -> RunAnswer
             filled: 0,
         },
         Outcome::Done(counts) => export_counts(0, 0, counts),
-        Outcome::Stopped(cause, counts) => export_counts(1, cause.number(), counts),
+        Outcome::Stopped(cause, counts) => export_counts(1, number_of(cause), counts),
     }
 }
 

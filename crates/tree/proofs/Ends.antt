@@ -9,7 +9,7 @@ use lib.Dec.{ltb}
 use borrow.Author.Tests.{ltb-true, ltb-false}
 use Rattle.words.specs.Reader.{Words}
 use Rattle.grammar.specs.Grammar.{Grammar}
-use Rattle.tables.specs.Types.{OfTypes, Counted}
+use Rattle.tables.specs.Types.{OfRows, Counted}
 use Rattle.tables.specs.declared.types.Types.{Types}
 use Rattle.tree.specs.Tree.{first}
 use Rattle.tree.specs.Owed as O
@@ -29,8 +29,8 @@ pub record Owed (types : Types) (ws : Words) (owed at : ℕ) : Type 0 where
   pub few : owed ≤ 255 * at + 1
   pub nodes : ℕ
   pub twice : at ≡ 2 * nodes
-  pub count : OfTypes types (λ g. O.owed g ws nodes 1 ≡ owed)
-  pub some : OfTypes types (λ g. (i : ℕ) → i < nodes → 0 < O.owed g ws i 1)
+  pub count : OfRows types (λ g. O.owed g ws nodes 1 ≡ owed)
+  pub some : OfRows types (λ g. (i : ℕ) → i < nodes → 0 < O.owed g ws i 1)
 
 pub owed_start : {types : Types} {ws : Words} → Owed types ws 1 0
 unfolding O.owed
@@ -47,12 +47,12 @@ module _ {types : Types} {ws : Words} {owed at : ℕ} (o : Owed types ws owed at
     some = some;
   }
     where
-      count : OfTypes types (λ g. O.owed g ws (o.nodes + 1) 1 ≡ c + (owed - 1))
+      count : OfRows types (λ g. O.owed g ws (o.nodes + 1) 1 ≡ c + (owed - 1))
       count g h =
           let n = rw (sym o.twice) at (owed_next g ws o.nodes 1 (omega (arith, o.twice))) in
           omega (arith, n, counted.count g h, o.count g h)
 
-      some : OfTypes types (λ g. (i : ℕ) → i < o.nodes + 1 → 0 < O.owed g ws i 1)
+      some : OfRows types (λ g. (i : ℕ) → i < o.nodes + 1 → 0 < O.owed g ws i 1)
       some g h i l = go (ltb i o.nodes) refl
         where
           go : (b : Bool) → ltb i o.nodes ≡ b → 0 < O.owed g ws i 1
@@ -62,7 +62,7 @@ module _ {types : Types} {ws : Words} {owed at : ℕ} (o : Owed types ws owed at
               rw last (omega (arith, o.count g h))
 
   -- the words are the first tree as far as the loop has passed them, and then the rest of it
-  rest : OfTypes types (λ g. length (first g ws 1) ≡ at + length (first g (drop at ws) owed))
+  rest : OfRows types (λ g. length (first g ws 1) ≡ at + length (first g (drop at ws) owed))
   rest g h = rw (sym o.twice, o.count g h) at (first_owed g ws o.nodes 1 (omega (arith, o.within, o.twice)) (o.some g h))
 
   pub owed_short : length ws ≤ at + 1 → Ends types ws at

@@ -9,19 +9,19 @@ use native.Mathlib.Bridge.{le_prop}
 use native.Mathlib.Omega.{arith}
 use native.Mathlib.Nat.{ℕ_set, add-zero, zero-add}
 use native.Mathlib.Numerals.{add-one}
-use lib.ListN.{length, get_or, drop, length-drop, drop_of_length-le}
+use lib.ListN.{length, get_or, take, drop, length-drop, drop_of_length-le}
 use lib.Seq.{drop-drop, drop-cons}
 use lib.Dec.{ltb, leb, eqb}
 use borrow.Author.Tests.{eq-eqb, ne_eqb, lt-ltb, le-ltb, le-leb, lt-leb, leb-true}
 use Rattle.std.specs.Prelude.{Result, Ok, Err}
 use Rattle.words.specs.Reader.{Words, pick, Read, value, refused, Reader, and_then, ◌>>◌}
 use Rattle.words.specs.Views.{answer, got}
-use Rattle.words.proofs.Stretches.{drop_pair}
+use Rattle.words.proofs.Stretches.{part_rest}
 use Rattle.words.proofs.Laws.{read_word, read_bad, answer_passed, answer_refused, require_value}
 use Rattle.grammar.specs.Grammar.{Kind, token, opt, sequence, forms, Grammar}
 use Rattle.grammar.specs.Kinds.{kind_of, allowed, children_of, children, is_sequence_kind, is_sequence}
-use Rattle.tables.specs.Types.{TypesOf, OfTypes}
-use Rattle.tables.specs.declared.types.Types.{Types}
+use Rattle.tables.specs.Types.{TypesOf, OfHeads, OfRows, OfTypes}
+use Rattle.tables.specs.declared.grammar_types.GrammarTypes.{GrammarTypes}
 use Rattle.tree.specs.Limits.{most_tree_words, most_nesting}
 use Rattle.tree.specs.Tree.{levels_of, levels}
 use Rattle.tree.specs.Dues.{first_word, second_word, leaves, pairs, whole}
@@ -30,33 +30,31 @@ use Rattle.tree.specs.Views.{nesting_at, level, read_head}
 use Rattle.tree.proofs.Dues.{none_due, pairs_forward, pairs_split}
 use Rattle.tree.proofs.Accepted.{node_steady}
 
--- THE FIRST PAIR, at a position of the words
+-- THE FIRST PAIR
 
-module _ (g : Grammar) (k d : ℕ) (ws : Words) (at : ℕ) where
-  pub head_short : at ≤ length ws → length ws - at < 2 → Err (31, length ws) ≡ got (read_head g k d (drop at ws) at)
+module _ (g : Grammar) (k d : ℕ) (s : Words) (at : ℕ) where
+  pub head_short : length s < 2 → Err (31, at + length s) ≡ got (read_head g k d s at)
   unfolding read_head
-  head_short low h =
-      let z : at + (length ws - at) ≡ length ws = omega arith in
-      rw (length-drop at ws, lt-leb 2 (length ws - at) h, z)
+  head_short h = rw (lt-leb 2 (length s) h)
 
-  module _ (h : 2 ≤ length ws - at) where
-    the_pair : read_head g k d (drop at ws) at ≡ and_then (first_word (eqb (get_or ws at 0) d) 32 at) (λ u. ◌>>◌ (first_word (leb k most_nesting) 33) (◌>>◌ (second_word (allowed g d (get_or ws (at + 1) 0)) 32) (λ p. value (get_or ws (at + 1) 0) (p + 2))))
+  module _ (h : 2 ≤ length s) where
+    pub head_type : (get_or s 0 0 ≡ d → ⊥) → Err (32, at) ≡ got (read_head g k d s at)
     unfolding read_head
-    the_pair = rw (drop_pair ws at (omega arith), le-leb 2 (suc (suc (length (drop (at + 2) ws)))) (omega arith))
+    head_type t = rw (le-leb 2 (length s) h, ne_eqb (get_or s 0 0) d t, add-zero at)
 
-    pub head_type : (get_or ws at 0 ≡ d → ⊥) → Err (32, at) ≡ got (read_head g k d (drop at ws) at)
-    head_type t = rw (the_pair, ne_eqb (get_or ws at 0) d t, add-zero at)
+    module _ (t : get_or s 0 0 ≡ d) where
+      pub head_deep : most_nesting < k → Err (33, at) ≡ got (read_head g k d s at)
+      unfolding read_head
+      head_deep l = rw (le-leb 2 (length s) h, eq-eqb (get_or s 0 0) d t, lt-leb k most_nesting l, add-zero at)
 
-    module _ (t : get_or ws at 0 ≡ d) where
-      pub head_deep : most_nesting < k → Err (33, at) ≡ got (read_head g k d (drop at ws) at)
-      head_deep l = rw (the_pair, eq-eqb (get_or ws at 0) d t, lt-leb k most_nesting l, add-zero at)
+      module _ (l : k ≤ most_nesting) (v : ℕ) (ev : v ≡ get_or s 1 0) (b : Bool) (eb : b ≡ allowed g d v) where
+        pub head_value : b ≡ true → Ok (v, at + 2) ≡ got (read_head g k d s at)
+        unfolding read_head
+        head_value q = rw (le-leb 2 (length s) h, eq-eqb (get_or s 0 0) d t, le-leb k most_nesting l, ← ev, ← eb, q)
 
-      module _ (l : k ≤ most_nesting) (v : ℕ) (ev : v ≡ get_or ws (at + 1) 0) (b : Bool) (eb : b ≡ allowed g d v) where
-        pub head_value : b ≡ true → Ok (v, at + 2) ≡ got (read_head g k d (drop at ws) at)
-        head_value q = rw (the_pair, eq-eqb (get_or ws at 0) d t, le-leb k most_nesting l, ← ev, ← eb, q)
-
-        pub head_misfit : b ≡ false → Err (32, at + 1) ≡ got (read_head g k d (drop at ws) at)
-        head_misfit q = rw (the_pair, eq-eqb (get_or ws at 0) d t, le-leb k most_nesting l, ← ev, ← eb, q)
+        pub head_misfit : b ≡ false → Err (32, at + 1) ≡ got (read_head g k d s at)
+        unfolding read_head
+        head_misfit q = rw (le-leb 2 (length s) h, eq-eqb (get_or s 0 0) d t, le-leb k most_nesting l, ← ev, ← eb, q)
 
 -- what a right first pair tells
 record HeadOk (k : ℕ) (s : Words) (at next : ℕ) : Type 0 where
@@ -139,69 +137,95 @@ pub sequence_none : (g : Grammar) (d v k : ℕ) → is_sequence g d ≡ true →
 unfolding is_sequence levels children
 sequence_none g d v k h z = kind_none (kind_of g d) d v k h z
 
--- A WALK over the words: the whole reading is that of what is due from a position on. So for every grammar with these types
-pub record Walk (types : Types) (ws : Words) (all : Grammar → Read (Unit {0})) (due : Grammar → List Due) (at : ℕ) : Type 0 where
-  pub low : at ≤ length ws
-  pub rest : OfTypes types (λ g. all g ≡ read_trees g (drop at ws) (due g) at)
+-- A WALK over the words s, which begin at `start`: the whole reading is that of what is due from a position on. So for every grammar with these types
+pub record Walk (types : GrammarTypes) (s : Words) (start : ℕ) (all : Grammar → Read (Unit {0})) (due : Grammar → List Due) (at : ℕ) : Type 0 where
+  pub from : start ≤ at
+  pub low : at ≤ start + length s
+  pub rest : OfTypes types.types (λ g. all g ≡ read_trees g (drop (at - start) s) (due g) at)
 
-pub walk_start : {types : Types} {ws : Words} (due : Grammar → List Due) {at : ℕ} → at ≤ length ws → Walk types ws (λ g. read_trees g (drop at ws) (due g) at) due at
-walk_start due h = record { low = h; rest = λ g x. refl }
+pub walk_start : {types : GrammarTypes} {s : Words} {start : ℕ} (due : Grammar → List Due)
+    → Walk types s start (λ g. read_trees g s (due g) start) due start
+walk_start {types} {s} {start} due =
+    let z : start - start ≡ 0 = omega arith in
+    record { from = omega arith; low = omega arith; rest = λ g x. rw z }
 
 -- the same dues, said otherwise
-pub walk_due : {types : Types} {ws : Words} {all : Grammar → Read (Unit {0})} {due : Grammar → List Due} {at : ℕ} → Walk types ws all due at
-    → (due' : Grammar → List Due) → OfTypes types (λ g. due g ≡ due' g) → Walk types ws all due' at
-walk_due {types} {ws} {all} {due} {at} w due' e = record { low = w.low; rest = λ g x. w.rest g x ∙ ap (λ l. read_trees g (drop at ws) l at) (e g x) }
+pub walk_due : {types : GrammarTypes} {s : Words} {start : ℕ} {all : Grammar → Read (Unit {0})} {due : Grammar → List Due} {at : ℕ}
+    → Walk types s start all due at → (due' : Grammar → List Due) → OfTypes types.types (λ g. due g ≡ due' g) → Walk types s start all due' at
+walk_due {types} {s} {start} {all} {due} {at} w due' e =
+    record { from = w.from; low = w.low; rest = λ g x. w.rest g x ∙ ap (λ l. read_trees g (drop (at - start) s) l at) (e g x) }
 
 -- nothing is due any more
-pub walk_end : {types : Types} {ws : Words} {all : Grammar → Read (Unit {0})} {at : ℕ} → Walk types ws all (λ g. []) at → OfTypes types (λ g. Ok at ≡ answer (all g))
-walk_end {types} {ws} {all} {at} w g x = sym (ap answer (w.rest g x ∙ none_due (meets_node g) 31 (drop at ws) tt at))
+pub walk_end : {types : GrammarTypes} {s : Words} {start : ℕ} {all : Grammar → Read (Unit {0})} {at : ℕ} → Walk types s start all (λ g. []) at
+    → OfTypes types.types (λ g. Ok at ≡ answer (all g))
+walk_end {types} {s} {start} {all} {at} w g x = sym (ap answer (w.rest g x ∙ none_due (meets_node g) 31 (drop (at - start) s) tt at))
 
 -- what is known of some grammar with these types
-pub some_types : (types : Types) → ∥ ((g : Grammar) × TypesOf g types) ∥₁
-some_types types = ∥∥₁_map types.of_grammar (λ t. (t.0, record { heads_of = t.1.heads_of; rows_of_lem = t.1.rows_of_lem; count_of = t.2 }))
+pub some_types : (types : GrammarTypes) → ∥ ((g : Grammar) × TypesOf g types.types) ∥₁
+some_types types = ∥∥₁_map types.of_grammar (λ t. (t.0, record { heads_of = t.1.heads_of; rows_of_lem = t.1.rows_of_lem }))
 
 -- the first pair of a tree is read
-module _ {types : Types} {ws : Words} {all : Grammar → Read (Unit {0})} {k d : ℕ} {ds : Grammar → List Due} {at : ℕ} (w : Walk types ws all (λ g. tree k d ∷ ds g) at)
-    {h : Result (ℕ × ℕ) (ℕ × ℕ)} (is : OfTypes types (λ g. h ≡ got (read_head g k d (drop at ws) at))) where
-  step : OfTypes types (λ g. all g ≡ and_then (read_head g k d (drop at ws) at) (λ v next. read_trees g (drop 2 (drop at ws)) (dues_of (levels g d v k) (children g d v) ++ ds g) next))
-  step g x = w.rest g x ∙ tree_step g k d (ds g) at (drop at ws)
+module _ {types : GrammarTypes} {s : Words} {start : ℕ} {all : Grammar → Read (Unit {0})} {k d : ℕ} {ds : Grammar → List Due} {at : ℕ}
+    (w : Walk types s start all (λ g. tree k d ∷ ds g) at)
+    {part : Words} (ep : part ≡ drop (at - start) s) {h : Result (ℕ × ℕ) (ℕ × ℕ)} (is : OfHeads types.types (λ g. h ≡ got (read_head g k d part at))) where
+  step : OfTypes types.types (λ g. all g ≡ and_then (read_head g k d part at)
+      (λ v next. read_trees g (drop 2 part) (dues_of (levels g d v k) (children g d v) ++ ds g) next))
+  step g x = w.rest g x ∙ rw (← ep) (tree_step g k d (ds g) at part)
 
-  pub walk_bad : {r : ℕ × ℕ} → h ≡ Err r → OfTypes types (λ g. Err r ≡ answer (all g))
-  walk_bad {r} e g x = let z : all g ≡ refused r.0 r.1 = step g x ∙ rw (read_bad (read_head g k d (drop at ws) at) h (is g x) e) in sym (ap answer z)
+  pub walk_bad : {r : ℕ × ℕ} → h ≡ Err r → OfTypes types.types (λ g. Err r ≡ answer (all g))
+  walk_bad {r} e g x =
+      let z : all g ≡ refused r.0 r.1 = step g x ∙ rw (read_bad (read_head g k d part at) h (is g x.heads_of) e) in
+      sym (ap answer z)
 
   module _ {r : ℕ × ℕ} (e : h ≡ Ok r) where
-    pub walk_room : (k ≤ most_nesting) × (at + 2 ≤ length ws) × (r.1 ≡ at + 2)
+    pub walk_room : (k ≤ most_nesting) × (at + 2 ≤ start + length s) × (r.1 ≡ at + 2)
     walk_room = ∥∥₁_elim (some_types types) (×₃_prop le_prop le_prop (ℕ_set _ _)) (λ t.
-        let o = head_ok t.0 k d (drop at ws) at (read_word (read_head t.0 k d (drop at ws) at) h (is t.0 t.1) e) in
-        (o.spare, omega (arith, o.room, w.low, length-drop at ws), o.after))
+        let o = head_ok t.0 k d part at (read_word (read_head t.0 k d part at) h (is t.0 t.1.heads_of) e) in
+        let l : length part ≡ length s - (at - start) = ap length ep ∙ length-drop (at - start) s in
+        (o.spare, omega (arith, o.room, w.from, w.low), o.after))
 
-    pub walk_head : Walk types ws all (λ g. dues_of (levels g d r.0 k) (children g d r.0) ++ ds g) r.1
-    walk_head = record {
-      low = omega (arith, walk_room.1, walk_room.2);
-      rest = λ g x. step g x ∙ rw (read_word (read_head g k d (drop at ws) at) h (is g x) e, drop-drop 2 at ws, ← walk_room.2);
-    }
+    pub walk_head : Walk types s start all (λ g. dues_of (levels g d r.0 k) (children g d r.0) ++ ds g) r.1
+    walk_head =
+        let i : at - start + 2 ≡ r.1 - start = omega (arith, walk_room.2, w.from) in
+        record {
+          from = omega (arith, walk_room.2, w.from);
+          low = omega (arith, walk_room.1, walk_room.2);
+          rest = λ g x. step g x ∙ rw (read_word (read_head g k d part at) h (is g x.heads_of) e, ep, drop-drop 2 (at - start) s, i);
+        }
 
 -- a tree is read
-module _ {types : Types} {ws : Words} {all : Grammar → Read (Unit {0})} {k d : ℕ} {ds : Grammar → List Due} {at : ℕ} (w : Walk types ws all (λ g. tree k d ∷ ds g) at)
-    {a : Result ℕ (ℕ × ℕ)} (is : OfTypes types (λ g. a ≡ answer (read_trees g (drop at ws) (tree k d ∷ []) at))) where
-  split : OfTypes types (λ g. all g ≡ and_then (read_trees g (drop at ws) (tree k d ∷ []) at) (λ u next. read_trees g (drop (next - at) (drop at ws)) (ds g) next))
-  split g x = w.rest g x ∙ pairs_split (meets_node g) 31 (node_steady g) (drop at ws) (tree k d ∷ []) (ds g) tt at
+module _ {types : GrammarTypes} {s : Words} {start : ℕ} {all : Grammar → Read (Unit {0})} {k d : ℕ} {ds : Grammar → List Due} {at : ℕ}
+    (w : Walk types s start all (λ g. tree k d ∷ ds g) at)
+    {part : Words} (ep : part ≡ drop (at - start) s) {a : Result ℕ (ℕ × ℕ)}
+    (is : OfTypes types.types (λ g. a ≡ answer (read_trees g part (tree k d ∷ []) at))) where
+  split : OfTypes types.types (λ g. all g ≡ and_then (read_trees g part (tree k d ∷ []) at)
+      (λ u next. read_trees g (drop (next - at) part) (ds g) next))
+  split g x = w.rest g x ∙ rw (← ep) (pairs_split (meets_node g) 31 (node_steady g) part (tree k d ∷ []) (ds g) tt at)
 
-  pub walk_refused : {r : ℕ × ℕ} → a ≡ Err r → OfTypes types (λ g. Err r ≡ answer (all g))
-  walk_refused {r} e g x = let z : all g ≡ refused r.0 r.1 = split g x ∙ rw (answer_refused (read_trees g (drop at ws) (tree k d ∷ []) at) a (is g x) e) in sym (ap answer z)
+  pub walk_refused : {r : ℕ × ℕ} → a ≡ Err r → OfTypes types.types (λ g. Err r ≡ answer (all g))
+  walk_refused {r} e g x =
+      let z : all g ≡ refused r.0 r.1 = split g x ∙ rw (answer_refused (read_trees g part (tree k d ∷ []) at) a (is g x) e) in
+      sym (ap answer z)
 
   module _ {next : ℕ} (e : a ≡ Ok next) where
-    pub walk_next : (at ≤ next) × (next ≤ length ws)
+    pub walk_next : (at ≤ next) × (next ≤ start + length s)
     walk_next = ∥∥₁_elim (some_types types) (×_prop le_prop le_prop) (λ t.
-        let u = answer_passed (read_trees t.0 (drop at ws) (tree k d ∷ []) at) a (is t.0 t.1) e in
-        let f = pairs_forward (meets_node t.0) 31 (node_steady t.0) (drop at ws) (tree k d ∷ []) tt at u.0 next u.1 in
-        (f.0, omega (arith, f.1, w.low, length-drop at ws)))
+        let u = answer_passed (read_trees t.0 part (tree k d ∷ []) at) a (is t.0 t.1) e in
+        let f = pairs_forward (meets_node t.0) 31 (node_steady t.0) part (tree k d ∷ []) tt at u.0 next u.1 in
+        let l : length part ≡ length s - (at - start) = ap length ep ∙ length-drop (at - start) s in
+        (f.0, omega (arith, f.1, w.from, w.low)))
 
-    pub walk_more : Walk types ws all ds next
+    pub walk_more : Walk types s start all ds next
     walk_more =
         let n = walk_next in
-        let i : at + (next - at) ≡ next = omega arith in
-        record { low = n.1; rest = λ g x. split g x ∙ rw ((answer_passed (read_trees g (drop at ws) (tree k d ∷ []) at) a (is g x) e).1, drop-drop (next - at) at ws, i) }
+        let i : at - start + (next - at) ≡ next - start = omega (arith, n.0, w.from) in
+        record {
+          from = omega (arith, n.0, w.from);
+          low = n.1;
+          rest = λ g x.
+              let u = answer_passed (read_trees g part (tree k d ∷ []) at) a (is g x) e in
+              split g x ∙ rw (u.1, ep, drop-drop (next - at) (at - start) s, i);
+        }
 
 -- a child is one level deeper
 deeper : (left : ℕ) → left ≤ most_nesting → nesting_at left ≤ most_nesting → suc (nesting_at left) ≡ nesting_at (left - 1)
@@ -209,49 +233,66 @@ deeper left few h = omega arith
 
 -- THE NODE, after its first pair
 
-module _ {types : Types} (ws : Words) (at d left : ℕ) (few : left ≤ most_nesting) (low : at ≤ length ws) {h : Result (ℕ × ℕ) (ℕ × ℕ)}
-    (is : OfTypes types (λ g. h ≡ got (read_head g (nesting_at left) d (drop at ws) at))) where
-  abbrev begun : Walk types ws (λ g. read_trees g (drop at ws) (tree (nesting_at left) d ∷ []) at) (λ g. tree (nesting_at left) d ∷ []) at
-  begun = walk_start (λ g. tree (nesting_at left) d ∷ []) low
+module _ (types : GrammarTypes) (s : Words) (at d left : ℕ) (few : left ≤ most_nesting) {h : Result (ℕ × ℕ) (ℕ × ℕ)}
+    (is : OfHeads types.types (λ g. h ≡ got (read_head g (nesting_at left) d s at))) where
+  abbrev begun : Walk types s at (λ g. read_trees g s (tree (nesting_at left) d ∷ []) at) (λ g. tree (nesting_at left) d ∷ []) at
+  begun = walk_start (λ g. tree (nesting_at left) d ∷ [])
 
-  pub node_bad : {r : ℕ × ℕ} → h ≡ Err r → OfTypes types (λ g. Err r ≡ answer (read_trees g (drop at ws) (tree (nesting_at left) d ∷ []) at))
-  node_bad e = walk_bad begun is e
+  -- nothing lies before the node
+  all_of : s ≡ drop (at - at) s
+  all_of = let z : at - at ≡ 0 = omega arith in rw z
+
+  pub node_bad : {r : ℕ × ℕ} → h ≡ Err r → OfTypes types.types (λ g. Err r ≡ answer (read_trees g s (tree (nesting_at left) d ∷ []) at))
+  node_bad e = walk_bad begun all_of is e
 
   module _ {r : ℕ × ℕ} (e : h ≡ Ok r) where
-    pub node_room : (0 < left) × (r.1 ≤ length ws)
-    node_room = let z = walk_room begun is e in (omega (arith, z.0), omega (arith, z.1, z.2))
+    pub node_room : (0 < left) × (2 ≤ length s) × (r.1 ≡ at + 2)
+    node_room = let z = walk_room begun all_of is e in (omega (arith, z.0), omega (arith, z.1), z.2)
 
-    pub node_children : {b : Bool} → OfTypes types (λ g. b ≡ is_sequence g d) → b ≡ false
-        → {a : Result ℕ (ℕ × ℕ)} → OfTypes types (λ g. a ≡ answer (read_trees g (drop r.1 ws) (level (nesting_at (left - 1)) (children g d r.0)) r.1))
-        → OfTypes types (λ g. a ≡ answer (read_trees g (drop at ws) (tree (nesting_at left) d ∷ []) at))
-    node_children eb no' {a} ea g x =
-        let z : read_trees g (drop at ws) (tree (nesting_at left) d ∷ []) at ≡ read_trees g (drop r.1 ws) (level (nesting_at (left - 1)) (children g d r.0)) r.1 =
-        (walk_head begun is e).rest g x ∙ rw (children_dues g d r.0 (nesting_at left) (sym (eb g x) ∙ no'), deeper left few (walk_room begun is e).0, append-nil) in
+    pub node_children : {b : Bool} → OfHeads types.types (λ g. b ≡ is_sequence g d) → b ≡ false → {part : Words} → part ≡ drop 2 s
+        → {a : Result ℕ (ℕ × ℕ)} → OfTypes types.types (λ g. a ≡ answer (read_trees g part (level (nesting_at (left - 1)) (children g d r.0)) r.1))
+        → OfTypes types.types (λ g. a ≡ answer (read_trees g s (tree (nesting_at left) d ∷ []) at))
+    node_children eb no' {part} ep {a} ea g x =
+        let i : r.1 - at ≡ 2 = omega (arith, node_room.2) in
+        let due = children_dues g d r.0 (nesting_at left) (sym (eb g x.heads_of) ∙ no') in
+        let z : read_trees g s (tree (nesting_at left) d ∷ []) at ≡ read_trees g part (level (nesting_at (left - 1)) (children g d r.0)) r.1 =
+        (walk_head begun all_of is e).rest g x ∙ rw (i, due, deeper left few (walk_room begun all_of is e).0, append-nil, ← ep) in
         ea g x ∙ sym (ap answer z)
 
 -- THE LOOP OVER A SEQUENCE
 
-module _ {types : Types} {ws : Words} {d : ℕ} (left : ℕ) (few : left ≤ most_nesting) {all : Grammar → Read (Unit {0})} {at : ℕ} (w : Walk types ws all (λ g. tree (nesting_at left) d ∷ []) at)
-    {h : Result (ℕ × ℕ) (ℕ × ℕ)} (is : OfTypes types (λ g. h ≡ got (read_head g (nesting_at left) d (drop at ws) at))) (seq : OfTypes types (λ g. is_sequence g d ≡ true)) {r : ℕ × ℕ} (e : h ≡ Ok r) where
-  pub sequence_room : (0 < left) × (at + 2 ≤ length ws) × (r.1 ≡ at + 2)
-  sequence_room = let z = walk_room w is e in (omega (arith, z.0), z.1, z.2)
+module _ {types : GrammarTypes} {s : Words} {start d : ℕ} (left : ℕ) (few : left ≤ most_nesting) {all : Grammar → Read (Unit {0})} {at : ℕ}
+    (w : Walk types s start all (λ g. tree (nesting_at left) d ∷ []) at)
+    {part : Words} (ep : part ≡ drop (at - start) s) {h : Result (ℕ × ℕ) (ℕ × ℕ)}
+    (is : OfHeads types.types (λ g. h ≡ got (read_head g (nesting_at left) d part at)))
+    (seq : OfHeads types.types (λ g. is_sequence g d ≡ true)) {r : ℕ × ℕ} (e : h ≡ Ok r) where
+  pub sequence_room : (0 < left) × (at + 2 ≤ start + length s) × (r.1 ≡ at + 2)
+  sequence_room = let z = walk_room w ep is e in (omega (arith, z.0), z.1, z.2)
 
-  pub sequence_end : (r.0 ≡ 0 → ⊥) → OfTypes types (λ g. Ok r.1 ≡ answer (all g))
-  sequence_end z = walk_end (walk_due (walk_head w is e) (λ g. []) (λ g x. rw (sequence_none g d r.0 (nesting_at left) (seq g x) z)))
+  pub sequence_end : (r.0 ≡ 0 → ⊥) → OfTypes types.types (λ g. Ok r.1 ≡ answer (all g))
+  sequence_end z = walk_end (walk_due (walk_head w ep is e) (λ g. []) (λ g x. rw (sequence_none g d r.0 (nesting_at left) (seq g x.heads_of) z)))
 
-  pub sequence_turn : r.0 ≡ 0 → (x : ℕ) → OfTypes types (λ g. x ≡ get_or (children g d 0) 0 0) → Walk types ws all (λ g. tree (nesting_at (left - 1)) x ∷ tree (nesting_at left) d ∷ []) r.1
-  sequence_turn z x ex = walk_due (walk_head w is e) (λ g. tree (nesting_at (left - 1)) x ∷ tree (nesting_at left) d ∷ [])
-      (λ g t. rw (z, sequence_some g d (nesting_at left) (seq g t), deeper left few (walk_room w is e).0, ← ex g t))
+  pub sequence_turn : r.0 ≡ 0 → (x : ℕ) → OfRows types.types (λ g. x ≡ get_or (children g d 0) 0 0)
+      → Walk types s start all (λ g. tree (nesting_at (left - 1)) x ∷ tree (nesting_at left) d ∷ []) r.1
+  sequence_turn z x ex = walk_due (walk_head w ep is e) (λ g. tree (nesting_at (left - 1)) x ∷ tree (nesting_at left) d ∷ [])
+      (λ g t. rw (z, sequence_some g d (nesting_at left) (seq g t.heads_of), deeper left few (walk_room w ep is e).0, ← ex g t.rows_of_lem))
 
 -- THE LOOP OVER THE CHILDREN
 
-module _ {types : Types} {ws : Words} {all : Grammar → Read (Unit {0})} {at : ℕ} (k t v i : ℕ) (w : Walk types ws all (λ g. level k (drop i (children g t v))) at)
-    {count : ℕ} (counted : OfTypes types (λ g. count ≡ length (children g t v))) where
-  pub children_end : count ≤ i → OfTypes types (λ g. Ok at ≡ answer (all g))
-  children_end h = walk_end (walk_due w (λ g. []) (λ g x. rw (drop_of_length-le (children g t v) {i = i} (omega (arith, counted g x)))))
+module _ {types : GrammarTypes} {s : Words} {start : ℕ} {all : Grammar → Read (Unit {0})} {at : ℕ} (k t v i : ℕ)
+    (w : Walk types s start all (λ g. level k (drop i (children g t v))) at)
+    {count : ℕ} (counted : OfRows types.types (λ g. count ≡ length (children g t v))) where
+  pub children_end : count ≤ i → OfTypes types.types (λ g. Ok at ≡ answer (all g))
+  children_end h = walk_end (walk_due w (λ g. []) (λ g x. rw (drop_of_length-le (children g t v) {i = i} (omega (arith, counted g x.rows_of_lem)))))
 
-  pub children_turn : i < count → (x : ℕ) → OfTypes types (λ g. x ≡ get_or (children g t v) i 0) → Walk types ws all (λ g. tree k x ∷ level k (drop (i + 1) (children g t v))) at
-  children_turn h x ex = walk_due w (λ g. tree k x ∷ level k (drop (i + 1) (children g t v))) (λ g y. rw (drop-cons (children g t v) i 0 (omega (arith, counted g y)), ← ex g y, add-one i))
+  pub children_turn : i < count → (x : ℕ) → OfRows types.types (λ g. x ≡ get_or (children g t v) i 0)
+      → Walk types s start all (λ g. tree k x ∷ level k (drop (i + 1) (children g t v))) at
+  children_turn h x ex = walk_due w (λ g. tree k x ∷ level k (drop (i + 1) (children g t v)))
+      (λ g y. rw (drop-cons (children g t v) i 0 (omega (arith, counted g y.rows_of_lem)), ← ex g y.rows_of_lem, add-one i))
+
+-- a part to the end lies within what the whole fits in
+pub part_fits : (s : Words) (at j most : ℕ) → at + length s ≤ most → j ≤ length s → {p : ℕ} → p ≡ at + j → p + length (take (length s - j) (drop j s)) ≤ most
+part_fits s at j most h low e = rw (part_rest j s) (omega (arith, length-drop j s))
 
 -- THE WHOLE CHECK
 

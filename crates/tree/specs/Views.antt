@@ -3,7 +3,7 @@ use Rattle.std.specs.Prelude.{ℕ, suc, ◌+◌, ◌-◌, ◌≤◌, ◌≡◌, 
 use Rattle.words.specs.Reader.{Words, value, Reader, ◌>>◌, require}
 use Rattle.grammar.specs.Grammar.{Grammar}
 use Rattle.grammar.specs.Kinds.{allowed}
-use Rattle.tables.specs.Types.{OfTypes}
+use Rattle.tables.specs.Types.{OfRows}
 use Rattle.tables.specs.declared.types.Types.{Types}
 use Rattle.tree.specs.Limits.{most_nesting}
 use Rattle.tree.specs.Tree.{first}
@@ -30,4 +30,4 @@ read_head g k d s = do
 -- r words are the first tree
 pub record Ends (types : Types) (ws : List ℕ) (r : ℕ) : Type 0 where
   pub within : r ≤ length ws
-  pub end : OfTypes types (λ g. r ≡ length (first g ws 1))
+  pub end : OfRows types (λ g. r ≡ length (first g ws 1))

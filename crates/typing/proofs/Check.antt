@@ -19,6 +19,7 @@ use Rattle.words.proofs.Sets.{get_d_within}
 use Rattle.grammar.specs.Limits.{most_grammar_words}
 use Rattle.grammar.specs.Grammar.{Grammar, read_grammar, grammar_fits}
 use Rattle.tables.specs.Tables.{read_of}
+use Rattle.tables.specs.Types.{AreAllTypes}
 use Rattle.tables.specs.declared.types.Types.{Types}
 use Rattle.std.proofs.Math.Logic.{∥∥₁_map}
 use Rattle.std.specs.Result.{result_unwrap_or}
@@ -228,9 +229,9 @@ module _ (types : ℕ) (ws : Words) (a : accepted (read_layout types ws) ≡ tru
           go (refused i p) = refl
 
 -- what is known of the rule book whose layout passes, with the types of some grammar
-pub layout_given : {types : Types} {ws : Words} → accepted (read_layout types.count ws) ≡ true → {n : ℕ} → n ≡ get_or ws 0 0 → {starts : Words} → starts ≡ sets (replicate 64 0) 0 (positions types.count ws n 1) → ∥ Given types ws starts ∥₁
-layout_given {types} {ws} a en s = ∥∥₁_map types.of_grammar (λ t.
-    record { grammar = t.0; types_of = record { heads_of = t.1.heads_of; rows_of_lem = t.1.rows_of_lem; count_of = t.2 }; rules = (layout_of types.count ws a).rules; book = layout_book types.count ws a en s })
+pub layout_given : {types : Types} → ∥ AreAllTypes types ∥₁ → {ws : Words} → accepted (read_layout types.count ws) ≡ true → {n : ℕ} → n ≡ get_or ws 0 0 → {starts : Words} → starts ≡ sets (replicate 64 0) 0 (positions types.count ws n 1) → ∥ Given types ws starts ∥₁
+layout_given {types} known {ws} a en s = ∥∥₁_map known (λ t.
+    record { grammar = t.0; types_of = t.1; rules = (layout_of types.count ws a).rules; book = layout_book types.count ws a en s })
 
 -- THE RULES THAT WERE READ stand where the table says
 

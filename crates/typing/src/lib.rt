@@ -6,20 +6,21 @@ ghost use Rattle.std.proofs.lemmas.List.Edits.{sets};
 ghost use Rattle.words.specs.Reader as Reader;
 ghost use Rattle.words.specs.Reader.{accepted, and_then};
 ghost use Rattle.words.specs.Views.{answer};
-ghost use Rattle.tables.specs.Types.{OfTypes};
+ghost use Rattle.grammar.specs.Grammar.{Grammar};
+ghost use Rattle.tables.specs.Types.{AllTypesOf, AreAllTypes};
 ghost use Rattle.rules.specs.Layout as Layout;
 ghost use Rattle.rules.specs.Rules.{Rule};
 ghost use Rattle.judgement.specs.Typing as Typing;
 ghost use Rattle.dues.specs.Views.{words_at};
 ghost use Rattle.pairs.specs.Book.{Headed};
-ghost use Rattle.pairs.specs.Views.{OfBook, typed_as};
+ghost use Rattle.pairs.specs.Views.{OfBook, OfWholeBook, typed_as};
 ghost use Rattle.typing.specs.Views.{deconstruct_of, parts_for, replacement_for, positions};
 
 use dues::{Due, Place, Stack, Variables};
 use pairs::Rulebook;
 use rules::limits::{MOST_PARTS, MOST_WORDS, PARTS, REPLACEMENT, STARTS};
 use rules::{Construct, Deconstruct, Head, Part};
-use tables::Types;
+use tables::GrammarTypes;
 use words::{Fault, Refusal};
 
 // A RULE
@@ -84,10 +85,10 @@ fn part_typed(
     at: usize,
     stack: &mut Stack,
 ) -> Result<(Variables, usize), Refusal>
-    ensures { OfBook book.now (λ g rules. result ≡ typed_as (and_then (Layout.part_at book.now.types.now.count book.now.words.now at) (λ p next. Typing.part_typed g rules book.now.words.now p variables.now at))) }
+    ensures { OfBook book.now (λ g rules. result ≡ typed_as (and_then (Layout.part_at book.now.types.now.types.count book.now.words.now at) (λ p next. Typing.part_typed g rules book.now.words.now p variables.now at))) }
 {
     let types = book.types;
-    let found = rules::read_part(types.count, book.words, at)?;
+    let found = rules::read_part(types.types.count, book.words, at)?;
     match found.part {
         Part::Deconstruct(fields) => deconstruct_typed(book, fields, variables, stack),
         Part::Construct(fields) => construct_typed(book, fields, variables, at, stack),
@@ -110,7 +111,7 @@ fn parts_typed(
     start: usize,
     stack: &mut Stack,
 ) -> Result<(Variables, usize), Refusal>
-    ensures { OfBook book.now (λ g rules. result ≡ typed_as (Typing.parts_typed g rules book.now.words.now k variables start)) }
+    ensures { OfWholeBook book.now (λ g rules. result ≡ typed_as (Typing.parts_typed g rules book.now.words.now k variables start)) }
 {
     let mut known = variables;
     let mut at = start;
@@ -128,7 +129,7 @@ fn read_parts(
     at: usize,
     stack: &mut Stack,
 ) -> Result<(Variables, usize), Refusal>
-    ensures { OfBook book.now (λ g rules. result ≡ typed_as (parts_for g rules book.now.words.now map variables at)) }
+    ensures { OfWholeBook book.now (λ g rules. result ≡ typed_as (parts_for g rules book.now.words.now map variables at)) }
 {
     if !rules::announces(map, PARTS) {
         return Ok((variables, at));
@@ -178,12 +179,12 @@ fn parameters_of(ws: &[u32], first: usize, k: u32) -> Variables
 
 // The rule whose map stands at a position.
 fn rule_typed(book: &Rulebook, at: usize, stack: &mut Stack) -> Result<usize, Refusal>
-    requires { accepted (Layout.rule book.now.types.now.count book.now.words.now at) ≡ true }
-    ensures { OfBook book.now (λ g rules. result ≡ answer (Typing.rule_typed g rules book.now.words.now at)) }
+    requires { accepted (Layout.rule book.now.types.now.types.count book.now.words.now at) ≡ true }
+    ensures { OfWholeBook book.now (λ g rules. result ≡ answer (Typing.rule_typed g rules book.now.words.now at)) }
 {
     let types = book.types;
     let ws = book.words;
-    let head = rules::read_head(types.count, ws, at)?;
+    let head = rules::read_head(types.types.count, ws, at)?;
     let parameters = parameters_of(ws, head.parameters, head.count);
     let (matched, next) = pairs::stretch_typed(
         Place::Pattern,
@@ -201,8 +202,8 @@ fn rule_typed(book: &Rulebook, at: usize, stack: &mut Stack) -> Result<usize, Re
 
 // Every rule, one after the other.
 fn each_typed(book: &Rulebook, stack: &mut Stack) -> Result<usize, Refusal>
-    requires { accepted (Reader.many (get_or book.now.words.now 0 0) (Layout.rule book.now.types.now.count book.now.words.now) 1) ≡ true }
-    ensures { OfBook book.now (λ g rules. result ≡ answer (Reader.many (get_or book.now.words.now 0 0) (Typing.rule_typed g rules book.now.words.now) 1)) }
+    requires { accepted (Reader.many (get_or book.now.words.now 0 0) (Layout.rule book.now.types.now.types.count book.now.words.now) 1) ≡ true }
+    ensures { OfWholeBook book.now (λ g rules. result ≡ answer (Reader.many (get_or book.now.words.now 0 0) (Typing.rule_typed g rules book.now.words.now) 1)) }
 {
     let mut at: usize = 1;
     for _ in 0..book.count() {
@@ -228,21 +229,21 @@ pub fn rule_starts(types: u32, ws: &[u32], n: u32) -> [usize; STARTS]
 // Does the main rule apply to the root of every tree? Its scope is the tree, of type 0.
 #[tactic(auto, using(pairs::proofs::Heads::headed_at, pairs::proofs::Heads::fits_is))]
 fn main_fits(book: &Rulebook) -> bool
-    ensures { (rule : Rule) → Headed book.now.types.now.count book.now.words.now (get_or book.now.starts.now 0 0) rule → result ≡ Typing.fits_scope rule 0 }
+    ensures { (rule : Rule) → Headed book.now.types.now.types.count book.now.words.now (get_or book.now.starts.now 0 0) rule → result ≡ Typing.fits_scope rule 0 }
 {
     let types = book.types;
-    match rules::read_head(types.count, book.words, book.rule_at(0)) {
+    match rules::read_head(types.types.count, book.words, book.rule_at(0)) {
         Ok(head) => dues::fits_scope(head.strategy, head.target, 0),
         Err(_) => false,
     }
 }
 
 // Every rule, of a book whose layout is read.
-fn rules_typed(types: &Types, ws: &[u32]) -> Result<usize, Refusal>
-    requires { (length ws.now < 2 ^ 32) × (accepted (Layout.read_layout types.now.count ws.now) ≡ true) }
-    ensures { OfTypes types.now (λ g. result ≡ answer (Typing.read_rules g ws.now)) }
+fn rules_typed(types: &GrammarTypes, ws: &[u32]) -> Result<usize, Refusal>
+    requires { (length ws.now < 2 ^ 32) × (accepted (Layout.read_layout types.now.types.count ws.now) ≡ true) × ∥ AreAllTypes types.now.types ∥₁ }
+    ensures { (g : Grammar) → AllTypesOf g types.now.types → result ≡ answer (Typing.read_rules g ws.now) }
 {
-    let starts = rule_starts(types.count, ws, words::word(ws, 0));
+    let starts = rule_starts(types.types.count, ws, words::word(ws, 0));
     let book = Rulebook {
         types,
         words: ws,
@@ -257,11 +258,11 @@ fn rules_typed(types: &Types, ws: &[u32]) -> Result<usize, Refusal>
 
 // 20 to 24, against the grammar's types.
 #[tactic(auto, using(crate::proofs::Check::layout_accepted, crate::proofs::Check::layout_refused))]
-pub fn read_rules(types: &Types, ws: &[u32]) -> Result<usize, Refusal>
-    requires { length ws.now < 2 ^ 32 }
-    ensures { OfTypes types.now (λ g. result ≡ answer (Typing.read_rules g ws.now)) }
+pub fn read_rules(types: &GrammarTypes, ws: &[u32]) -> Result<usize, Refusal>
+    requires { (length ws.now < 2 ^ 32) × ∥ AreAllTypes types.now.types ∥₁ }
+    ensures { (g : Grammar) → AllTypesOf g types.now.types → result ≡ answer (Typing.read_rules g ws.now) }
 {
-    book::read_layout(types.count, ws)?;
+    book::read_layout(types.types.count, ws)?;
     rules_typed(types, ws)
 }
 
@@ -277,7 +278,7 @@ pub fn check_rules(gs: &[u32], ws: &[u32]) -> Result<usize, Refusal>
         return Err(Refusal::new(Fault::LongBook, 0));
     }
     grammar::read_grammar(gs)?;
-    let mut types = Types::none();
+    let mut types = GrammarTypes::none();
     types.fill(gs);
     read_rules(&types, ws)
 }

@@ -1,7 +1,7 @@
 -- The numbers of the refusals: "Where each refusal is checked". Assumes nothing: these are definitions.
 use Rattle.std.specs.Prelude.{ℕ, ◌≡◌, refl, ◌==◌, if◌then◌else◌}
 use Rattle.words.specs.declared.refusal.Fault.{Fault}
-use Rattle.words.specs.declared.refusal.Fault.TheVariants.{ShortResult, ShortWork, Budget, LongGrammar, LongBook, GrammarEnds, GrammarWord, NoFiniteTree, BookEnds, BookWord, NotUsable, Misplaced, NoRoom, SlipLength, SlipEnds, SlipWord, SlipNesting, SlipCount, TableWord, TableMisfit}
+use Rattle.words.specs.declared.refusal.Fault.TheVariants.{ShortResult, ShortWork, Budget, LongGrammar, LongBook, GrammarEnds, GrammarWord, NoFiniteTree, BookEnds, BookWord, NotUsable, Misplaced, NoRoom, SlipLength, SlipEnds, SlipWord, SlipNesting, SlipCount, TableWord, TableMisfit, Numbered}
 
 -- "No.", 1 to 34; 60 and 61 by T-08
 abbrev pub number_of : Fault → ℕ
@@ -25,6 +25,11 @@ number_of SlipNesting = 33
 number_of SlipCount = 34
 number_of TableWord = 60
 number_of TableMisfit = 61
+number_of (Numbered n) = n
+
+-- the fault has a name of its own
+abbrev pub Named : Fault → Type 0
+Named f = (n : ℕ) → f ≡ Numbered n → ⊥
 
 -- the fault that a number names
 abbrev pub fault_of : ℕ → Fault
@@ -48,27 +53,29 @@ fault_of n =
     if n == 33 then SlipNesting else
     if n == 34 then SlipCount else
     if n == 60 then TableWord else
-    TableMisfit
+    if n == 61 then TableMisfit else
+    Numbered n
 
 -- each number names its fault
-pub fault_of-number_of : (f : Fault) → fault_of (number_of f) ≡ f
-fault_of-number_of ShortResult = refl
-fault_of-number_of ShortWork = refl
-fault_of-number_of Budget = refl
-fault_of-number_of LongGrammar = refl
-fault_of-number_of LongBook = refl
-fault_of-number_of GrammarEnds = refl
-fault_of-number_of GrammarWord = refl
-fault_of-number_of NoFiniteTree = refl
-fault_of-number_of BookEnds = refl
-fault_of-number_of BookWord = refl
-fault_of-number_of NotUsable = refl
-fault_of-number_of Misplaced = refl
-fault_of-number_of NoRoom = refl
-fault_of-number_of SlipLength = refl
-fault_of-number_of SlipEnds = refl
-fault_of-number_of SlipWord = refl
-fault_of-number_of SlipNesting = refl
-fault_of-number_of SlipCount = refl
-fault_of-number_of TableWord = refl
-fault_of-number_of TableMisfit = refl
+pub fault_of-number_of : (f : Fault) → Named f → fault_of (number_of f) ≡ f
+fault_of-number_of ShortResult h = refl
+fault_of-number_of ShortWork h = refl
+fault_of-number_of Budget h = refl
+fault_of-number_of LongGrammar h = refl
+fault_of-number_of LongBook h = refl
+fault_of-number_of GrammarEnds h = refl
+fault_of-number_of GrammarWord h = refl
+fault_of-number_of NoFiniteTree h = refl
+fault_of-number_of BookEnds h = refl
+fault_of-number_of BookWord h = refl
+fault_of-number_of NotUsable h = refl
+fault_of-number_of Misplaced h = refl
+fault_of-number_of NoRoom h = refl
+fault_of-number_of SlipLength h = refl
+fault_of-number_of SlipEnds h = refl
+fault_of-number_of SlipWord h = refl
+fault_of-number_of SlipNesting h = refl
+fault_of-number_of SlipCount h = refl
+fault_of-number_of TableWord h = refl
+fault_of-number_of TableMisfit h = refl
+fault_of-number_of (Numbered n) h = absurd (h n refl)

@@ -1,4 +1,4 @@
-// Lent words: reading one, copying and moving a stretch, and clearing.
+// Lent words: reading one, comparing, copying and moving a stretch, and clearing.
 #![tactic(auto)]
 
 pub mod refusal;
@@ -6,7 +6,7 @@ pub mod refusal;
 ghost use Rattle.std.specs.Prelude.{◌≡◌, ◌++◌, ◌+◌, ◌≤◌, length, get_or, take, drop, replicate};
 ghost use Rattle.words.specs.Faults.{number_of};
 ghost use Rattle.words.specs.Reader as Reader;
-ghost use Rattle.words.specs.Views.{got};
+ghost use Rattle.words.specs.Views.{got, equal_words};
 
 pub use refusal::{Fault, Refusal};
 
@@ -46,6 +46,14 @@ pub fn read_in(
     } else {
         Err(Refusal::new(fault, at))
     }
+}
+
+// Are the two stretches the same?
+#[tactic(auto, using(crate::proofs::Stretches::pointwise_equal))]
+pub fn same(a: &[u32], b: &[u32]) -> bool
+    ensures { result ≡ equal_words a.now b.now }
+{
+    a == b
 }
 
 // Copies the n words at `from` to `to`, above them in the same slice. The library's methods for this and the next would have the archive need `memmove`, which a

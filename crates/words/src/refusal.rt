@@ -48,6 +48,8 @@ pub enum Fault {
     TableWord,
     // 61: a type or form that does not fit its image
     TableMisfit,
+    // any number, that of a caller's own fault
+    Numbered(u32),
 }
 
 impl Fault {
@@ -76,14 +78,15 @@ impl Fault {
             Fault::SlipCount => 34,
             Fault::TableWord => 60,
             Fault::TableMisfit => 61,
+            Fault::Numbered(number) => number,
         }
     }
 }
 
-// A refusal: what is at fault, and the position of the word.
+// A refusal: the number of what is at fault, and the position of the word.
 #[derive(Clone, Copy, Debug, PartialEq, Eq)]
 pub struct Refusal {
-    fault: Fault,
+    number: u32,
     position: usize,
 }
 
@@ -105,7 +108,10 @@ impl Refusal {
     pub fn new(fault: Fault, position: usize) -> Refusal
         ensures { result ≡ (number_of fault, position) }
     {
-        Refusal { fault, position }
+        Refusal {
+            number: fault.number(),
+            position,
+        }
     }
 
     // The same fault at another position.
@@ -118,7 +124,7 @@ impl Refusal {
     pub fn number(self) -> u32
         ensures { result ≡ self.0 }
     {
-        self.fault.number()
+        self.number
     }
 
     pub fn position(self) -> usize

@@ -200,7 +200,7 @@ pub seek-nodes-init : goal.seek-nodes-init
 seek-nodes-init t c = ((c.requires.0.sound, kept_same (vars_of c.args.places.now c.args.frame.bound)), searching_start (given_of c.args.program.now) c.args.w.now c.args.plan c.args.base c.args.n (open_of c.args.places.now c.args.frame) c.args.deep c.args.left c.args.from c.requires.0)
 
 pub seek-next_candidate-next-requires : goal.seek-next_candidate-next-requires
-seek-next_candidate-next-requires t c = let h = tried_inside c.args.plan.strategy c.args.n c.nodes.i c.tried-last.result c.tried-last.ensures c.if-last-i.false in (c.pairs_of-pairs.ensures.1, c.first_of-first.ensures, c.requires.0.few, λ z. let k = tried_few c.args.plan.strategy c.args.n in (omega (arith, k, c.tried-last.ensures), omega (arith, h, c.requires.4 (omega (arith, h)), length-take (c.args.base + 2 * c.args.n - c.args.base) (drop c.args.base (take c.args.frame.top c.nodes.w)), length-drop c.args.base (take c.args.frame.top c.nodes.w), length-take c.args.frame.top c.nodes.w, c.requires.0.low, c.requires.0.few, c.requires.0.long, c.requires.2, c.requires.3, c.nodes.invariant.1.long)))
+seek-next_candidate-next-requires t c = let h = tried_inside c.args.plan.strategy c.args.n c.nodes.i c.tried-last.result c.tried-last.ensures c.if-last-i.false in (c.pairs_of-pairs.ensures.1, c.first_of-first.ensures.known, c.requires.0.few, λ z. let k = tried_few c.args.plan.strategy c.args.n in (omega (arith, k, c.tried-last.ensures), omega (arith, h, c.requires.4 (omega (arith, h)), length-take (c.args.base + 2 * c.args.n - c.args.base) (drop c.args.base (take c.args.frame.top c.nodes.w)), length-drop c.args.base (take c.args.frame.top c.nodes.w), length-take c.args.frame.top c.nodes.w, c.requires.0.low, c.requires.0.few, c.requires.0.long, c.requires.2, c.requires.3, c.nodes.invariant.1.long)))
 
 pub seek-match_pattern-m-requires : goal.seek-match_pattern-m-requires
 seek-match_pattern-m-requires t c = let h = tried_inside c.args.plan.strategy c.args.n c.next_candidate-next.result.node c.tried-last.result c.tried-last.ensures c.if-last-i-2.false in (c.pairs_of-pairs.ensures.1, omega (arith, h, c.requires.4 (omega (arith, h)), c.requires.0.low, c.requires.0.few, c.requires.0.long, c.requires.2, c.requires.3, c.nodes.invariant.1.long), c.nodes.invariant.0.0, c.requires.0.few)

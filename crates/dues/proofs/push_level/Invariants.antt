@@ -1,5 +1,5 @@
 -- The i first children are still to be pushed. Assumes nothing.
-use Rattle.tables.specs.Types.{TypesOf}
+use Rattle.tables.specs.Tables.{Rows}
 use Rattle.grammar.specs.Grammar.{Grammar}
 use Rattle.grammar.specs.Kinds.{children}
 use Rattle.dues.specs.Views.{children_due}
@@ -14,5 +14,5 @@ invariant-loop-i l = record {
   few : l.count ≤ 255;
   left : l.i ≤ l.count;
   height : length l.stack + l.i ≡ length l.initial.stack + l.count;
-  pushed : (g : Grammar) → TypesOf g l.types → (l.count ≡ length (children g l.t l.v)) × (l.stack ≡ drop l.i (children_due l.nesting (children g l.t l.v)) ++ l.initial.stack);
+  pushed : (g : Grammar) → Rows g l.types.types.rows → (l.count ≡ length (children g l.t l.v)) × (l.stack ≡ drop l.i (children_due l.nesting (children g l.t l.v)) ++ l.initial.stack);
 }

@@ -25,23 +25,23 @@ pub returns-in_err-met : goal.returns-in_err-met
 returns-in_err-met c = λ g h rules b. exits c.from_residual.result c.from_residual.ensures ∙ rest_fault (meets g rules (place_as c.args.here)) c.args.ps.now c.args.start c.pass_tokens-from.result c.loop-due.known (due_as c.in-Some.due) c.pop.new.self (omega arith) (c.in_err-met.ensures g h rules b) ∙ ap typed_as (sym (taken_off (meets g rules (place_as c.args.here)) c.args.ps.now c.args.start c.loop-due.i c.pass_tokens-from.result c.loop-due.known c.loop-due.stack c.pop.new.self (due_as c.in-Some.due) (c.loop-due.invariant.same g h rules b) (pop_some c.loop-due.stack c.pop.new.self c.pop.ensures c.in-Some.is) (c.pass_tokens-from.ensures.same g h rules)))
 
 pub push-requires-in-Some-met : goal.push-requires-in-Some-met
-push-requires-in-Some-met c = ∥∥₁_elim c.args.book.now.given le_prop (λ G. met_room (c.meet.ensures G.grammar G.types_of G.rules G.book) (c.in_ok-met.was ∙ ap Ok c.in-Some-met.is))
+push-requires-in-Some-met c = ∥∥₁_elim c.args.book.now.given le_prop (λ G. met_room (c.meet.ensures G.grammar G.types_of.types_of G.rules G.book) (c.in_ok-met.was ∙ ap Ok c.in-Some-met.is))
 
 pub loop-due-preserved-in-Some-met : goal.loop-due-preserved-in-Some-met
 loop-due-preserved-in-Some-met c =
-    let more : length c.meet.new.stack ≤ length c.pop.new.self + 8 = ∥∥₁_elim c.args.book.now.given le_prop (λ G. met_few (c.meet.ensures G.grammar G.types_of G.rules G.book) c.in_ok-met.met c.in_ok-met.was) in
+    let more : length c.meet.new.stack ≤ length c.pop.new.self + 8 = ∥∥₁_elim c.args.book.now.given le_prop (λ G. met_few (c.meet.ensures G.grammar G.types_of.types_of G.rules G.book) c.in_ok-met.met c.in_ok-met.was) in
     let top = ap length (pop_some c.loop-due.stack c.pop.new.self c.pop.ensures c.in-Some.is) in
     record {
       low = omega (arith, c.loop-due.invariant.low, c.pass_tokens-from.ensures.later, c.if-ps-from-lt2.false);
       within = omega (arith, c.if-ps-from-lt2.false);
-      few = omega (arith, ap length c.push-in-Some-met.ensures, length-append c.loop-due.known (c.in-Some-met.d ∷ []), ∥∥₁_elim c.args.book.now.given le_prop (λ G. met_room (c.meet.ensures G.grammar G.types_of G.rules G.book) (c.in_ok-met.was ∙ ap Ok c.in-Some-met.is)));
+      few = omega (arith, ap length c.push-in-Some-met.ensures, length-append c.loop-due.known (c.in-Some-met.d ∷ []), ∥∥₁_elim c.args.book.now.given le_prop (λ G. met_room (c.meet.ensures G.grammar G.types_of.types_of G.rules G.book) (c.in_ok-met.was ∙ ap Ok c.in-Some-met.is)));
       same = λ g h rules b. taken_off (meets g rules (place_as c.args.here)) c.args.ps.now c.args.start c.loop-due.i c.pass_tokens-from.result c.loop-due.known c.loop-due.stack c.pop.new.self (due_as c.in-Some.due) (c.loop-due.invariant.same g h rules b) (pop_some c.loop-due.stack c.pop.new.self c.pop.ensures c.in-Some.is) (c.pass_tokens-from.ensures.same g h rules)
           ∙ rest_new (meets g rules (place_as c.args.here)) c.args.ps.now c.args.start c.pass_tokens-from.result c.loop-due.known (due_as c.in-Some.due) c.pop.new.self (omega arith) (meets_steady g rules (place_as c.args.here) (due_as c.in-Some.due) c.loop-due.known _ _) (c.meet.ensures g h rules b) (c.in_ok-met.was ∙ ap Ok c.in-Some-met.is) ∙ rw c.push-in-Some-met.ensures;
     }
 
 pub loop-due-preserved : goal.loop-due-preserved
 loop-due-preserved c =
-    let more : length c.meet.new.stack ≤ length c.pop.new.self + 8 = ∥∥₁_elim c.args.book.now.given le_prop (λ G. met_few (c.meet.ensures G.grammar G.types_of G.rules G.book) c.in_ok-met.met c.in_ok-met.was) in
+    let more : length c.meet.new.stack ≤ length c.pop.new.self + 8 = ∥∥₁_elim c.args.book.now.given le_prop (λ G. met_few (c.meet.ensures G.grammar G.types_of.types_of G.rules G.book) c.in_ok-met.met c.in_ok-met.was) in
     let top = ap length (pop_some c.loop-due.stack c.pop.new.self c.pop.ensures c.in-Some.is) in
     record {
       low = omega (arith, c.loop-due.invariant.low, c.pass_tokens-from.ensures.later, c.if-ps-from-lt2.false);

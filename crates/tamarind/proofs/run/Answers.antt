@@ -11,7 +11,7 @@ pub read_inputs-requires : goal.read_inputs-requires
 read_inputs-requires c =
     let a = c.args in
     let room = call_room a.res.now a.work.now (inputs_of a.budget a.grammar.now a.rules.now a.slip.now) c.call_fits.ensures c.in_default.is in
-    (c.none-types.ensures, omega (arith, room.1), room.0)
+    (c.none-types.ensures.blank, omega (arith, room.1), room.0)
 
 pub execute-requires : goal.execute-requires
 execute-requires c = let a = c.args in inputs_accepted a.res.now a.work.now (inputs_of a.budget a.grammar.now a.rules.now a.slip.now) c.call_fits.ensures c.in_default.is c.read_inputs.ensures c.in-Ok.is

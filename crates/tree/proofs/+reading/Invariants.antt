@@ -19,10 +19,14 @@ abbrev pub decreases-sequence : goal.decreases-sequence
 decreases-sequence l = 3 * l.left + 1
 
 abbrev pub invariant-children-loop-i : goal.invariant-children-loop-i
-invariant-children-loop-i l = Walk l.types l.ws (λ g. read_trees g (drop l.start l.ws) (level (nesting_at l.left) (Kinds.children g l.t l.v)) l.start) (λ g. level (nesting_at l.left) (drop l.i (Kinds.children g l.t l.v))) l.at
+invariant-children-loop-i l = Walk l.types l.s l.start
+    (λ g. read_trees g l.s (level (nesting_at l.left) (Kinds.children g l.t l.v)) l.start)
+    (λ g. level (nesting_at l.left) (drop l.i (Kinds.children g l.t l.v))) l.at
 
 abbrev pub invariant-sequence-loop-v : goal.invariant-sequence-loop-v
-invariant-sequence-loop-v l = Walk l.types l.ws (λ g. read_trees g (drop l.start l.ws) (tree (nesting_at l.left) l.d ∷ []) l.start) (λ g. tree (nesting_at l.left) l.d ∷ []) l.at
+invariant-sequence-loop-v l = Walk l.types l.s l.start
+    (λ g. read_trees g l.s (tree (nesting_at l.left) l.d ∷ []) l.start)
+    (λ g. tree (nesting_at l.left) l.d ∷ []) l.at
 
 abbrev pub decreases-sequence-loop-v : goal.decreases-sequence-loop-v
-decreases-sequence-loop-v l = length l.ws - l.at
+decreases-sequence-loop-v l = l.start + length l.s - l.at

@@ -7,11 +7,11 @@ use Rattle.words.specs.Reader.{many, accepted}
 use Rattle.words.specs.Views.{answer}
 use Rattle.rules.specs.Layout.{rule}
 use Rattle.judgement.specs.Typing.{rule_typed}
-use Rattle.pairs.specs.Views.{OfBook}
+use Rattle.pairs.specs.Views.{OfWholeBook}
 use Rattle.typing.proofs.each_typed.Given as goal
 
 abbrev pub invariant-loop : goal.invariant-loop
 invariant-loop l = record {
-  there : accepted (many (get_or l.book.words.now 0 0 - l.counter) (rule l.book.types.now.count l.book.words.now) l.at) ≡ true;
-  same : OfBook l.book (λ g rules. answer (many (get_or l.book.words.now 0 0) (rule_typed g rules l.book.words.now) 1) ≡ answer (many (get_or l.book.words.now 0 0 - l.counter) (rule_typed g rules l.book.words.now) l.at));
+  there : accepted (many (get_or l.book.words.now 0 0 - l.counter) (rule l.book.types.now.types.count l.book.words.now) l.at) ≡ true;
+  same : OfWholeBook l.book (λ g rules. answer (many (get_or l.book.words.now 0 0) (rule_typed g rules l.book.words.now) 1) ≡ answer (many (get_or l.book.words.now 0 0 - l.counter) (rule_typed g rules l.book.words.now) l.at));
 }

@@ -2,8 +2,8 @@
 use Prim.Native.Nat.{◌-◌}
 use mathlib.Core.Path.{◌≡◌}
 use Rattle.judgement.specs.Typing.{parts_typed}
-use Rattle.pairs.specs.Views.{OfBook}
+use Rattle.pairs.specs.Views.{OfWholeBook}
 use Rattle.typing.proofs.parts_typed.Given as goal
 
 abbrev pub invariant-loop : goal.invariant-loop
-invariant-loop l = OfBook l.book (λ g rules. parts_typed g rules l.book.words.now l.k l.initial.known l.start ≡ parts_typed g rules l.book.words.now (l.k - l.counter) l.known l.at)
+invariant-loop l = OfWholeBook l.book (λ g rules. parts_typed g rules l.book.words.now l.k l.initial.known l.start ≡ parts_typed g rules l.book.words.now (l.k - l.counter) l.known l.at)

@@ -17,13 +17,13 @@ pub stretch_typed-requires : goal.stretch_typed-requires
 stretch_typed-requires c = pattern_accepted _ _ _ c.in_ok-head.ensures c.requires
 
 pub returns-in_err-matched : goal.returns-in_err-matched
-returns-in_err-matched c = λ g h rules b. exits c.from_residual-in_err-matched.result c.from_residual-in_err-matched.ensures ∙ pattern_fault _ _ _ c.in_ok-head.ensures c.requires g rules h.count_of c.parameters_of-parameters.ensures (c.in_err-matched.ensures g h rules b)
+returns-in_err-matched c = λ g h rules b. exits c.from_residual-in_err-matched.result c.from_residual-in_err-matched.ensures ∙ pattern_fault _ _ _ c.in_ok-head.ensures c.requires g rules h.count_of c.parameters_of-parameters.ensures (c.in_err-matched.ensures g h.types_of rules b)
 
 pub returns-in_err-all : goal.returns-in_err-all
-returns-in_err-all c = λ g h rules b. exits c.from_residual-in_err-all.result c.from_residual-in_err-all.ensures ∙ parts_refused _ _ _ c.in_ok-head.ensures c.requires g rules h.count_of c.parameters_of-parameters.ensures (c.in_ok-matched.ensures g h rules b) (c.in_err-all.ensures g h rules b)
+returns-in_err-all c = λ g h rules b. exits c.from_residual-in_err-all.result c.from_residual-in_err-all.ensures ∙ parts_refused _ _ _ c.in_ok-head.ensures c.requires g rules h.count_of c.parameters_of-parameters.ensures (c.in_ok-matched.ensures g h.types_of rules b) (c.in_err-all.ensures g h rules b)
 
 pub read_replacement-requires : goal.read_replacement-requires
-read_replacement-requires c = ∥∥₁_elim c.args.book.now.given (Bool-set _ _) (λ G. replacement_accepted _ _ _ c.in_ok-head.ensures c.requires G.grammar G.rules G.types_of.count_of c.parameters_of-parameters.ensures (c.in_ok-matched.ensures G.grammar G.types_of G.rules G.book) (c.in_ok-all.ensures G.grammar G.types_of G.rules G.book))
+read_replacement-requires c = ∥∥₁_elim c.args.book.now.given (Bool-set _ _) (λ G. replacement_accepted _ _ _ c.in_ok-head.ensures c.requires G.grammar G.rules G.types_of.count_of c.parameters_of-parameters.ensures (c.in_ok-matched.ensures G.grammar G.types_of.types_of G.rules G.book) (c.in_ok-all.ensures G.grammar G.types_of G.rules G.book))
 
 pub returns : goal.returns
-returns c = λ g h rules b. rule_done _ _ _ c.in_ok-head.ensures c.requires g rules h.count_of c.parameters_of-parameters.ensures (c.in_ok-matched.ensures g h rules b) (c.in_ok-all.ensures g h rules b) (c.read_replacement.ensures g h rules b)
+returns c = λ g h rules b. rule_done _ _ _ c.in_ok-head.ensures c.requires g rules h.count_of c.parameters_of-parameters.ensures (c.in_ok-matched.ensures g h.types_of rules b) (c.in_ok-all.ensures g h rules b) (c.read_replacement.ensures g h.types_of rules b)

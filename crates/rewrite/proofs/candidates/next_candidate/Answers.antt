@@ -1,4 +1,3 @@
-use borrow.Author.Tests.{not-false}
 use Rattle.rewrite.proofs.Clashing.{passing_start, candidate_found, candidate_begun, candidate_fails}
 use native.Mathlib.Omega.{arith}
 use Rattle.rewrite.proofs.candidates.next_candidate.Goals as goal
@@ -28,7 +27,7 @@ pub slice_bounds-clashes_later-end : goal.slice_bounds-clashes_later-end
 slice_bounds-clashes_later-end c = let h = c.requires.3 (omega (arith, c.if-last-next.false)) in omega (arith, h.0, h.1, c.if-last-next.false)
 
 pub clashes_later-requires : goal.clashes_later-requires
-clashes_later-requires c = (c.requires.0, c.requires.2, candidate_begun _ _ _ _ _ _ _ _ _ _ c.requires.1 c.requires.2 c.requires.3 _ _ c.loop-first.invariant _ c.next_start-next.ensures c.if-last-next.false (not-false _ c.if-not-first.false) (omega (arith, c.if-next-eq0.false)))
+clashes_later-requires c = (c.requires.0, c.requires.2, candidate_begun _ _ _ _ _ _ _ _ _ _ c.requires.1 c.requires.2 c.requires.3 _ _ c.loop-first.invariant _ c.next_start-next.ensures c.if-last-next.false (c.looks_further-further.ensures c.if-not-further.false) (omega (arith, c.if-next-eq0.false)))
 
 pub returns-then-not-clashes_later : goal.returns-then-not-clashes_later
 returns-then-not-clashes_later c = candidate_found _ _ _ _ _ _ _ _ _ _ c.requires.1 c.requires.2 c.requires.3 _ _ c.loop-first.invariant _ c.next_start-next.ensures
@@ -42,5 +41,5 @@ loop-first-smaller c = omega (arith, c.if-last-next.false, c.next_start-next.ens
 pub loop-first-preserved : goal.loop-first-preserved
 loop-first-preserved c = candidate_fails _ _ _ _ _ _ _ _ _ _ c.requires.1 c.requires.2 c.requires.3 _ _ c.loop-first.invariant _ c.next_start-next.ensures c.if-last-next.false _ (omega (arith, c.if-next-eq0.false)) (c.clashes_later.ensures c.if-not-clashes_later.false)
 
-pub returns-then-not-first : goal.returns-then-not-first
-returns-then-not-first c = candidate_found _ _ _ _ _ _ _ _ _ _ c.requires.1 c.requires.2 c.requires.3 _ _ c.loop-first.invariant _ c.next_start-next.ensures
+pub returns-then-not-further : goal.returns-then-not-further
+returns-then-not-further c = candidate_found _ _ _ _ _ _ _ _ _ _ c.requires.1 c.requires.2 c.requires.3 _ _ c.loop-first.invariant _ c.next_start-next.ensures

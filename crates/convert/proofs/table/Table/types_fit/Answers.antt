@@ -1,10 +1,9 @@
 use native.Mathlib.Omega.{arith}
-use Rattle.convert.proofs.Entries.{types_few}
 use Rattle.convert.proofs.Fitting.{types_end}
 use Rattle.convert.proofs.table.Table.types_fit.Goals as goal
 
 pub type_fits-requires : goal.type_fits-requires
-type_fits-requires c = (omega (arith, types_few c.args.old.now.types, c.loop-t-test.true), c.loop-t.invariant.low)
+type_fits-requires c = (omega (arith, c.args.old.now.few, c.loop-t-test.true), c.loop-t.invariant.low)
 
 pub returns : goal.returns
 returns c = types_end c.loop-t.invariant c.loop-t-test.false

@@ -7,7 +7,7 @@ use Rattle.tables.proofs.types.Types.child.Goals.{else-t-lt-MOST_TYPES-via-then-
 
 pub returns-else-t-lt-MOST_TYPES : goal.returns-else-t-lt-MOST_TYPES
 returns-else-t-lt-MOST_TYPES c = λ g ts. elim c.else-t-lt-MOST_TYPES.branch [
-  | else-t-lt-MOST_TYPES-via-then-t-lt-MOST_TYPES+then-v-lt-MOST_FORMS+else-i w ↦ child_out g c.args.self.now.rows ts.rows_of_lem c.args.t c.args.v c.args.i (omega (arith, w.if-i.false))
-  | else-t-lt-MOST_TYPES-via-then-t-lt-MOST_TYPES+else-v-lt-MOST_FORMS w ↦ ap (λ l. get_or l c.args.i 0) (sym (ts.rows_of_lem.values c.args.t c.args.v w.if-v-lt-MOST_FORMS.false))
-  | else-t-lt-MOST_TYPES-via-else-t-lt-MOST_TYPES w ↦ ap (λ l. get_or l c.args.i 0) (sym (no_type g c.args.self.now.rows ts.rows_of_lem c.args.t c.args.v w.if-t-lt-MOST_TYPES.false))
+  | else-t-lt-MOST_TYPES-via-then-t-lt-MOST_TYPES+then-v-lt-MOST_FORMS+else-i w ↦ child_out g c.args.self.now.rows ts c.args.t c.args.v c.args.i (omega (arith, w.if-i.false))
+  | else-t-lt-MOST_TYPES-via-then-t-lt-MOST_TYPES+else-v-lt-MOST_FORMS w ↦ ap (λ l. get_or l c.args.i 0) (sym (ts.values c.args.t c.args.v w.if-v-lt-MOST_FORMS.false))
+  | else-t-lt-MOST_TYPES-via-else-t-lt-MOST_TYPES w ↦ ap (λ l. get_or l c.args.i 0) (sym (no_type g c.args.self.now.rows ts c.args.t c.args.v w.if-t-lt-MOST_TYPES.false))
 ]

@@ -5,8 +5,5 @@ use Rattle.tables.proofs.types.Types.fill.Goals as goal
 pub fill-requires : goal.fill-requires
 fill-requires c = (c.requires.0, c.requires.1.0, c.requires.1.1)
 
-pub invariant_of-self : goal.invariant_of-self
-invariant_of-self c = record { of_grammar = ∣ (_, c.fill.ensures, decoded_length c.args.ws.now _ (accepted_decoded c.args.ws.now c.requires.0) ∙ sym c.word-self.ensures) ∣₁ }
-
 pub returns : goal.returns
-returns c = record { heads_of = c.fill.ensures.heads_of; rows_of_lem = c.fill.ensures.rows_of_lem; count_of = decoded_length c.args.ws.now _ (accepted_decoded c.args.ws.now c.requires.0) ∙ sym c.word-self.ensures }
+returns c = record { types_of = record { heads_of = c.fill.ensures.heads_of; rows_of_lem = c.fill.ensures.rows_of_lem }; count_of = decoded_length c.args.ws.now _ (accepted_decoded c.args.ws.now c.requires.0) ∙ sym c.word-self.ensures }
