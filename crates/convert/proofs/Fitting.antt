@@ -17,9 +17,9 @@ use Rattle.grammar.specs.Kinds.{kind_of, children_of, children, forms_of}
 use Rattle.tables.specs.Types.{TypesOf, OfHeads, OfRows}
 use Rattle.tables.specs.declared.types.Types.{Types}
 use Rattle.convert.specs.Table.{Entry, entry_of, type_to, form_to, bit_of, class_of, element_of, alike, fitting, forms_fit, type_fits, types_fit}
-use Rattle.convert.specs.declared.side.Side.{Side}
+use Rattle.convert.specs.declared.view.View.{View}
 use Rattle.convert.specs.declared.table.Table.{Table}
-use Rattle.convert.specs.Views.{Shows, type_at, form_at, Placed, Numbered, AlikeTested, FormTested, FormsTested, TypeTested, TypesTested}
+use Rattle.convert.specs.Views.{Seen, type_at, form_at, Placed, Numbered, AlikeTested, FormTested, FormsTested, TypeTested, TypesTested}
 use Rattle.convert.proofs.Converting.{OneKind, tokens, opts, sequences, with_forms, one_kind}
 
 -- KINDS
@@ -156,8 +156,8 @@ then_refused q f e = rw e
 forms_read : ℕ → ℕ → Grammar → Grammar → List Entry → Reader (Unit {0})
 forms_read t m a b es = forms_fit es (forms_of (kind_of b m)) (forms_of (kind_of a t)) (entry_of es t).numbers
 
-module _ {s s' : Side} {table : Table} (t at m : ℕ) (em : m ≡ type_at table t) (fits : Bool) (told : AlikeTested s s' table t m fits) where
-  type_here : (a b : Grammar) (es : List Entry) → Shows s a → Shows s' b → Placed table es → type_fits b es (kind_of a t) (entry_of es t) at ≡ and_then (fitting fits at) (λ u. forms_read t m a b es)
+module _ {s s' : View} {table : Table} (t at m : ℕ) (em : m ≡ type_at table t) (fits : Bool) (told : AlikeTested s s' table t m fits) where
+  type_here : (a b : Grammar) (es : List Entry) → Seen s a → Seen s' b → Placed table es → type_fits b es (kind_of a t) (entry_of es t) at ≡ and_then (fitting fits at) (λ u. forms_read t m a b es)
   unfolding type_fits type_to forms_read
   type_here a b es sa sb p = let to : m ≡ (entry_of es t).type = em ∙ p.type t in rw (told a b es sa sb p, to)
 
@@ -165,8 +165,8 @@ module _ {s s' : Side} {table : Table} (t at m : ℕ) (em : m ≡ type_at table 
   unfolding fitting
   type_unlike h = record { answered = λ a b es sa sb p q. sym (ap answer (type_here a b es sa sb p) ∙ rw h); low = λ next e. cc }
 
-  module _ (fine : fits ≡ true) (k : ℕ) (count : OfHeads s.types.types (λ g. k ≡ length (forms_of (kind_of g t)))) (v : ℕ) (misfit : FormsTested s.types.types s'.types.types table k t m v) where
-    type_forms : (a b : Grammar) (es : List Entry) → Shows s a → Shows s' b → Placed table es → Numbered a es → answer (type_fits b es (kind_of a t) (entry_of es t) at) ≡ pick (ltb v k) (Err (61, at + 1 + v)) (Ok (at + 1 + k))
+  module _ (fine : fits ≡ true) (k : ℕ) (count : OfHeads s.types.now (λ g. k ≡ length (forms_of (kind_of g t)))) (v : ℕ) (misfit : FormsTested s.types.now s'.types.now table k t m v) where
+    type_forms : (a b : Grammar) (es : List Entry) → Seen s a → Seen s' b → Placed table es → Numbered a es → answer (type_fits b es (kind_of a t) (entry_of es t) at) ≡ pick (ltb v k) (Err (61, at + 1 + v)) (Ok (at + 1 + k))
     unfolding fitting forms_read
     type_forms a b es sa sb p q =
         let like = sym (told a b es sa sb p) ∙ fine in
@@ -187,31 +187,31 @@ module _ {s s' : Side} {table : Table} (t at m : ℕ) (em : m ≡ type_at table 
 -- THE TYPES
 
 -- what is known of the grammars and the table
-pub record KnownAll (s s' : Side) (table : Table) (a b : Grammar) (es : List Entry) : Type 0 where
-  pub old : Shows s a
-  pub new : Shows s' b
+pub record KnownAll (s s' : View) (table : Table) (a b : Grammar) (es : List Entry) : Type 0 where
+  pub old : Seen s a
+  pub new : Seen s' b
   pub entries : length es ≡ length a
   pub placed : Placed table es
   pub numbered : Numbered a es
 
 -- t types fit
-pub record TypesLoop (s s' : Side) (table : Table) (t at : ℕ) : Type 0 where
+pub record TypesLoop (s s' : View) (table : Table) (t at : ℕ) : Type 0 where
   pub low : at ≤ t * 4294967296
   pub rest : (a b : Grammar) (es : List Entry) → KnownAll s s' table a b es → answer (types_fit b es a es 0) ≡ answer (types_fit b es (drop t a) (drop t es) at)
 
-pub types_start : (s s' : Side) (table : Table) → TypesLoop s s' table 0 0
+pub types_start : (s s' : View) (table : Table) → TypesLoop s s' table 0 0
 types_start s s' table = record { low = omega arith; rest = λ a b es known. refl }
 
 then_unit : {B : Type 0} (q : Read (Unit {0})) (f : Unit {0} → Reader B) {p : ℕ} → answer q ≡ Ok p → and_then q f ≡ f tt p
 then_unit (value u n) f {p} e = let z : n ≡ p = cc e in ap (f u) z
 then_unit (refused n q) f e = cc
 
-module _ {s s' : Side} {table : Table} {t at : ℕ} (loop : TypesLoop s s' table t at) where
-  pub types_end : s.types.types.count ≤ t → TypesTested s s' table (Ok at)
+module _ {s s' : View} {table : Table} {t at : ℕ} (loop : TypesLoop s s' table t at) where
+  pub types_end : s.types.now.count ≤ t → TypesTested s s' table (Ok at)
   unfolding types_fit
   types_end h = λ a b es sa sb ee p q. sym (loop.rest a b es (record { old = sa; new = sb; entries = ee; placed = p; numbered = q }) ∙ rw (drop_of_length-le a {i = t} (omega arith)))
 
-  module _ (more : t < s.types.types.count) {c : Result ℕ (ℕ × ℕ)} (told : TypeTested s s' table t at c) where
+  module _ (more : t < s.types.now.count) {c : Result ℕ (ℕ × ℕ)} (told : TypeTested s s' table t at c) where
     -- type t, then those behind it
     types_here : (a b : Grammar) (es : List Entry) → KnownAll s s' table a b es → answer (types_fit b es a es 0) ≡ answer (and_then (type_fits b es (kind_of a t) (entry_of es t) at) (λ u. types_fit b es (drop (t + 1) a) (drop (t + 1) es)))
     unfolding types_fit kind_of entry_of

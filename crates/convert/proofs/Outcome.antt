@@ -29,11 +29,12 @@ use Rattle.slips.specs.Slips.{SlipRead}
 use Rattle.convert.specs.Table.{Entry, whole_table, entry_of, type_to, types_fit, read_table, Fits}
 use Rattle.convert.specs.Conversion.{converted, Conversion, refused_by, or_refused, conversion_between, conversion, result_after, converted_as, Converts}
 use Rattle.convert.specs.Refusals.{blamed, passed}
-use Rattle.convert.specs.Views.{Shows, type_at, Placed, Numbered, ReadAs, ReadTo, WholeRead, TypesTested, TableRead, TableChecked, TreeConverted, nodes_in, SlipConverted}
+use Rattle.convert.specs.Views.{Shows, Seen, type_at, Placed, Numbered, ReadAs, ReadTo, WholeRead, TypesTested, TableRead, TableChecked, TreeConverted, nodes_in, SlipConverted}
 use Rattle.convert.specs.declared.refusal.AtFault.{AtFault}
 use Rattle.convert.specs.declared.refusal.AtFault.TheVariants.{Neither, Old, New}
 use Rattle.convert.specs.declared.refusal.ConversionRefusal.{ConversionRefusal}
 use Rattle.convert.specs.declared.side.Side.{Side}
+use Rattle.convert.specs.declared.view.View.{View}
 use Rattle.convert.specs.declared.table.Table.{Table}
 use Rattle.convert.proofs.Exactly.{table_exactly, EntriesNamed, none_named, one_named, fits_named, table_read}
 use Rattle.convert.proofs.Converting.{converted_size}
@@ -80,7 +81,7 @@ read_there (refused n p) table h = absurd h
 to_refused : (q : Read (List Entry)) {x : ℕ × ℕ} → q ≡ refused x.0 x.1 → ReadTo q (Err x)
 to_refused q e = rw e
 
-module _ (s s' : Side) (ts : Words) {c : Result Table (ℕ × ℕ)} (w : WholeRead s.types.types s'.types.types ts c) where
+module _ (s s' : View) (ts : Words) {c : Result Table (ℕ × ℕ)} (w : WholeRead s.types.now s'.types.now ts c) where
   pub read_refused : {x : ℕ × ℕ} → c ≡ Err x → TableRead s s' ts (Err x)
   read_refused {x} f = λ a b sa sb. go a b (whole_table ts b a 0) refl (rw f at (w a b sa.types sb.types))
     where
@@ -89,14 +90,14 @@ module _ (s s' : Side) (ts : Words) {c : Result Table (ℕ × ℕ)} (w : WholeRe
       go a b (refused n p) e h = rw (both_refused a b ts e) h
 
   module _ {table : Table} (f : c ≡ Ok table) {root : ℕ} (found : root ≡ type_at table 0) where
-    whole : (a b : Grammar) → Shows s a → Shows s' b → (es : List Entry) × (next : ℕ) × (whole_table ts b a 0 ≡ value es next) × Placed table es
+    whole : (a b : Grammar) → Seen s a → Seen s' b → (es : List Entry) × (next : ℕ) × (whole_table ts b a 0 ≡ value es next) × Placed table es
     whole a b sa sb = read_there (whole_table ts b a 0) table (rw f at (w a b sa.types sb.types))
 
     pub read_root : (root ≡ 0 → ⊥) → TableRead s s' ts (Err (61, 0))
     read_root h = λ a b sa sb. let u = whole a b sa sb in to_refused (read_table a b ts) (both_root a b ts u.0 u.1 u.2 (λ z. h (found ∙ u.3.type 0 ∙ z)))
 
     module _ (h : root ≡ 0) {r : Result ℕ (ℕ × ℕ)} (tested : TypesTested s s' table r) where
-      fit : (a b : Grammar) (sa : Shows s a) (sb : Shows s' b) → let u = whole a b sa sb in r ≡ answer (types_fit b u.0 a u.0 0)
+      fit : (a b : Grammar) (sa : Seen s a) (sb : Seen s' b) → let u = whole a b sa sb in r ≡ answer (types_fit b u.0 a u.0 0)
       fit a b sa sb =
           let u = whole a b sa sb in
           let l = (table_read a b ts u.0 u.1 u.2).named_all in

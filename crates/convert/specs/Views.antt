@@ -15,6 +15,7 @@ use Rattle.convert.specs.Conversion.{value_to, converted, converted_to, or_refus
 use Rattle.convert.specs.declared.refusal.AtFault.TheVariants.{Neither}
 use Rattle.convert.specs.declared.refusal.ConversionRefusal.{ConversionRefusal}
 use Rattle.convert.specs.declared.side.Side.{Side}
+use Rattle.convert.specs.declared.view.View.{View}
 use Rattle.convert.specs.declared.table.Table.{Table}
 
 -- A GRAMMAR AS THE CODE SEES IT
@@ -27,6 +28,11 @@ pub record Classes (g : Grammar) (cs : Words) : Type 0 where
 pub record Shows (s : Side) (g : Grammar) : Type 0 where
   pub types : AllTypesOf g s.types.types
   pub classes : Classes g s.classes
+
+-- .. as the check of the table sees it
+pub record Seen (v : View) (g : Grammar) : Type 0 where
+  pub types : AllTypesOf g v.types.now
+  pub classes : Classes g v.classes.now
 
 -- THE TABLE AS THE CODE SEES IT
 
@@ -81,8 +87,8 @@ abbrev pub WholeRead : Types → Types → Words → Result Table (ℕ × ℕ) �
 WholeRead old new ts r = (a b : Grammar) → AllTypesOf a old → AllTypesOf b new → ReadAs (whole_table ts b a 0) r
 
 -- r says whether the kinds are alike
-abbrev pub AlikeTested : Side → Side → Table → ℕ → ℕ → Bool → Type 0
-AlikeTested old new table t m r = (a b : Grammar) (es : List Entry) → Shows old a → Shows new b → Placed table es → r ≡ alike es (kind_of a t) (kind_of b m)
+abbrev pub AlikeTested : View → View → Table → ℕ → ℕ → Bool → Type 0
+AlikeTested old new table t m r = (a b : Grammar) (es : List Entry) → Seen old a → Seen new b → Placed table es → r ≡ alike es (kind_of a t) (kind_of b m)
 
 -- r says whether form n of B's type m has the mapped types of form v of A's type t
 abbrev pub FormTested : Types → Types → Table → ℕ → ℕ → ℕ → ℕ → Bool → Type 0
@@ -94,17 +100,17 @@ FormsTested old new table k t m r = (a b : Grammar) (es : List Entry) → TypesO
     → (at : ℕ) → answer (forms_fit es (forms_of (kind_of b m)) (forms_of (kind_of a t)) (entry_of es t).numbers at) ≡ pick (ltb r k) (Err (61, at + r)) (Ok (at + k))
 
 -- 61: the answer for type t, whose word stands at a position below t times 2^32, as is the next one then
-pub record TypeTested (old new : Side) (table : Table) (t at : ℕ) (r : Result ℕ (ℕ × ℕ)) : Type 0 where
-  pub answered : (a b : Grammar) (es : List Entry) → Shows old a → Shows new b → Placed table es → Numbered a es → r ≡ answer (type_fits b es (kind_of a t) (entry_of es t) at)
+pub record TypeTested (old new : View) (table : Table) (t at : ℕ) (r : Result ℕ (ℕ × ℕ)) : Type 0 where
+  pub answered : (a b : Grammar) (es : List Entry) → Seen old a → Seen new b → Placed table es → Numbered a es → r ≡ answer (type_fits b es (kind_of a t) (entry_of es t) at)
   pub low : (next : ℕ) → r ≡ Ok next → next ≤ suc t * 4294967296
 
 -- .. for all types
-abbrev pub TypesTested : Side → Side → Table → Result ℕ (ℕ × ℕ) → Type 0
-TypesTested old new table r = (a b : Grammar) (es : List Entry) → Shows old a → Shows new b → length es ≡ length a → Placed table es → Numbered a es → r ≡ answer (types_fit b es a es 0)
+abbrev pub TypesTested : View → View → Table → Result ℕ (ℕ × ℕ) → Type 0
+TypesTested old new table r = (a b : Grammar) (es : List Entry) → Seen old a → Seen new b → length es ≡ length a → Placed table es → Numbered a es → r ≡ answer (types_fit b es a es 0)
 
 -- 60, then 61: the table, or its refusal
-abbrev pub TableRead : Side → Side → Words → Result (Table × ℕ) (ℕ × ℕ) → Type 0
-TableRead old new ts r = (a b : Grammar) → Shows old a → Shows new b → ReadTo (read_table a b ts) r
+abbrev pub TableRead : View → View → Words → Result (Table × ℕ) (ℕ × ℕ) → Type 0
+TableRead old new ts r = (a b : Grammar) → Seen old a → Seen new b → ReadTo (read_table a b ts) r
 
 -- .. for this new grammar
 abbrev pub TableChecked : Side → Grammar → Words → Result Table (ℕ × ℕ) → Type 0

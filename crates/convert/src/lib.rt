@@ -15,12 +15,14 @@ use side::Side;
 use table::Table;
 use tables::{GrammarTypes, Types};
 use tree::limits::MOST_SLIP_WORDS;
+use view::View;
 use words::{Fault, Refusal};
 
 pub mod refusal;
 pub mod side;
 pub mod table;
 pub mod tokens;
+pub mod view;
 
 pub use refusal::{AtFault, ConversionRefusal};
 
@@ -88,7 +90,15 @@ fn check_table<'a>(table: &'a [u32], old: &Side, new: &[u32]) -> Result<Table<'a
 {
     let mut side = Side::none();
     side.fill(new);
-    let (fitting, _) = Table::read(table, old, &side)?;
+    let new = View {
+        types: &side.types.types,
+        classes: &side.classes,
+    };
+    let old = View {
+        types: &old.types.types,
+        classes: &old.classes,
+    };
+    let (fitting, _) = Table::read(table, &old, &new)?;
     Ok(fitting)
 }
 

@@ -7,7 +7,7 @@ ghost use Rattle.tables.specs.Types.{OfHeads};
 ghost use Rattle.convert.specs.Table.{named, bit_of};
 ghost use Rattle.convert.specs.Views.{place_at, type_at, form_at, EntryRead, WholeRead, AlikeTested, FormTested, FormsTested, TypeTested, TypesTested, TableRead};
 
-use crate::side::Side;
+use crate::view::View;
 use tables::Types;
 use words::{Fault, Refusal};
 
@@ -98,10 +98,11 @@ impl<'a> Table<'a> {
     }
 
     // 60, then 61: the table of a conversion, and where it ends.
-    pub fn read(words: &'a [u32], old: &Side, new: &Side) -> Result<(Table<'a>, usize), Refusal>
+    pub fn read(words: &'a [u32], old: &View, new: &View) -> Result<(Table<'a>, usize), Refusal>
+        requires { old.now.types.now.count ≤ 64 }
         ensures { TableRead old.now new.now words.now result }
     {
-        let table = Table::whole(words, &old.types.types, &new.types.types)?;
+        let table = Table::whole(words, old.types, new.types)?;
         if table.type_to(0) != 0 {
             return Err(Refusal::new(Fault::TableMisfit, 0));
         }
@@ -135,17 +136,23 @@ impl<'a> Table<'a> {
 
     // The kinds of an old type and a new one: the same, of the same class, with the mapped element?
     #[tactic(auto, using(crate::proofs::Fitting::alike_not, crate::proofs::Fitting::alike_formed, crate::proofs::Fitting::alike_classed, crate::proofs::Fitting::alike_element))]
-    fn alike(&self, old: &Side, new: &Side, t: u32, m: u32) -> bool
+    fn alike(&self, old: &View, new: &View, t: u32, m: u32) -> bool
         ensures { AlikeTested old.now new.now self.now t m result }
     {
-        let kind = bit(&old.types.types, t);
-        if kind != bit(&new.types.types, m) {
+        let was = old.types;
+        let is = new.types;
+        let kind = bit(was, t);
+        if kind != bit(is, m) {
             return false;
         }
         match kind {
             8 => true,
-            1 => words::word(&old.classes, t as usize) == words::word(&new.classes, m as usize),
-            _ => self.type_to(old.types.types.child(t, 0, 0)) == new.types.types.child(m, 0, 0),
+            1 => {
+                let was = old.classes;
+                let is = new.classes;
+                words::word(was, t as usize) == words::word(is, m as usize)
+            }
+            _ => self.type_to(was.child(t, 0, 0)) == is.child(m, 0, 0),
         }
     }
 
@@ -183,7 +190,7 @@ impl<'a> Table<'a> {
 
     // 61 at the word of the old type t, which stands at `at`, or of its first form that does not fit.
     #[tactic(auto, using(crate::proofs::Fitting::type_unlike, crate::proofs::Fitting::type_misfit, crate::proofs::Fitting::type_whole))]
-    fn type_fits(&self, old: &Side, new: &Side, t: u32, at: usize) -> Result<usize, Refusal>
+    fn type_fits(&self, old: &View, new: &View, t: u32, at: usize) -> Result<usize, Refusal>
         requires { (t < 64) × (at ≤ t * 4294967296) }
         ensures { TypeTested old.now new.now self.now t at result }
     {
@@ -191,8 +198,8 @@ impl<'a> Table<'a> {
         if !self.alike(old, new, t, m) {
             return Err(Refusal::new(Fault::TableMisfit, at));
         }
-        let k = form_count(&old.types.types, t);
-        let v = self.first_misfit(&old.types.types, &new.types.types, k, t, m);
+        let k = form_count(old.types, t);
+        let v = self.first_misfit(old.types, new.types, k, t, m);
         if v < k {
             return Err(Refusal::new(Fault::TableMisfit, at + 1 + v as usize));
         }
@@ -201,11 +208,13 @@ impl<'a> Table<'a> {
 
     // 61: the old types, each with its forms.
     #[tactic(auto, using(crate::proofs::Fitting::types_start, crate::proofs::Fitting::types_end, crate::proofs::Fitting::types_misfit, crate::proofs::Fitting::types_more))]
-    fn types_fit(&self, old: &Side, new: &Side) -> Result<usize, Refusal>
+    fn types_fit(&self, old: &View, new: &View) -> Result<usize, Refusal>
+        requires { old.now.types.now.count ≤ 64 }
         ensures { TypesTested old.now new.now self.now result }
     {
         let mut at: usize = 0;
-        for t in 0..old.types.types.count {
+        let types = old.types;
+        for t in 0..types.count {
             at = self.type_fits(old, new, t, at)?;
         }
         Ok(at)

@@ -11,10 +11,12 @@ pub type Calls = BTreeMap<String, BTreeSet<String>>;
 
 /// Finds the end of a tree in words without marks.
 pub const COUNTS: &str = "tree::end_of_tree";
-/// Read the size of a node's tree from its mark: in a word, or in that at a place.
-const READS: [&str; 2] = ["marks::size_in", "marks::size_at"];
-/// Asks how large the tree is that was put in place, to go on behind it: it looks
-/// for no end. It is of the engine, which nests as said of the calls.
+/// Reads the size of a node's tree from its mark.
+const READS: &str = "marks::size_in";
+/// The same of the mark at a place.
+const READS_AT: &str = "marks::size_at";
+/// Asks by the second how large the tree is that was put in place, to go on behind
+/// it: it looks for no end. It is of the engine, which nests as said of the calls.
 const STEPS: &str = "calls::call";
 
 /// A crate: its name, those that it may call, its files.
@@ -32,8 +34,10 @@ pub fn read_calls() -> Calls {
 /// The functions that find the end of a tree: the one that counts the trees owed,
 /// and those that read a size from a mark.
 pub fn end_finders(calls: &Calls) -> Vec<&String> {
-    let reads = |called: &BTreeSet<String>| READS.iter().any(|read| called.contains(*read));
-    let finds = |name: &str, called| name == COUNTS || (name != STEPS && reads(called));
+    let finds = |name: &str, called: &BTreeSet<String>| {
+        let reads_at = name != STEPS && called.contains(READS_AT);
+        name == COUNTS || called.contains(READS) || reads_at
+    };
     let finders = calls.iter().filter(|(name, called)| finds(name, called));
     finders.map(|(name, _)| name).collect()
 }
