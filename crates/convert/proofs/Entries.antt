@@ -209,8 +209,8 @@ places_placed table es w n p low clear = record { type = λ t. types t (ltb t (l
     numbers t v false e h = absurd (omega (arith, ap (λ (x : Entry). length x.numbers) (get_or-eq_default es (record { type = 0; numbers = [] }) (ltb-false t (length es) e))))
 
 -- a reading that is refused
-pub as_refused : (q : Read (List Entry)) {x : ℕ × ℕ} → q ≡ refused x.0 x.1 → ReadAs q (Err x)
-as_refused q e = rw e
+pub as_refused : (ts : Words) (q : Read (List Entry)) {x : ℕ × ℕ} → q ≡ refused x.0 x.1 → ReadAs ts q (Err x)
+as_refused ts q e = rw e
 
 module _ {old new : Types} {ts : Words} {places : List ℕ} {t at : ℕ} (l : TableLoop old new ts places t at) where
   ended : (a b : Grammar) → AllTypesOf a old → AllTypesOf b new → t ≤ old.count → old.count ≤ t → (es : List Entry) × (entries ts b a 0 ≡ value es at) × (take t places ≡ places_of 0 es)
@@ -227,14 +227,14 @@ module _ {old new : Types} {ts : Words} {places : List ℕ} {t at : ℕ} (l : Ta
       last es fs e h = rw (← e) at h
 
   pub table_left : t ≤ old.count → old.count ≤ t → at < length ts → WholeRead old new ts (Err (60, at))
-  table_left low h o = λ a b ta tb. let u = ended a b ta tb low h in as_refused (whole_table ts b a 0) (table_over ts a b u.0 at u.1 o)
+  table_left low h o = λ a b ta tb. let u = ended a b ta tb low h in as_refused ts (whole_table ts b a 0) (table_over ts a b u.0 at u.1 o)
 
   pub table_end : t ≤ old.count → old.count ≤ t → length ts ≤ at → t ≤ 64 → (table : Table) → table.words.now ≡ ts → table.places ≡ places → WholeRead old new ts (Ok table)
   table_end low h o few table ew ep = λ a b ta tb.
       let u = ended a b ta tb low h in
       let whole = table_whole ts a b u.0 at u.1 o in
       let read = table_read a b ts u.0 at whole in
-      rw whole (places_placed table u.0 (ew ∙ read.words) t (rw ep u.2) (rw ep (omega (arith, l.long))) (rw (ew, ep) l.clear))
+      rw whole (ew, places_placed table u.0 (ew ∙ read.words) t (rw ep u.2) (rw ep (omega (arith, l.long))) (rw (ew, ep) l.clear))
 
   module _ (more : t < old.count) (k : ℕ) (count : OfHeads old (λ g. k ≡ length (forms_of (kind_of g t)))) (c : Result ℕ (ℕ × ℕ)) (told : EntryRead new ts k at c) where
     head_type : (a : Grammar) → AllTypesOf a old → drop t a ≡ kind_of a t ∷ drop (t + 1) a
@@ -248,7 +248,7 @@ module _ {old new : Types} {ts : Words} {places : List ℕ} {t at : ℕ} (l : Ta
     pub table_fault : {x : ℕ × ℕ} → c ≡ Err x → WholeRead old new ts (Err x)
     table_fault {x} f = λ a b ta tb.
         let e = answer_refused (entry ts b (kind_of a t) at) c (told b (kind_of a t) tb (count a ta.types_of.heads_of)) f in
-        as_refused (whole_table ts b a 0) (table_refused ts a b (answer_refused (entries ts b a 0) (answer (entries ts b a 0)) refl (l.rest a b ta tb ∙ fault_first a b ta e)))
+        as_refused ts (whole_table ts b a 0) (table_refused ts a b (answer_refused (entries ts b a 0) (answer (entries ts b a 0)) refl (l.rest a b ta tb ∙ fault_first a b ta e)))
 
     more_first : (a b : Grammar) (e : Entry) {next : ℕ} → AllTypesOf a old → entry ts b (kind_of a t) at ≡ value e next → entries ts b (drop t a) at ≡ and_then (entries ts b (drop (t + 1) a) next) (λ es. return (e ∷ es))
     unfolding entries

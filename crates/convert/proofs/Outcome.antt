@@ -73,28 +73,33 @@ unfolding read_table
 both_fit a b ts es p e h m = rw (e, eq-eqb (type_to es 0) 0 h, m)
 
 -- what was read where there is a table
-read_there : (q : Read (List Entry)) (table : Table) → ReadAs q (Ok table) → (es : List Entry) × (next : ℕ) × (q ≡ value es next) × Placed table es
-read_there (value es next) table h = (es, next, refl, h)
-read_there (refused n p) table h = absurd h
+read_there : (ts : Words) (q : Read (List Entry)) (table : Table) → ReadAs ts q (Ok table) → (es : List Entry) × (next : ℕ) × (q ≡ value es next) × Placed table es
+read_there ts (value es next) table h = (es, next, refl, h.1)
+read_there ts (refused n p) table h = absurd h
+
+-- the table is of the words that were read
+read_words : (ts : Words) (q : Read (List Entry)) (table : Table) → ReadAs ts q (Ok table) → table.words.now ≡ ts
+read_words ts (value es next) table h = h.0
+read_words ts (refused n p) table h = absurd h
 
 -- a reading with its end that is refused
-to_refused : (q : Read (List Entry)) {x : ℕ × ℕ} → q ≡ refused x.0 x.1 → ReadTo q (Err x)
-to_refused q e = rw e
+to_refused : (ts : Words) (q : Read (List Entry)) {x : ℕ × ℕ} → q ≡ refused x.0 x.1 → ReadTo ts q (Err x)
+to_refused ts q e = rw e
 
 module _ (s s' : View) (ts : Words) {c : Result Table (ℕ × ℕ)} (w : WholeRead s.types.now s'.types.now ts c) where
   pub read_refused : {x : ℕ × ℕ} → c ≡ Err x → TableRead s s' ts (Err x)
   read_refused {x} f = λ a b sa sb. go a b (whole_table ts b a 0) refl (rw f at (w a b sa.types sb.types))
     where
-      go : (a b : Grammar) (q : Read (List Entry)) → whole_table ts b a 0 ≡ q → ReadAs q (Err x) → ReadTo (read_table a b ts) (Err x)
+      go : (a b : Grammar) (q : Read (List Entry)) → whole_table ts b a 0 ≡ q → ReadAs ts q (Err x) → ReadTo ts (read_table a b ts) (Err x)
       go a b (value es next) e h = absurd h
       go a b (refused n p) e h = rw (both_refused a b ts e) h
 
   module _ {table : Table} (f : c ≡ Ok table) {root : ℕ} (found : root ≡ type_at table 0) where
     whole : (a b : Grammar) → Seen s a → Seen s' b → (es : List Entry) × (next : ℕ) × (whole_table ts b a 0 ≡ value es next) × Placed table es
-    whole a b sa sb = read_there (whole_table ts b a 0) table (rw f at (w a b sa.types sb.types))
+    whole a b sa sb = read_there ts (whole_table ts b a 0) table (rw f at (w a b sa.types sb.types))
 
     pub read_root : (root ≡ 0 → ⊥) → TableRead s s' ts (Err (61, 0))
-    read_root h = λ a b sa sb. let u = whole a b sa sb in to_refused (read_table a b ts) (both_root a b ts u.0 u.1 u.2 (λ z. h (found ∙ u.3.type 0 ∙ z)))
+    read_root h = λ a b sa sb. let u = whole a b sa sb in to_refused ts (read_table a b ts) (both_root a b ts u.0 u.1 u.2 (λ z. h (found ∙ u.3.type 0 ∙ z)))
 
     module _ (h : root ≡ 0) {r : Result ℕ (ℕ × ℕ)} (tested : TypesTested s s' table r) where
       fit : (a b : Grammar) (sa : Seen s a) (sb : Seen s' b) → let u = whole a b sa sb in r ≡ answer (types_fit b u.0 a u.0 0)
@@ -106,27 +111,27 @@ module _ (s s' : View) (ts : Words) {c : Result Table (ℕ × ℕ)} (w : WholeRe
       pub read_misfit : {x : ℕ × ℕ} → r ≡ Err x → TableRead s s' ts (Err x)
       read_misfit g = λ a b sa sb.
           let u = whole a b sa sb in
-          to_refused (read_table a b ts) (both_misfit a b ts u.0 u.1 u.2 (sym (u.3.type 0) ∙ sym found ∙ h) (answer_refused (types_fit b u.0 a u.0 0) r (fit a b sa sb) g))
+          to_refused ts (read_table a b ts) (both_misfit a b ts u.0 u.1 u.2 (sym (u.3.type 0) ∙ sym found ∙ h) (answer_refused (types_fit b u.0 a u.0 0) r (fit a b sa sb) g))
 
       pub read_fits : {p : ℕ} → r ≡ Ok p → TableRead s s' ts (Ok (table, p))
       read_fits g = λ a b sa sb.
           let u = whole a b sa sb in
-          rw (both_fit a b ts u.0 u.1 u.2 (sym (u.3.type 0) ∙ sym found ∙ h) (answer_passed (types_fit b u.0 a u.0 0) r (fit a b sa sb) g).1) (u.3, refl)
+          rw (both_fit a b ts u.0 u.1 u.2 (sym (u.3.type 0) ∙ sym found ∙ h) (answer_passed (types_fit b u.0 a u.0 0) r (fit a b sa sb) g).1) (read_words ts (whole_table ts b a 0) table (rw f at (w a b sa.types sb.types)), u.3, refl)
 
 -- the table alone, without its end
-module _ (q : Read (List Entry)) {c : Result (Table × ℕ) (ℕ × ℕ)} (is : ReadTo q c) where
-  pub table_bad : {x : ℕ × ℕ} → c ≡ Err x → ReadAs q (Err x)
+module _ (ts : Words) (q : Read (List Entry)) {c : Result (Table × ℕ) (ℕ × ℕ)} (is : ReadTo ts q c) where
+  pub table_bad : {x : ℕ × ℕ} → c ≡ Err x → ReadAs ts q (Err x)
   table_bad {x} e = go q (rw e at is)
     where
-      go : (q : Read (List Entry)) → ReadTo q (Err x) → ReadAs q (Err x)
+      go : (q : Read (List Entry)) → ReadTo ts q (Err x) → ReadAs ts q (Err x)
       go (value es next) h = absurd h
       go (refused n p) h = h
 
-  pub table_alone : {x : Table × ℕ} → c ≡ Ok x → ReadAs q (Ok x.0)
+  pub table_alone : {x : Table × ℕ} → c ≡ Ok x → ReadAs ts q (Ok x.0)
   table_alone {x} e = go q (rw e at is)
     where
-      go : (q : Read (List Entry)) → ReadTo q (Ok x) → ReadAs q (Ok x.0)
-      go (value es next) h = h.0
+      go : (q : Read (List Entry)) → ReadTo ts q (Ok x) → ReadAs ts q (Ok x.0)
+      go (value es next) h = (h.0, h.1)
       go (refused n p) h = absurd h
 
 -- THE WHOLE CONVERSION
@@ -238,12 +243,12 @@ module _ (edition : Bool) {s : Side} {a : Grammar} (b : Grammar) (sa : Shows s a
   unfolding conversion_between or_refused
   between_refused {x} f = go (read_table a b ts) refl (rw f at (read a sa))
     where
-      go : (q : Read (List Entry)) → read_table a b ts ≡ q → ReadAs q (Err x) → Converts (conversion_between edition a b ts ss) r r (Err (blamed Neither x))
+      go : (q : Read (List Entry)) → read_table a b ts ≡ q → ReadAs ts q (Err x) → Converts (conversion_between edition a b ts ss) r r (Err (blamed Neither x))
       go (value es next) e h = absurd h
       go (refused n p) e h = rw h (refuses (rw e))
 
   pub between_done : {table : Table} → c ≡ Ok table → {r' : Words} {x : Result ℕ ConversionRefusal} → SlipConverted s.types.types table edition ss r r' x → Converts (conversion_between edition a b ts ss) r r' x
   unfolding conversion_between or_refused
   between_done {table} f slip =
-      let u = read_there (read_table a b ts) table (rw f at (read a sa)) in
+      let u = read_there ts (read_table a b ts) table (rw f at (read a sa)) in
       rw u.2 (slip a b u.0 sa.types.types_of u.3 ((table_exactly a b ts u.0).sound u.1 u.2).1)

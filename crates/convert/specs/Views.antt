@@ -62,19 +62,19 @@ pub record Placed (table : Table) (es : List Entry) : Type 0 where
 abbrev pub Numbered : Grammar → List Entry → Type 0
 Numbered a es = (t : ℕ) → length (entry_of es t).numbers ≡ length (forms_of (kind_of a t))
 
--- the table that was read, or the refusal
-abbrev pub ReadAs : Read (List Entry) → Result Table (ℕ × ℕ) → Type 0
-ReadAs (value es next) (Ok table) = Placed table es
-ReadAs (value es next) (Err x) = ⊥
-ReadAs (refused n p) (Ok table) = ⊥
-ReadAs (refused n p) (Err x) = x ≡ (n, p)
+-- the table that was read, of these words, or the refusal
+abbrev pub ReadAs : Words → Read (List Entry) → Result Table (ℕ × ℕ) → Type 0
+ReadAs ts (value es next) (Ok table) = (table.words.now ≡ ts) × Placed table es
+ReadAs ts (value es next) (Err x) = ⊥
+ReadAs ts (refused n p) (Ok table) = ⊥
+ReadAs ts (refused n p) (Err x) = x ≡ (n, p)
 
 -- .. with the position at which the reading ended
-abbrev pub ReadTo : Read (List Entry) → Result (Table × ℕ) (ℕ × ℕ) → Type 0
-ReadTo (value es next) (Ok x) = Placed x.0 es × (x.1 ≡ next)
-ReadTo (value es next) (Err x) = ⊥
-ReadTo (refused n p) (Ok x) = ⊥
-ReadTo (refused n p) (Err x) = x ≡ (n, p)
+abbrev pub ReadTo : Words → Read (List Entry) → Result (Table × ℕ) (ℕ × ℕ) → Type 0
+ReadTo ts (value es next) (Ok x) = (x.0.words.now ≡ ts) × Placed x.0 es × (x.1 ≡ next)
+ReadTo ts (value es next) (Err x) = ⊥
+ReadTo ts (refused n p) (Ok x) = ⊥
+ReadTo ts (refused n p) (Err x) = x ≡ (n, p)
 
 -- WHAT THE FUNCTIONS PROMISE
 
@@ -84,7 +84,7 @@ EntryRead types ts k at r = (b : Grammar) (kd : Kind) → AllTypesOf b types →
 
 -- 60: the whole table, or its refusal
 abbrev pub WholeRead : Types → Types → Words → Result Table (ℕ × ℕ) → Type 0
-WholeRead old new ts r = (a b : Grammar) → AllTypesOf a old → AllTypesOf b new → ReadAs (whole_table ts b a 0) r
+WholeRead old new ts r = (a b : Grammar) → AllTypesOf a old → AllTypesOf b new → ReadAs ts (whole_table ts b a 0) r
 
 -- r says whether the kinds are alike
 abbrev pub AlikeTested : View → View → Table → ℕ → ℕ → Bool → Type 0
@@ -110,11 +110,11 @@ TypesTested old new table r = (a b : Grammar) (es : List Entry) → Seen old a �
 
 -- 60, then 61: the table, or its refusal
 abbrev pub TableRead : View → View → Words → Result (Table × ℕ) (ℕ × ℕ) → Type 0
-TableRead old new ts r = (a b : Grammar) → Seen old a → Seen new b → ReadTo (read_table a b ts) r
+TableRead old new ts r = (a b : Grammar) → Seen old a → Seen new b → ReadTo ts (read_table a b ts) r
 
 -- .. for this new grammar
 abbrev pub TableChecked : Side → Grammar → Words → Result Table (ℕ × ℕ) → Type 0
-TableChecked old b ts r = (a : Grammar) → Shows old a → ReadAs (read_table a b ts) r
+TableChecked old b ts r = (a : Grammar) → Shows old a → ReadAs ts (read_table a b ts) r
 
 -- a node's value in B
 abbrev pub ValueMade : Types → Table → ℕ → ℕ → ℕ → Type 0
