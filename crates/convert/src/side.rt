@@ -21,7 +21,8 @@ impl Side {
 
     // No types. What is filled in place is not copied.
     pub fn none() -> Side
-        ensures { IsBlank result.types.types }
+        ensures blank { IsBlank result.types.types }
+        ensures empty { result.types.types.count ≡ 0 }
     {
         Side {
             types: GrammarTypes::none(),
@@ -36,5 +37,28 @@ impl Side {
     {
         self.types.fill(grammar);
         self.classes = tokens::classes(grammar);
+    }
+}
+
+#[cfg(test)]
+mod tests {
+    use super::*;
+    use words::Refusal;
+
+    // How many types there are before a grammar is filled in, how many then, and the class of type 1.
+    fn filled(grammar: &[u32]) -> Result<(u32, u32, u32), Refusal> {
+        grammar::read_grammar(grammar)?;
+        let mut side = Side::none();
+        let before = side.types.types.count;
+        side.fill(grammar);
+        Ok((before, side.types.types.count, side.classes[1]))
+    }
+
+    #[test]
+    fn no_types_before_those_of_a_grammar(rt: HostRuntime) {
+        // A string or none, and the string.
+        assert_eq!(rt; filled(&[2, 2, 1, 1, 3]), Ok((0, 2, 3)));
+        // A number alone.
+        assert_eq!(rt; filled(&[1, 1, 2]), Ok((0, 1, 0)));
     }
 }

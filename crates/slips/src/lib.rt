@@ -8,7 +8,7 @@ ghost use Rattle.tree.specs.Limits.{most_tree_words};
 ghost use Rattle.tree.specs.Slip.{place_in, uncounted, read_slip, read_edition, check_slip};
 ghost use Rattle.slips.specs.Slips.{counts_as, ReadBeside, SlipRead, SlipWritten};
 
-use tables::GrammarTypes;
+use tables::{AllTypes, GrammarTypes};
 use tree::limits::{MOST_SLIP_WORDS, MOST_WORDS};
 use words::{Fault, Refusal};
 
@@ -129,9 +129,9 @@ pub fn check_slip(grammar: &[u32], slip: &[u32]) -> Result<usize, Refusal>
     ensures { result ≡ answer (check_slip grammar.now slip.now) }
 {
     grammar::check_grammar(grammar)?;
-    let mut types = GrammarTypes::none();
+    let mut types = AllTypes::none();
     types.fill(grammar);
-    read_slip(&types, slip, &mut [])
+    read_slip(&types.types, slip, &mut [])
 }
 
 // Writes the tree of the part, which is marked, to the result as a slip.

@@ -3,3 +3,4 @@ pub mod Records
 pub mod Filling
 pub mod Shown
 pub mod Bounded
+pub mod All

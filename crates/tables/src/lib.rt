@@ -13,10 +13,12 @@ ghost use Rattle.grammar.specs.Values.{values_of};
 ghost use Rattle.tables.specs.Tables.{Tables, read_of};
 ghost use Rattle.tables.specs.Filling.{type_count, kind_read, ElementPut, FormPut, FormsPut, KindPut};
 
+pub use all_types::AllTypes;
 use grammar::limits::{FIRST_LITERAL, LAST_LITERAL, MOST_ELEMENTS, MOST_FORMS, MOST_TYPES};
 pub use grammar_types::GrammarTypes;
 pub use types::Types;
 
+pub mod all_types;
 pub mod grammar_types;
 pub mod types;
 

@@ -20,7 +20,7 @@ use meaning::State;
 pub use meaning::Stop;
 use rules::Program;
 use rules::limits::MOST_VARIABLES;
-use tables::{GrammarTypes, Types};
+use tables::{AllTypes, Types};
 use words::{Fault, Refusal};
 
 // A single check's answer: the number of the refusal and its position; 0 and 0 where nothing is refused.
@@ -134,18 +134,14 @@ fn call_fits(res: usize, work: usize, request: &Request) -> Result<usize, Refusa
 }
 
 // The checks of the grammar, the rules and the slip, in this order. The grammar's types are worked out on the way, and at the last the slip's tree is put at the bottom of work memory.
-fn read_inputs(
-    request: &Request,
-    types: &mut GrammarTypes,
-    work: &mut [u32],
-) -> Result<usize, Refusal>
-    requires { IsBlank types.old.types × (length request.now.rules.now < 2 ^ 32) × (least_work ≤ length work.old) }
-    ensures { InputsRead request.now.grammar.now request.now.rules.now request.now.slip.now types.new.types work.old work.new result }
+fn read_inputs(request: &Request, types: &mut AllTypes, work: &mut [u32]) -> Result<usize, Refusal>
+    requires { IsBlank types.old.types.types × (length request.now.rules.now < 2 ^ 32) × (least_work ≤ length work.old) }
+    ensures { InputsRead request.now.grammar.now request.now.rules.now request.now.slip.now types.new.types.types work.old work.new result }
 {
     grammar::read_grammar(request.grammar)?;
     types.fill(request.grammar);
-    typing::read_rules(types, request.rules)?;
-    slips::read_slip(types, request.slip, work)
+    typing::read_rules(&types.types, request.rules)?;
+    slips::read_slip(&types.types, request.slip, work)
 }
 
 // The answer that the first call gives, with so many words filled.
@@ -219,10 +215,10 @@ pub fn run(
     if let Err(refusal) = call_fits(res.len(), work.len(), &request) {
         return Outcome::Refused(refusal);
     }
-    let mut types = GrammarTypes::none();
+    let mut types = AllTypes::none();
     match read_inputs(&request, &mut types, work) {
         Err(refusal) => Outcome::Refused(refusal),
-        Ok(_) => execute(&request, &types.types, res, work),
+        Ok(_) => execute(&request, &types.types.types, res, work),
     }
 }
 

@@ -20,7 +20,7 @@ use dues::{Due, Place, Stack, Variables};
 use pairs::Rulebook;
 use rules::limits::{MOST_PARTS, MOST_WORDS, PARTS, REPLACEMENT, STARTS};
 use rules::{Construct, Deconstruct, Head, Part};
-use tables::GrammarTypes;
+use tables::{AllTypes, GrammarTypes};
 use words::{Fault, Refusal};
 
 // A RULE
@@ -278,7 +278,7 @@ pub fn check_rules(gs: &[u32], ws: &[u32]) -> Result<usize, Refusal>
         return Err(Refusal::new(Fault::LongBook, 0));
     }
     grammar::read_grammar(gs)?;
-    let mut types = GrammarTypes::none();
+    let mut types = AllTypes::none();
     types.fill(gs);
-    read_rules(&types, ws)
+    read_rules(&types.types, ws)
 }
